@@ -10,14 +10,14 @@ use Rattle.cm_language.specs.declared.fault.AsmKind.{AsmKind}
 use Rattle.cm_language.specs.declared.fault.AsmKind.TheVariants as kind
 use Rattle.cm_language.specs.declared.statement.Statement.TheVariants as statement
 use Rattle.cm_language.specs.Lines.{◌>>=◌}
-use Rattle.cm_language.specs.Program.{Reading, nothing_read, after_words, after_statement, unless_faulty, after_lines}
+use Rattle.cm_language.specs.Program.{Reading, nothing_read, reading_after_words, after_statement, unless_faulty, reading_after_lines}
 use Rattle.cm_language.specs.Program.{with_acts, parts, MOST_ACTS, IsGrownFor, MatchKind, MayLackMemory, IsLineFault}
 use Rattle.cm_language.specs.Program.{IsOwnFault}
 use Rattle.cm_language.specs.Names.{NamedField}
 use Rattle.cm_model.specs.declared.act.Act.{Act}
 use Rattle.cm_model.specs.declared.act.Act.TheVariants as act
 use Rattle.cm_model.specs.declared.act.Nano.{Nano}
-use Rattle.cm_asm.specs.SinglePass.{IsInstruction}
+use Rattle.cm_asm.specs.SinglePass.{SaysInstruction}
 
 -- ---- a text has no more lines than bytes
 
@@ -73,16 +73,16 @@ next_line lines i line rest is = record {
 
 -- what was read of the lines before and of the next one
 pub one_more : (n : ℕ) (r read next : Reading) (lines : List (List ℕ)) (line : List ℕ)
-    → after_lines r n lines ≡ Ok read → after_words read (words_of line) ≡ Ok next
-    → after_lines r n (lines ++ line ∷ []) ≡ Ok next
+    → reading_after_lines r n lines ≡ Ok read → reading_after_words read (words_of line) ≡ Ok next
+    → reading_after_lines r n (lines ++ line ∷ []) ≡ Ok next
 one_more n r read next [] line h e =
     let same : r ≡ read = cc in
-    ap (λ (s : Reading). unless_faulty n (after_words s (words_of line)) (λ r'. after_lines r' (n + 1) [])) same
-    ∙ ap (λ (q : Result Reading AsmKind). unless_faulty n q (λ r'. after_lines r' (n + 1) [])) e
+    ap (λ (s : Reading). unless_faulty n (reading_after_words s (words_of line)) (λ r'. reading_after_lines r' (n + 1) [])) same
+    ∙ ap (λ (q : Result Reading AsmKind). unless_faulty n q (λ r'. reading_after_lines r' (n + 1) [])) e
 one_more n r read next (first ∷ lines) line h e =
-    (elim (after_words r (words_of first))
-    as (λ q. unless_faulty n q (λ r'. after_lines r' (n + 1) lines) ≡ Ok read
-    → unless_faulty n q (λ r'. after_lines r' (n + 1) (lines ++ line ∷ [])) ≡ Ok next) [
+    (elim (reading_after_words r (words_of first))
+    as (λ q. unless_faulty n q (λ r'. reading_after_lines r' (n + 1) lines) ≡ Ok read
+    → unless_faulty n q (λ r'. reading_after_lines r' (n + 1) (lines ++ line ∷ [])) ≡ Ok next) [
       | Ok s ↦ λ k. one_more (n + 1) s read next lines line k e
       | Err f ↦ λ k. absurd cc
     ]) h
@@ -96,16 +96,16 @@ is_there lines i line rest is =
 
 -- where memory is wanting
 pub is_grown_for : (text : List ℕ) (i : ℕ) (read : Reading) (line : List ℕ)
-    → after_lines nothing_read 1 (take i (lines_of text)) ≡ Ok read → i + 1 ≤ length (lines_of text)
-    → get_or (lines_of text) (i + 1 - 1) [] ≡ line → MayLackMemory read (after_words read (words_of line))
+    → reading_after_lines nothing_read 1 (take i (lines_of text)) ≡ Ok read → i + 1 ≤ length (lines_of text)
+    → get_or (lines_of text) (i + 1 - 1) [] ≡ line → MayLackMemory read (reading_after_words read (words_of line))
     → IsGrownFor text (i + 1)
 is_grown_for text i read line before within there here = record {
   first = omega arith;
   within = within;
   read = read;
-  before = ap (λ (n : ℕ). after_lines nothing_read 1 (take n (lines_of text))) (let e : i + 1 - 1 ≡ i = omega arith in
+  before = ap (λ (n : ℕ). reading_after_lines nothing_read 1 (take n (lines_of text))) (let e : i + 1 - 1 ≡ i = omega arith in
       e) ∙ before;
-  here = subst (λ (l : List ℕ). MayLackMemory read (after_words read (words_of l))) (sym there) here;
+  here = subst (λ (l : List ℕ). MayLackMemory read (reading_after_words read (words_of l))) (sym there) here;
 }
 
 -- a fault of a line is one of the text
@@ -164,8 +164,8 @@ told_as_it_is kind.Twice W P own p = p
 told_as_it_is kind.TooLong W P own p = p
 
 -- a line that says an instruction adds it
-pub instruction_line : (read : Reading) (line : List ℕ) (nano : Nano) → IsInstruction line nano
-    → after_words read (words_of line) ≡ with_acts read (act.Nano nano ∷ [])
+pub instruction_line : (read : Reading) (line : List ℕ) (nano : Nano) → SaysInstruction line nano
+    → reading_after_words read (words_of line) ≡ with_acts read (act.Nano nano ∷ [])
 instruction_line read line nano is =
-    ap (after_words read) is.words
+    ap (reading_after_words read) is.words
     ∙ ap (λ (q : Result Nano AsmKind). (q >>= λ n. Ok (statement.Act (act.Nano n))) >>= after_statement read) is.says

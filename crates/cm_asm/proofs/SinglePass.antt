@@ -17,7 +17,7 @@ use Rattle.cm_model.specs.declared.act.Nano.{Nano}
 use Rattle.cm_language.specs.declared.fault.AsmKind.TheVariants.{Number}
 use Rattle.cm_language.specs.Lines.{◌>>=◌, operand_of, number_below, direction_of}
 use Rattle.cm_bits.proofs.TextLemmas.{words_in-blank, words_in-word}
-use Rattle.cm_asm.specs.SinglePass.{BeginsWith, BeginsWithThree, IsDigit, IsInstruction, IsNano, IsNumeral}
+use Rattle.cm_asm.specs.SinglePass.{BeginsWithNumber, BeginsWithThree, IsDigit, SaysInstruction, IsNano, IsNumeral}
 use Rattle.cm_asm.specs.SinglePass.{is_word_end}
 
 -- ---- what is cut off at a comment
@@ -108,7 +108,7 @@ words_of-word xs n some inside space each =
 -- it is the first word
 pub begins : (bytes word : List ℕ) (n value : ℕ) → word ≡ take n bytes → 0 < n → n < length bytes
     → get_or bytes n 0 ≡ 32 → IsNumeral word value
-    → BeginsWith bytes (take (length bytes - (n + 1)) (drop (n + 1) bytes)) value
+    → BeginsWithNumber bytes (take (length bytes - (n + 1)) (drop (n + 1) bytes)) value
 begins bytes word n value is some inside space numeral =
     let rest : take (length bytes - (n + 1)) (drop (n + 1) bytes) ≡ drop (n + 1) bytes = grind (arith, common_steps) in
     let long : length (take n bytes) ≡ n = grind (arith, common_steps) in
@@ -261,10 +261,10 @@ three_words bytes rest x y z t =
 instruction : (line r0 r3 r6 r7 r8 : List ℕ) (a b read write cond' sense mem flag : ℕ) (dir : Dir) (nano : Nano)
     → words_of line ≡ codes "nano" ∷ words_of r0
     → BeginsWithThree r0 r3 a b read → BeginsWithThree r3 r6 write cond' sense
-    → BeginsWith r6 r7 mem → BeginsWith r7 r8 flag
+    → BeginsWithNumber r6 r7 mem → BeginsWithNumber r7 r8 flag
     → words_of r8 ≡ r8 ∷ [] → direction_of r8 ≡ Ok dir
     → IsNano a b read write cond' sense mem flag dir nano
-    → IsInstruction line nano
+    → SaysInstruction line nano
 instruction line r0 r3 r6 r7 r8 a b read write cond' sense mem flag dir nano begin p q p7 p8 last says is =
     let o1 : operand_of 4096 p.one.word ≡ Ok a = operand 4096 a p.one.word p.one.writes is.a_within in
     let o2 : operand_of 4096 p.two.word ≡ Ok b = operand 4096 b p.two.word p.two.writes is.b_within in
@@ -304,10 +304,10 @@ pub instruction_if : (line r0 r3 r6 r7 r8 : List ℕ) (a b read write cond' sens
     (nano : Option Nano)
     → words_of line ≡ codes "nano" ∷ words_of r0
     → BeginsWithThree r0 r3 a b read → BeginsWithThree r3 r6 write cond' sense
-    → BeginsWith r6 r7 mem → BeginsWith r7 r8 flag
+    → BeginsWithNumber r6 r7 mem → BeginsWithNumber r7 r8 flag
     → words_of r8 ≡ r8 ∷ [] → direction_of r8 ≡ Ok dir
     → IfSome nano (IsNano a b read write cond' sense mem flag dir)
-    → IfSome nano (IsInstruction line)
+    → IfSome nano (SaysInstruction line)
 instruction_if line r0 r3 r6 r7 r8 a b read write cond' sense mem flag dir (Some nano) begin p q p7 p8 last says is =
     instruction line r0 r3 r6 r7 r8 a b read write cond' sense mem flag dir nano begin p q p7 p8 last says is
 instruction_if line r0 r3 r6 r7 r8 a b read write cond' sense mem flag dir None begin p q p7 p8 last says is = tt

@@ -21,7 +21,7 @@ pub record IsNumeral (word : List ℕ) (value : ℕ) : Type 0 where
   pub goes_on : (k : ℕ) → k < length word → is_word_end (get_or word k 0) ≡ false
 
 -- the first word writes this number, and the others are those of the rest
-pub record BeginsWith (bytes rest : List ℕ) (value : ℕ) : Type 0 where
+pub record BeginsWithNumber (bytes rest : List ℕ) (value : ℕ) : Type 0 where
   pub word : List ℕ
   pub words : words_of bytes ≡ word ∷ words_of rest
   pub writes : number_of word ≡ Some value
@@ -30,9 +30,9 @@ pub record BeginsWith (bytes rest : List ℕ) (value : ℕ) : Type 0 where
 pub record BeginsWithThree (bytes rest : List ℕ) (first second third : ℕ) : Type 0 where
   pub after_first : List ℕ
   pub after_second : List ℕ
-  pub one : BeginsWith bytes after_first first
-  pub two : BeginsWith after_first after_second second
-  pub three : BeginsWith after_second rest third
+  pub one : BeginsWithNumber bytes after_first first
+  pub two : BeginsWithNumber after_first after_second second
+  pub three : BeginsWithNumber after_second rest third
 
 -- the instruction of these numbers, each in its range, and of this direction
 pub record IsNano (a b read write cond sense mem_table flag_table : ℕ) (dir : Dir) (nano : Nano) : Type 0 where
@@ -57,7 +57,7 @@ pub record IsNano (a b read write cond sense mem_table flag_table : ℕ) (dir : 
   }
 
 -- a line that says this instruction
-pub record IsInstruction (line : List ℕ) (nano : Nano) : Type 0 where
+pub record SaysInstruction (line : List ℕ) (nano : Nano) : Type 0 where
   pub operands : List (List ℕ)
   pub words : words_of line ≡ codes "nano" ∷ operands
   pub says : nano_of operands ≡ Ok nano

@@ -2,7 +2,8 @@
 
 ghost use Rattle.std.specs.Prelude.{◌≡◌, ◌∷◌, [], Ok, OnOk, Err, OnErr, IfErr, ◌+◌, length, nat_lt, if◌then◌else◌};
 ghost use Rattle.cm_bits.specs.Text.{words_left, words_of};
-ghost use Rattle.cm_language.specs.Program.{Reading, nothing_read, after_words, after_statement, after_definition};
+ghost use Rattle.cm_language.specs.Program.{Reading, nothing_read, reading_after_words, after_statement};
+ghost use Rattle.cm_language.specs.Program.{after_definition};
 ghost use Rattle.cm_language.specs.Program.{with_acts, with_macro, within_length, MOST_ACTS, IsLineFault};
 ghost use Rattle.cm_language.specs.Names.{is_name, is_name_byte, field_named};
 ghost use Rattle.std.specs.List.{list_all};
@@ -54,8 +55,8 @@ impl Reader {
     /// One line more. After a fault of a line whose acts are too many, or want memory, nothing is said of the acts.
     #[tactic(auto, using(crate::proofs::Reading::told_as_it_is))]
     pub fn read_line(&mut self, alloc: Global, line: &[u8]) -> Result<(), AsmKind>
-        ensures ok { OnOk result (after_words self.old (words_of line.now) ≡ Ok self.new) }
-        ensures fault { IfErr result (IsLineFault self.old (after_words self.old (words_of line.now))) }
+        ensures ok { OnOk result (reading_after_words self.old (words_of line.now) ≡ Ok self.new) }
+        ensures fault { IfErr result (IsLineFault self.old (reading_after_words self.old (words_of line.now))) }
         ensures fields { OnErr result (self.new.fields ≡ self.old.fields) }
         ensures context { OnErr result (self.new.context ≡ self.old.context) }
     {

@@ -3,7 +3,8 @@
 ghost use Rattle.std.specs.Prelude.{◌≡◌, ◌<◌, ◌==◌, ◌∷◌, [], Ok, IfSome, IsTrue, codes, length, get_or};
 ghost use Rattle.cm_bits.specs.Text.{words_of};
 ghost use Rattle.cm_language.specs.Lines.{direction_of};
-ghost use Rattle.cm_asm.specs.SinglePass.{BeginsWith, BeginsWithThree, IsDigit, IsInstruction, IsNano, IsNumeral};
+ghost use Rattle.cm_asm.specs.SinglePass.{BeginsWithNumber, BeginsWithThree, IsDigit, SaysInstruction, IsNano};
+ghost use Rattle.cm_asm.specs.SinglePass.{IsNumeral};
 
 use cm_bits::{Addr, Dir, FlagNo};
 use cm_model::Nano;
@@ -26,7 +27,7 @@ struct Three<'a> {
 
 /// The instruction of a line that is written so. Where it is not, nothing is said of it.
 pub fn instruction_of(line: &[u8]) -> Option<Nano>
-    ensures { IfSome result (IsInstruction line.now) }
+    ensures { IfSome result (SaysInstruction line.now) }
 {
     let rest = after_nano(line)?;
     let sources = three_numbers(rest)?;
@@ -103,7 +104,7 @@ fn after_nano(line: &[u8]) -> Option<&[u8]>
 // The number at the front: one to four digits, or two hexadecimal ones after `0x`, and a space.
 #[inline(always)]
 fn front_number<'a>(bytes: &'a [u8]) -> Option<Front<'a>>
-    ensures { IfSome result (λ front. BeginsWith bytes.now front.rest.now front.value) }
+    ensures { IfSome result (λ front. BeginsWithNumber bytes.now front.rest.now front.value) }
 {
     if is_space(bytes, 1) {
         let value = one_digit(bytes[0])?;

@@ -9,7 +9,7 @@ use Rattle.std.proofs.lemmas.Bool.{cases_lt}
 use Rattle.std.proofs.lemmas.List.{drop_all}
 use Rattle.cm_bits.specs.Text.{words_of, number_of}
 use Rattle.cm_figures.specs.declared.numbers.NumbersFault.{NumbersFault}
-use Rattle.cm_figures.specs.Numbers.{◌>>=◌, one_more, after_words, after_lines, behind, numbers_text}
+use Rattle.cm_figures.specs.Numbers.{◌>>=◌, one_number_more, numbers_after_words, numbers_after_lines, behind, numbers_text}
 
 -- a number has so many bits where nothing stands above them
 pub is_within : (number len : ℕ) → (number / 2 ^ len == 0) ≡ nat_lt number (2 ^ len)
@@ -25,19 +25,19 @@ is_within number len = ⊎_elim
 
 -- a word that is a number, and the words behind it
 pub after_one_word : (len count line : ℕ) (numbers : List ℕ) (word : List ℕ) (words : List (List ℕ))
-    (r : Result (List ℕ) NumbersFault) → one_more len count line numbers (number_of word) ≡ r
-    → after_words len count line numbers (word ∷ words) ≡ (r >>= λ more. after_words len count line more words)
-unfolding after_words
+    (r : Result (List ℕ) NumbersFault) → one_number_more len count line numbers (number_of word) ≡ r
+    → numbers_after_words len count line numbers (word ∷ words) ≡ (r >>= λ more. numbers_after_words len count line more words)
+unfolding numbers_after_words
 after_one_word len count line numbers word words r e =
-    ap (λ (q : Result (List ℕ) NumbersFault). q >>= λ more. after_words len count line more words) e
+    ap (λ (q : Result (List ℕ) NumbersFault). q >>= λ more. numbers_after_words len count line more words) e
 
 -- a line, and the lines behind it
 pub after_one_line : (len count line : ℕ) (numbers : List ℕ) (text : List ℕ) (texts : List (List ℕ))
-    (r : Result (List ℕ) NumbersFault) → after_words len count line numbers (words_of text) ≡ r
-    → after_lines len count line numbers (text ∷ texts) ≡ (r >>= λ more. after_lines len count (line + 1) more texts)
-unfolding after_lines
+    (r : Result (List ℕ) NumbersFault) → numbers_after_words len count line numbers (words_of text) ≡ r
+    → numbers_after_lines len count line numbers (text ∷ texts) ≡ (r >>= λ more. numbers_after_lines len count (line + 1) more texts)
+unfolding numbers_after_lines
 after_one_line len count line numbers text texts r e =
-    ap (λ (q : Result (List ℕ) NumbersFault). q >>= λ more. after_lines len count (line + 1) more texts) e
+    ap (λ (q : Result (List ℕ) NumbersFault). q >>= λ more. numbers_after_lines len count (line + 1) more texts) e
 
 -- one more number is written
 pub one_more_written : (width : ℕ) (numbers text written : List ℕ) (i : ℕ) → i < length numbers

@@ -14,28 +14,28 @@ abbrev pub ◌>>=◌ : {A B : Type 0} → Result A NumbersFault → (A → Resul
 (Err fault) >>= f = Err fault
 
 -- the numbers so far and one more, of so many bits, where there are to be so many: at a line with this number
-abbrev pub one_more : ℕ → ℕ → ℕ → List ℕ → Option ℕ → Result (List ℕ) NumbersFault
-one_more len count line numbers None = Err (NotNumber line)
-one_more len count line numbers (Some x) =
+abbrev pub one_number_more : ℕ → ℕ → ℕ → List ℕ → Option ℕ → Result (List ℕ) NumbersFault
+one_number_more len count line numbers None = Err (NotNumber line)
+one_number_more len count line numbers (Some x) =
     if nat_lt x (2 ^ len)
     then (if nat_lt (length numbers) count then Ok (numbers ++ x ∷ []) else Err (TooMany line))
     else Err (TooLarge line)
 
 -- the numbers so far and those of these words
-unfoldable pub after_words : ℕ → ℕ → ℕ → List ℕ → List (List ℕ) → Result (List ℕ) NumbersFault
-after_words len count line numbers [] = Ok numbers
-after_words len count line numbers (word ∷ words) =
-    one_more len count line numbers (number_of word) >>= λ more. after_words len count line more words
+unfoldable pub numbers_after_words : ℕ → ℕ → ℕ → List ℕ → List (List ℕ) → Result (List ℕ) NumbersFault
+numbers_after_words len count line numbers [] = Ok numbers
+numbers_after_words len count line numbers (word ∷ words) =
+    one_number_more len count line numbers (number_of word) >>= λ more. numbers_after_words len count line more words
 
 -- the numbers so far and those of the lines from this one on, at the end of which there are to be so many
-unfoldable pub after_lines : ℕ → ℕ → ℕ → List ℕ → List (List ℕ) → Result (List ℕ) NumbersFault
-after_lines len count line numbers [] = if length numbers == count then Ok numbers else Err (TooFew (length numbers))
-after_lines len count line numbers (text ∷ texts) =
-    after_words len count line numbers (words_of text) >>= λ more. after_lines len count (line + 1) more texts
+unfoldable pub numbers_after_lines : ℕ → ℕ → ℕ → List ℕ → List (List ℕ) → Result (List ℕ) NumbersFault
+numbers_after_lines len count line numbers [] = if length numbers == count then Ok numbers else Err (TooFew (length numbers))
+numbers_after_lines len count line numbers (text ∷ texts) =
+    numbers_after_words len count line numbers (words_of text) >>= λ more. numbers_after_lines len count (line + 1) more texts
 
 -- the numbers of a text, which is to have so many, each of so many bits; or its first fault, lines counted from 1
 abbrev pub numbers_in : ℕ → ℕ → List ℕ → Result (List ℕ) NumbersFault
-numbers_in len count text = after_lines len count 1 [] (lines_of text)
+numbers_in len count text = numbers_after_lines len count 1 [] (lines_of text)
 
 -- ---- writing
 

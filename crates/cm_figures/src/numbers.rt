@@ -2,7 +2,7 @@
 
 ghost use Rattle.std.specs.Prelude.{◌≡◌, ◌≢◌, ◌<◌, ◌≤◌, ◌++◌, ◌∷◌, [], ◌^◌, nat_lt, Ok, Err, IfOk, IfErr, OnOk, length};
 ghost use Rattle.cm_bits.specs.Text.{words_of};
-ghost use Rattle.cm_figures.specs.Numbers.{after_words, one_more, numbers_in, numbers_text, behind};
+ghost use Rattle.cm_figures.specs.Numbers.{numbers_after_words, one_number_more, numbers_in, numbers_text, behind};
 
 use cm_bits::{Lines, NoMemory, Words, read_number};
 use cm_digits::push_number;
@@ -74,10 +74,10 @@ fn push_words(
     line: u64,
 ) -> Result<(), NumbersFault>
     requires narrow { len ≤ 64 }
-    ensures ok { OnOk result (after_words len count line numbers.old.items (words_of bytes.now)
+    ensures ok { OnOk result (numbers_after_words len count line numbers.old.items (words_of bytes.now)
         ≡ Ok numbers.new.items) }
     ensures err { IfErr result (λ fault. fault ≢ NumbersFault.Memory
-        → after_words len count line numbers.old.items (words_of bytes.now) ≡ Err fault) }
+        → numbers_after_words len count line numbers.old.items (words_of bytes.now) ≡ Err fault) }
 {
     for word in Words::new(bytes) {
         match push_one(numbers, read_number(word), len, count, line) {
@@ -97,9 +97,9 @@ fn push_one(
     line: u64,
 ) -> Result<(), NumbersFault>
     requires narrow { len ≤ 64 }
-    ensures ok { OnOk result (one_more len count line numbers.old.items number ≡ Ok numbers.new.items) }
+    ensures ok { OnOk result (one_number_more len count line numbers.old.items number ≡ Ok numbers.new.items) }
     ensures err { IfErr result (λ fault. fault ≢ NumbersFault.Memory
-        → one_more len count line numbers.old.items number ≡ Err fault) }
+        → one_number_more len count line numbers.old.items number ≡ Err fault) }
 {
     let Some(number) = number else {
         return Err(NumbersFault::NotNumber(line));

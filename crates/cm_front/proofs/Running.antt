@@ -26,7 +26,7 @@ use Rattle.cm_source.specs.declared.verb.PhraseVerb.{PhraseVerb}
 use Rattle.cm_source.specs.Says as says
 use Rattle.cm_source.specs.Expansion.{with_phrase}
 use Rattle.cm_language.specs.Program.{MOST_ACTS, Reading, nothing_read, with_acts, with_macro, after_statement}
-use Rattle.cm_language.specs.Program.{after_definition, after_words}
+use Rattle.cm_language.specs.Program.{after_definition, reading_after_words}
 use Rattle.cm_session.specs.declared.command.Command.{Command}
 use Rattle.cm_session.specs.declared.command.Command.TheVariants as command
 use Rattle.cm_session.specs.declared.command.Refusal.{Refusal}
@@ -89,7 +89,7 @@ bound_grows r (Ok a) f f' h = h a
 bound_grows r (Err e) f f' h = tt
 
 words_grow : (r : Reading) (words : List (List ℕ))
-    → IfOk (after_words r words) (Grows r (after_words (without_acts r) words))
+    → IfOk (reading_after_words r words) (Grows r (reading_after_words (without_acts r) words))
 words_grow r [] = record { more = []; is = sym (append-nil r.acts); alone = refl }
 words_grow r (word ∷ operands) = by (bytes_eq word (codes "field")) where
   by : (b : Bool)
@@ -111,7 +111,7 @@ phrase_grows r said None = acts_grow r (phrases.phrase_acts said r.context)
 
 more_grows : (r : Reading) (words : List (List ℕ))
     → IfOk (read_more r words) (Grows r (read_more (without_acts r) words))
-more_grows r words = by (says.verb_of words) where
+more_grows r words = by (says.phrase_verb_of words) where
   by : (o : Option PhraseVerb) → IfOk (read_by r o words) (Grows r (read_by (without_acts r) o words))
   by None = words_grow r words
   by (Some asked) =

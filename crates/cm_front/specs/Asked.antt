@@ -19,7 +19,7 @@ is_of_language (word ∷ operands) =
 
 -- a line of a program: one of the language, or a phrase as a source has it
 abbrev pub is_of_program : List (List ℕ) → Bool
-is_of_program words = is_some (says.verb_of words) || is_of_language words
+is_of_program words = is_some (says.phrase_verb_of words) || is_of_language words
 
 -- a word that goes on in a program, or stops in it: here no acts are still to come
 abbrev pub is_of_acts : List ℕ → Bool

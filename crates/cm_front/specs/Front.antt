@@ -11,10 +11,10 @@ use Rattle.cm_array.specs.Behind.{unlogged}
 use Rattle.cm_image_format.specs.Whole.{text_of}
 use Rattle.cm_language.specs.declared.fault.AsmKind.{AsmKind}
 use Rattle.cm_language.specs.Lines.{◌>>=◌}
-use Rattle.cm_language.specs.Program.{Reading, nothing_read, after_words}
+use Rattle.cm_language.specs.Program.{Reading, nothing_read, reading_after_words}
 use Rattle.cm_phrases.specs.Faults.{first_phrase_fault}
 use Rattle.cm_source.specs.declared.verb.PhraseVerb.{PhraseVerb}
-use Rattle.cm_source.specs.Says.{verb_of, phrase_of}
+use Rattle.cm_source.specs.Says.{phrase_verb_of, phrase_of}
 use Rattle.cm_source.specs.Expansion.{with_phrase}
 use Rattle.cm_session.specs.declared.command.Command.{Command}
 use Rattle.cm_session.specs.declared.command.Refusal.{Refusal}
@@ -62,13 +62,13 @@ front_preceded_by first rest = front_answered_with rest.front (first ++ rest.ans
 
 -- what is read with a line of this verb more, which says a phrase; or else with one of the language
 abbrev pub read_by : Reading → Option PhraseVerb → List (List ℕ) → Result Reading AsmKind
-read_by r None words = after_words r words
+read_by r None words = reading_after_words r words
 read_by r (Some asked) words =
     phrase_of r.fields asked words >>= λ said. with_phrase r said (first_phrase_fault said r.context)
 
 -- with one line more, by its words
 abbrev pub read_more : Reading → List (List ℕ) → Result Reading AsmKind
-read_more r words = read_by r (verb_of words) words
+read_more r words = read_by r (phrase_verb_of words) words
 
 -- names and context stay
 abbrev pub without_acts : Reading → Reading

@@ -19,8 +19,8 @@ use Rattle.cm_language.specs.Names.{NamedField, is_name, field_named}
 use Rattle.cm_language.specs.Lines.{◌>>=◌, number_below, operand_of, sense_operand, direction_of, nano_of, new_name}
 use Rattle.cm_language.specs.Lines.{field_unless, definition_of}
 use Rattle.cm_language.specs.Listing.{table_word, direction_word, act_words, field_words}
-use Rattle.cm_language.specs.Program.{Reading, after_statement, after_words, with_acts}
-use Rattle.cm_language.specs.Whole.{IsInstruction, IsProgramAct, IsNext}
+use Rattle.cm_language.specs.Program.{Reading, after_statement, reading_after_words, with_acts}
+use Rattle.cm_language.specs.Whole.{IsInstruction, IsProgramAct, MayFollow}
 use Rattle.cm_language.proofs.Numerals.{number_of-decimal, number_of-table_word}
 
 -- ---- operands
@@ -97,12 +97,12 @@ nano_of-words nano is =
 -- ---- the words of an act
 
 -- the line of an act adds it
-pub after_words-act : (r : Reading) (a : Act) → IsProgramAct a → after_words r (act_words a) ≡ with_acts r (a ∷ [])
-after_words-act r (act.Nano nano) is =
+pub reading_after_words-act : (r : Reading) (a : Act) → IsProgramAct a → reading_after_words r (act_words a) ≡ with_acts r (a ∷ [])
+reading_after_words-act r (act.Nano nano) is =
     ap (λ (q : Result Nano AsmKind). (q >>= λ nano'. Ok (statement.Act (act.Nano nano'))) >>= after_statement r)
     (nano_of-words nano is)
-after_words-act r act.Cycle is = refl
-after_words-act r act.Sense is = refl
+reading_after_words-act r act.Cycle is = refl
+reading_after_words-act r act.Sense is = refl
 
 -- ---- the words of a definition
 
@@ -121,7 +121,7 @@ field_fault-none at len some narrow within =
     λ i. if empty i || wide i then Some field.Width else (if beyond i then Some field.Range else None)
 
 -- a definition's words are read as that definition
-definition_of-words : (fields : List NamedField) (defined : NamedField) → IsNext fields defined
+definition_of-words : (fields : List NamedField) (defined : NamedField) → MayFollow fields defined
     → definition_of fields (defined.name ∷ decimal defined.field.at ∷ decimal defined.field.len ∷ []) ≡ Ok defined
 definition_of-words fields defined is =
     let name = new_name-next fields defined.name is.name is.new in
@@ -134,13 +134,13 @@ definition_of-words fields defined is =
     (record { name = defined.name; field = field' }))
 
 -- the line of a definition adds its field
-pub after_words-field : (r : Reading) (defined : NamedField) → IsNext r.fields defined
-    → after_words r (field_words defined) ≡ Ok (record {
+pub reading_after_words-field : (r : Reading) (defined : NamedField) → MayFollow r.fields defined
+    → reading_after_words r (field_words defined) ≡ Ok (record {
       fields = r.fields ++ defined ∷ [];
       context = r.context;
       acts = r.acts;
     })
-after_words-field r defined is =
+reading_after_words-field r defined is =
     ap (λ (q : Result NamedField AsmKind). q >>= λ d. Ok (record {
       fields = r.fields ++ d ∷ [];
       context = r.context;

@@ -12,7 +12,7 @@ use Rattle.cm_model.specs.declared.act.Act.{Act}
 use Rattle.cm_model.specs.declared.act.Act.TheVariants as act
 use Rattle.cm_language.specs.Names.{NamedField, is_name_byte, is_name}
 use Rattle.cm_language.specs.Listing.{hex_digit, table_word, direction_word, act_words, field_words}
-use Rattle.cm_language.specs.Whole.{IsProgramAct, IsNext}
+use Rattle.cm_language.specs.Whole.{IsProgramAct, MayFollow}
 use Rattle.cm_language.proofs.Numerals.{IsPlain, ArePlain, IsWord, word-decimal}
 use Rattle.cm_language.proofs.Spaced.{AreWords}
 
@@ -123,7 +123,7 @@ words-act act.Cycle is = (word_by_test (codes "cycle") refl refl, tt)
 words-act act.Sense is = (word_by_test (codes "sense") refl refl, tt)
 
 -- a definition's line has words
-pub words-field : (fields : List NamedField) (defined : NamedField) → IsNext fields defined
+pub words-field : (fields : List NamedField) (defined : NamedField) → MayFollow fields defined
     → AreWords (field_words defined)
 words-field fields defined is = (
   word_by_test (codes "field") refl refl,

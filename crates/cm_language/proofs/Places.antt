@@ -20,7 +20,7 @@ use Rattle.cm_language.specs.Laws.{HasFields}
 use Rattle.cm_language.specs.Lines.{◌>>=◌, verb_of, statement_of, definition_of}
 use Rattle.cm_language.specs.Program.{MOST_ACTS, Reading, ProgramText, nothing_read, within_length, with_acts}
 use Rattle.cm_language.specs.Program.{with_macro}
-use Rattle.cm_language.specs.Program.{after_statement, after_definition, after_words, unless_faulty, after_lines}
+use Rattle.cm_language.specs.Program.{after_statement, after_definition, reading_after_words, unless_faulty, reading_after_lines}
 use Rattle.cm_language.specs.Program.{program_read, program_of}
 use Rattle.cm_language.specs.Places.{MacroStandsAt, Says, MacrosStandInTheirProgram}
 use Rattle.cm_language.proofs.ProgramParts.{are_fields}
@@ -65,7 +65,7 @@ statement_goes_on r (statement.Context c) = stays r (record { fields = r.fields;
 statement_goes_on r (statement.Macro m) = with_macro_goes_on r m (first_fault m r.context)
 statement_goes_on r (statement.Act a) = with_acts_goes_on r (a ∷ [])
 
-words_go_on : (r : Reading) (words : List (List ℕ)) → IfOk (after_words r words) (Continues r)
+words_go_on : (r : Reading) (words : List (List ℕ)) → IfOk (reading_after_words r words) (Continues r)
 words_go_on r [] = stays r r refl
 words_go_on r (word ∷ operands) = by (bytes_eq word (codes "field")) where
   by : (b : Bool)
@@ -93,10 +93,10 @@ line_goes_on : (r : Reading) (n : ℕ) (q : Result Reading AsmKind) (after : Rea
 line_goes_on r n (Ok r') after h k = later_goes_on r r' (after r') h (k r')
 line_goes_on r n (Err fault) after h k = tt
 
-lines_go_on : (r : Reading) (n : ℕ) (lines : List (List ℕ)) → IfOk (after_lines r n lines) (Continues r)
+lines_go_on : (r : Reading) (n : ℕ) (lines : List (List ℕ)) → IfOk (reading_after_lines r n lines) (Continues r)
 lines_go_on r n [] = stays r r refl
 lines_go_on r n (line ∷ lines) =
-    line_goes_on r n (after_words r (words_of line)) (λ r'. after_lines r' (n + 1) lines)
+    line_goes_on r n (reading_after_words r (words_of line)) (λ r'. reading_after_lines r' (n + 1) lines)
     (words_go_on r (words_of line)) (λ r'. lines_go_on r' (n + 1) lines)
 
 -- ---- lines in two parts
@@ -104,22 +104,22 @@ lines_go_on r n (line ∷ lines) =
 -- the second part is read from what the first has said
 record IsReadOn (r' : Reading) (rest : List (List ℕ)) (read : Result Reading AsmFault) : Type 0 where
   pub number : ℕ
-  pub is : read ≡ after_lines r' number rest
+  pub is : read ≡ reading_after_lines r' number rest
 
 read_line : (r' : Reading) (n : ℕ) (q : Result Reading AsmKind) (lines rest : List (List ℕ))
-    → unless_faulty n q (λ z. after_lines z (n + 1) lines) ≡ Ok r'
-    → ((z : Reading) → after_lines z (n + 1) lines ≡ Ok r' → IsReadOn r' rest (after_lines z (n + 1) (lines ++ rest)))
-    → IsReadOn r' rest (unless_faulty n q (λ z. after_lines z (n + 1) (lines ++ rest)))
+    → unless_faulty n q (λ z. reading_after_lines z (n + 1) lines) ≡ Ok r'
+    → ((z : Reading) → reading_after_lines z (n + 1) lines ≡ Ok r' → IsReadOn r' rest (reading_after_lines z (n + 1) (lines ++ rest)))
+    → IsReadOn r' rest (unless_faulty n q (λ z. reading_after_lines z (n + 1) (lines ++ rest)))
 read_line r' n (Ok z) lines rest e h = h z e
 read_line r' n (Err fault) lines rest e h = absurd cc
 
-read_on : (r r' : Reading) (n : ℕ) (lines rest : List (List ℕ)) → after_lines r n lines ≡ Ok r'
-    → IsReadOn r' rest (after_lines r n (lines ++ rest))
+read_on : (r r' : Reading) (n : ℕ) (lines rest : List (List ℕ)) → reading_after_lines r n lines ≡ Ok r'
+    → IsReadOn r' rest (reading_after_lines r n (lines ++ rest))
 read_on r r' n [] rest e =
     let same : r ≡ r' = cc in
-    record { number = n; is = ap (λ z. after_lines z n rest) same }
+    record { number = n; is = ap (λ z. reading_after_lines z n rest) same }
 read_on r r' n (line ∷ lines) rest e =
-    read_line r' n (after_words r (words_of line)) lines rest e (λ z h. read_on z r' (n + 1) lines rest h)
+    read_line r' n (reading_after_words r (words_of line)) lines rest e (λ z h. read_on z r' (n + 1) lines rest h)
 
 -- ---- a macro's line
 
@@ -130,7 +130,7 @@ then_then (Err e) f g = refl
 
 -- it is read as the macro
 read_as_macro : (r : Reading) (words : List (List ℕ)) (m : Macro) → Says r words m
-    → after_words r words ≡ with_macro r m (first_fault m r.context)
+    → reading_after_words r words ≡ with_macro r m (first_fault m r.context)
 read_as_macro r [] m says = elim says [ ]
 read_as_macro r (word ∷ operands) m says =
     rw says.0
@@ -176,12 +176,12 @@ read_acts r (Err fault) program h e = absurd cc
 
 stands : (r : Reading) (m : Macro) (k : ℕ) (q : Result Reading AsmKind) (rest : List (List ℕ)) (program : ProgramText)
     → HasFields m → q ≡ with_macro r m (first_fault m r.context)
-    → program_read (unless_faulty k q (λ z. after_lines z (k + 1) rest)) ≡ Ok program
+    → program_read (unless_faulty k q (λ z. reading_after_lines z (k + 1) rest)) ≡ Ok program
     → MacroStandsAt program.acts (length r.acts) m r.context
 stands r m k (Err fault) rest program fields is e = absurd cc
 stands r m k (Ok after) rest program fields is e =
     let taken : IsTaken r after m = is_taken r after m (first_fault m r.context) refl (sym is) in
-    let behind = read_acts after (after_lines after (k + 1) rest) program (lines_go_on after (k + 1) rest) e in
+    let behind = read_acts after (reading_after_lines after (k + 1) rest) program (lines_go_on after (k + 1) rest) e in
     let acts : List Act = acts_of m r.context in
     let all : program.acts ≡ r.acts ++ (acts ++ behind.0) =
     behind.1 ∙ (ap (λ z. z ++ behind.0) taken.acts ∙ append_assoc r.acts acts behind.0) in
@@ -204,9 +204,9 @@ unfolding program_of
 macros_stand text program r m e it =
     let start : IsReading nothing_read = record { fields = tt; context = tt; acts = tt; few = omega arith } in
     let reading : IsReading r =
-    reading_of r (after_lines nothing_read 1 it.before) (after_lines_ok nothing_read 1 it.before start) it.read in
-    let on : IsReadOn r (it.line ∷ it.after) (after_lines nothing_read 1 (it.before ++ it.line ∷ it.after)) =
+    reading_of r (reading_after_lines nothing_read 1 it.before) (after_lines_ok nothing_read 1 it.before start) it.read in
+    let on : IsReadOn r (it.line ∷ it.after) (reading_after_lines nothing_read 1 (it.before ++ it.line ∷ it.after)) =
     read_on nothing_read r 1 it.before (it.line ∷ it.after) it.read in
-    stands r m on.number (after_words r (words_of it.line)) it.after program
+    stands r m on.number (reading_after_words r (words_of it.line)) it.after program
     (has_fields r (words_of it.line) m reading it.says) (read_as_macro r (words_of it.line) m it.says)
-    (sym (ap program_read (ap (after_lines nothing_read 1) it.lines ∙ on.is)) ∙ e)
+    (sym (ap program_read (ap (reading_after_lines nothing_read 1) it.lines ∙ on.is)) ∙ e)

@@ -8,7 +8,7 @@ use Rattle.cm_language.specs.declared.macros.Macro.TheVariants.{Set, Clear}
 use Rattle.cm_language.specs.declared.macros.Context.{Context}
 use Rattle.cm_language.specs.declared.macros.Context.TheVariants.{Always, On, Off}
 use Rattle.cm_language.specs.Names.{NamedField}
-use Rattle.cm_language.specs.Whole.{AreProgramActs, IsNext, AreNext}
+use Rattle.cm_language.specs.Whole.{AreProgramActs, MayFollow, AreNext}
 
 -- ---- fields
 
@@ -48,12 +48,12 @@ are_fields before (defined ∷ later) next = (next.0.field, are_fields (before +
 
 -- a definition that may follow is the last of them
 pub next-append : (before later : List NamedField) (defined : NamedField) → AreNext before later
-    → IsNext (before ++ later) defined → AreNext before (later ++ defined ∷ [])
-next-append before [] defined next is = (subst (λ fields. IsNext fields defined) (append-nil before) is, tt)
+    → MayFollow (before ++ later) defined → AreNext before (later ++ defined ∷ [])
+next-append before [] defined next is = (subst (λ fields. MayFollow fields defined) (append-nil before) is, tt)
 next-append before (first ∷ later) defined next is = (
   next.0,
   next-append (before ++ first ∷ []) later defined next.1
-      (subst (λ fields. IsNext fields defined) (sym (append_assoc before (first ∷ []) later)) is),
+      (subst (λ fields. MayFollow fields defined) (sym (append_assoc before (first ∷ []) later)) is),
 )
 
 -- acts after acts

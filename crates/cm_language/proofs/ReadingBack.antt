@@ -5,7 +5,7 @@ use Rattle.cm_bits.specs.Text.{lines_of}
 use Rattle.cm_language.specs.declared.fault.AsmFault.{AsmFault}
 use Rattle.cm_language.specs.Laws.{ProgramsAreWhole, ListingsReadBack, ListingsAreTheirOwn}
 use Rattle.cm_language.specs.Listing.{listing, program_listed, listing_of}
-use Rattle.cm_language.specs.Program.{Reading, ProgramText, nothing_read, after_lines, program_read, program_of}
+use Rattle.cm_language.specs.Program.{Reading, ProgramText, nothing_read, reading_after_lines, program_read, program_of}
 use Rattle.cm_language.specs.Whole.{IsProgram}
 use Rattle.cm_language.proofs.ListedText.{programs_are_listed}
 use Rattle.cm_language.proofs.TextsRead.{IsReading, after_lines_ok}
@@ -23,7 +23,7 @@ pub programs_are_whole : ProgramsAreWhole
 unfolding program_of
 programs_are_whole text program e =
     let start : IsReading nothing_read = record { fields = tt; context = tt; acts = tt; few = omega arith } in
-    is_program (after_lines nothing_read 1 (lines_of text)) program
+    is_program (reading_after_lines nothing_read 1 (lines_of text)) program
     (after_lines_ok nothing_read 1 (lines_of text) start) e
 
 -- the listing of a text's program is a text of that program

@@ -19,7 +19,7 @@ use Rattle.cm_language.specs.declared.fault.AsmKind.TheVariants as kind
 use Rattle.cm_language.specs.Names.{NamedField, is_name, field_named}
 use Rattle.cm_language.specs.Lines.{◌>>=◌, no_operand, flag_operand, one_field, two_fields, nano_of, statement_of}
 use Rattle.cm_language.specs.Lines.{operand_of, new_name, field_unless, definition_of}
-use Rattle.cm_language.specs.Whole.{IsInstruction, IsNext}
+use Rattle.cm_language.specs.Whole.{IsInstruction, MayFollow}
 use Rattle.cm_language.proofs.ProgramParts.{AreFields}
 use Rattle.cm_language.proofs.OperandsRead.{IsSaid, if_ok-then, any_ok, flag_ok, one_field_ok, two_fields_ok, choice_ok}
 use Rattle.cm_language.proofs.OperandsRead.{constant_ok, product_ok, nano_ok}
@@ -102,7 +102,7 @@ field_unless_ok at len = by (eqb len 0) (nat_lt 64 len) (nat_lt 4096 (at + len))
 
 -- a definition may follow the fields before it
 pub definition_ok : (fields : List NamedField) (words : List (List ℕ))
-    → IfOk (definition_of fields words) (IsNext fields)
+    → IfOk (definition_of fields words) (MayFollow fields)
 definition_ok fields (name ∷ at ∷ len ∷ []) =
     if_ok-then (new_name fields name) _ (IsNew fields) _ (new_name_ok fields name) (λ name' is.
     if_ok-then (operand_of 65536 at) _ (λ n. Unit {0}) _ (any_ok (operand_of 65536 at)) (λ at' any.

@@ -19,8 +19,8 @@ use Rattle.cm_language.specs.Faults.{first_fault}
 use Rattle.cm_language.specs.Laws.{HasFields}
 use Rattle.cm_language.specs.Lines.{◌>>=◌, verb_of, statement_of, definition_of}
 use Rattle.cm_language.specs.Program.{MOST_ACTS, Reading, within_length, with_acts, with_macro, after_statement}
-use Rattle.cm_language.specs.Program.{after_definition, after_words, unless_faulty, after_lines}
-use Rattle.cm_language.specs.Whole.{AreProgramActs, IsNext, AreNext}
+use Rattle.cm_language.specs.Program.{after_definition, reading_after_words, unless_faulty, reading_after_lines}
+use Rattle.cm_language.specs.Whole.{AreProgramActs, MayFollow, AreNext}
 use Rattle.cm_language.proofs.ProgramParts.{HasFlag, NamesFlags, are_fields, next-append, acts-append}
 use Rattle.cm_language.proofs.MacroActs.{acts_of-program}
 use Rattle.cm_language.proofs.OperandsRead.{IsSaid, if_ok-then, any_ok}
@@ -72,7 +72,7 @@ after_statement_ok r (statement.Act a) is said = with_acts_ok r (a ∷ []) is (s
 -- a definition more
 after_definition_ok : (r : Reading) (words : List (List ℕ)) → IsReading r → IfOk (after_definition r words) IsReading
 after_definition_ok r words is =
-    if_ok-then (definition_of r.fields words) _ (IsNext r.fields) _ (definition_ok r.fields words)
+    if_ok-then (definition_of r.fields words) _ (MayFollow r.fields) _ (definition_ok r.fields words)
     (λ defined next. record {
       fields = next-append [] r.fields defined is.fields next;
       context = is.context;
@@ -83,7 +83,7 @@ after_definition_ok r words is =
 -- ---- lines
 
 -- a line more
-after_words_ok : (r : Reading) (words : List (List ℕ)) → IsReading r → IfOk (after_words r words) IsReading
+after_words_ok : (r : Reading) (words : List (List ℕ)) → IsReading r → IfOk (reading_after_words r words) IsReading
 after_words_ok r [] is = is
 after_words_ok r (word ∷ operands) is = by (bytes_eq word (codes "field")) where
   by : (b : Bool)
@@ -107,9 +107,9 @@ later_lines_ok n (Err fault) after P is step = tt
 
 -- all lines
 pub after_lines_ok : (r : Reading) (n : ℕ) (lines : List (List ℕ)) → IsReading r
-    → IfOk (after_lines r n lines) IsReading
+    → IfOk (reading_after_lines r n lines) IsReading
 after_lines_ok r n [] is = is
 after_lines_ok r n (line ∷ lines) is =
-    later_lines_ok n (after_words r (words_of line)) (λ r'. after_lines r' (n + 1) lines) IsReading
+    later_lines_ok n (reading_after_words r (words_of line)) (λ r'. reading_after_lines r' (n + 1) lines) IsReading
     (after_words_ok r (words_of line) is)
     (λ r' is'. after_lines_ok r' (n + 1) lines is')

@@ -37,27 +37,27 @@ abbrev pub with_value : Span → ℕ → Processor → Processor
 with_value field number p = record { memory = with_field p.memory field.at field.len number; flags = p.flags }
 
 -- the processor with a bit in a flag
-abbrev pub with_flag : ℕ → Bool → Processor → Processor
-with_flag f b p = record { memory = p.memory; flags = slice_set p.flags f b }
+abbrev pub processor_with_flag : ℕ → Bool → Processor → Processor
+processor_with_flag f b p = record { memory = p.memory; flags = slice_set p.flags f b }
 
 -- a processor after a macro that was carried out in it: every right side is over the old values
 abbrev pub assigned : Macro → Processor → Processor
 assigned (Add d s) p =
-    with_flag CARRY (nat_le (size d) (value_of p d + value_of p s))
+    processor_with_flag CARRY (nat_le (size d) (value_of p d + value_of p s))
     (with_value d ((value_of p d + value_of p s) % size d) p)
 assigned (Sub d s) p =
-    with_flag CARRY (nat_le (value_of p s) (value_of p d))
+    processor_with_flag CARRY (nat_le (value_of p s) (value_of p d))
     (with_value d ((value_of p d + (size d - value_of p s)) % size d) p)
-assigned (Less x y) p = with_flag CARRY (nat_lt (value_of p x) (value_of p y)) p
-assigned (Equal x y) p = with_flag CARRY (value_of p x == value_of p y) p
+assigned (Less x y) p = processor_with_flag CARRY (nat_lt (value_of p x) (value_of p y)) p
+assigned (Equal x y) p = processor_with_flag CARRY (value_of p x == value_of p y) p
 assigned (Move d s) p = with_value d (value_of p s) p
 assigned (Select d s f) p = if flag p f then with_value d (value_of p s) p else p
 assigned (Const d v) p = with_value d v p
-assigned (Shift d) p = with_flag CARRY (memory_bit p (d.at + d.len - 1)) (with_value d (2 * value_of p d % size d) p)
+assigned (Shift d) p = processor_with_flag CARRY (memory_bit p (d.at + d.len - 1)) (with_value d (2 * value_of p d % size d) p)
 assigned (Mul d x y) p =
-    with_flag CARRY false (with_flag FACTOR false (with_value d (value_of p x * value_of p y % size d) p))
-assigned (Set f) p = with_flag f true p
-assigned (Clear f) p = with_flag f false p
+    processor_with_flag CARRY false (processor_with_flag FACTOR false (with_value d (value_of p x * value_of p y % size d) p))
+assigned (Set f) p = processor_with_flag f true p
+assigned (Clear f) p = processor_with_flag f false p
 
 -- a processor after a macro under a context
 unfoldable pub effect : Macro → Context → Processor → Processor

@@ -129,12 +129,12 @@ first_fault m c =
     else None)))
 
 -- the same cause as the kind of a faulty line
-abbrev pub kind_of : MacroFault → AsmKind
-kind_of fault.Overlap = kind.Overlap
-kind_of fault.Lengths = kind.Lengths
-kind_of fault.Scratch = kind.Scratch
-kind_of fault.Context = kind.Context
-kind_of fault.Memory = kind.Memory
+abbrev pub kind_of_macro_fault : MacroFault → AsmKind
+kind_of_macro_fault fault.Overlap = kind.Overlap
+kind_of_macro_fault fault.Lengths = kind.Lengths
+kind_of_macro_fault fault.Scratch = kind.Scratch
+kind_of_macro_fault fault.Context = kind.Context
+kind_of_macro_fault fault.Memory = kind.Memory
 
 -- a fault that a macro is refused with: its first cause, or where it has none the want of memory
 abbrev pub IsRefusal : Macro → declared.Context → Type 0 → MacroFault → Type 0

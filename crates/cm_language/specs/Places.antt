@@ -10,7 +10,7 @@ use Rattle.cm_language.specs.declared.fault.AsmKind.TheVariants as kind
 use Rattle.cm_language.specs.Acts.{acts_of}
 use Rattle.cm_language.specs.Faults.{first_fault}
 use Rattle.cm_language.specs.Lines.{◌>>=◌, verb_of, statement_of}
-use Rattle.cm_language.specs.Program.{Reading, ProgramText, nothing_read, after_lines, program_of}
+use Rattle.cm_language.specs.Program.{Reading, ProgramText, nothing_read, reading_after_lines, program_of}
 use Rattle.cm_language.specs.Laws.{HasFields}
 
 -- the acts of a macro that is not refused under this context stand in a list of acts, the first of them at this place
@@ -32,7 +32,7 @@ pub record IsMacroOf (text : List ℕ) (r : Reading) (m : Macro) : Type 0 where
   pub line : List ℕ
   pub after : List (List ℕ)
   pub lines : lines_of text ≡ before ++ line ∷ after
-  pub read : after_lines nothing_read 1 before ≡ Ok r
+  pub read : reading_after_lines nothing_read 1 before ≡ Ok r
   pub says : Says r (words_of line) m
 
 -- the acts of each macro of a text stand in its program after the acts of the lines before it

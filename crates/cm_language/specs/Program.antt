@@ -14,7 +14,7 @@ use Rattle.cm_language.specs.declared.fault.AsmKind.{AsmKind}
 use Rattle.cm_language.specs.declared.fault.AsmKind.TheVariants as kind
 use Rattle.cm_language.specs.declared.fault.AsmFault.{AsmFault}
 use Rattle.cm_language.specs.Acts.{acts_of}
-use Rattle.cm_language.specs.Faults.{first_fault, kind_of}
+use Rattle.cm_language.specs.Faults.{first_fault, kind_of_macro_fault}
 use Rattle.cm_language.specs.Names.{NamedField}
 use Rattle.cm_language.specs.Lines.{◌>>=◌, verb_of, statement_of, definition_of}
 
@@ -44,7 +44,7 @@ with_acts r acts = within_length (record { fields = r.fields; context = r.contex
 
 -- the acts of a macro are the next ones, unless it is refused
 abbrev pub with_macro : Reading → Macro → Option MacroFault → Result Reading AsmKind
-with_macro r m (Some fault) = Err (kind_of fault)
+with_macro r m (Some fault) = Err (kind_of_macro_fault fault)
 with_macro r m None = with_acts r (acts_of m r.context)
 
 -- one statement more
@@ -60,9 +60,9 @@ after_definition r operands =
     >>= λ defined. Ok (record { fields = r.fields ++ defined ∷ []; context = r.context; acts = r.acts })
 
 -- one line more, by its words
-abbrev pub after_words : Reading → List (List ℕ) → Result Reading AsmKind
-after_words r [] = Ok r
-after_words r (word ∷ operands) =
+abbrev pub reading_after_words : Reading → List (List ℕ) → Result Reading AsmKind
+reading_after_words r [] = Ok r
+reading_after_words r (word ∷ operands) =
     if bytes_eq word (codes "field")
     then after_definition r operands
     else (ok_or (verb_of word) kind.Word >>= λ verb. statement_of r.fields verb operands >>= after_statement r)
@@ -73,10 +73,10 @@ unless_faulty number (Ok r) after = after r
 unless_faulty number (Err kind) after = Err (record { line = number; kind = kind })
 
 -- what is read when these lines, numbered from here on, were read too, or the first that is faulty
-abbrev pub after_lines : Reading → ℕ → List (List ℕ) → Result Reading AsmFault
-after_lines r number [] = Ok r
-after_lines r number (line ∷ lines) =
-    unless_faulty number (after_words r (words_of line)) (λ r'. after_lines r' (number + 1) lines)
+abbrev pub reading_after_lines : Reading → ℕ → List (List ℕ) → Result Reading AsmFault
+reading_after_lines r number [] = Ok r
+reading_after_lines r number (line ∷ lines) =
+    unless_faulty number (reading_after_words r (words_of line)) (λ r'. reading_after_lines r' (number + 1) lines)
 
 -- what a program is: its fields in order of definition, and its acts
 pub record ProgramText : Type 0 where
@@ -90,7 +90,7 @@ program_read (Err fault) = Err fault
 
 -- the program of a text, or its first faulty line, counted from 1
 unfoldable pub program_of : List ℕ → Result ProgramText AsmFault
-program_of text = program_read (after_lines nothing_read 1 (lines_of text))
+program_of text = program_read (reading_after_lines nothing_read 1 (lines_of text))
 
 -- how many definitions and acts have been read
 abbrev pub parts : Reading → ℕ
@@ -107,8 +107,8 @@ pub record IsGrownFor (text : List ℕ) (line : ℕ) : Type 0 where
   pub first : 1 ≤ line
   pub within : line ≤ length (lines_of text)
   pub read : Reading
-  pub before : after_lines nothing_read 1 (take (line - 1) (lines_of text)) ≡ Ok read
-  pub here : MayLackMemory read (after_words read (words_of (get_or (lines_of text) (line - 1) [])))
+  pub before : reading_after_lines nothing_read 1 (take (line - 1) (lines_of text)) ≡ Ok read
+  pub here : MayLackMemory read (reading_after_words read (words_of (get_or (lines_of text) (line - 1) [])))
 
 -- what a kind of fault says: want of memory the first, the others the second
 abbrev pub MatchKind : AsmKind → Type 0 → Type 0 → Type 0

@@ -29,7 +29,7 @@ AreProgramActs [] = Unit {0}
 AreProgramActs (a ∷ acts) = IsProgramAct a × AreProgramActs acts
 
 -- a definition that may follow these fields: its name is one, and new among theirs
-pub record IsNext (fields : List NamedField) (defined : NamedField) : Type 0 where
+pub record MayFollow (fields : List NamedField) (defined : NamedField) : Type 0 where
   pub name : is_name defined.name ≡ true
   pub new : field_named fields defined.name ≡ None
   pub field : IsField defined.field
@@ -37,7 +37,7 @@ pub record IsNext (fields : List NamedField) (defined : NamedField) : Type 0 whe
 -- definitions that may follow these fields, one after another
 abbrev pub AreNext : List NamedField → List NamedField → Type 0
 AreNext fields [] = Unit {0}
-AreNext fields (defined ∷ later) = IsNext fields defined × AreNext (fields ++ defined ∷ []) later
+AreNext fields (defined ∷ later) = MayFollow fields defined × AreNext (fields ++ defined ∷ []) later
 
 -- a program: its definitions one after another, its acts, and not too many of them
 pub record IsProgram (program : ProgramText) : Type 0 where

@@ -1,7 +1,7 @@
 //! Why a macro, or a line of a program text, is refused.
 
 ghost use Rattle.std.specs.Prelude.{◌≡◌};
-ghost use Rattle.cm_language.specs.Faults.{kind_of};
+ghost use Rattle.cm_language.specs.Faults.{kind_of_macro_fault};
 
 use thiserror::Error;
 
@@ -54,7 +54,7 @@ pub enum AsmKind {
 impl MacroFault {
     /// The same cause as the kind of a faulty line.
     pub fn kind(self) -> AsmKind
-        ensures value { result ≡ kind_of self }
+        ensures value { result ≡ kind_of_macro_fault self }
     {
         match self {
             MacroFault::Overlap => AsmKind::Overlap,

@@ -8,7 +8,7 @@ use Rattle.cm_bits.specs.Text.{is_line_end, lines_of, words_of}
 use Rattle.cm_model.specs.declared.act.Act.{Act}
 use Rattle.cm_language.specs.declared.fault.AsmKind.{AsmKind}
 use Rattle.cm_language.specs.declared.fault.MacroFault.{MacroFault}
-use Rattle.cm_language.specs.Program.{MOST_ACTS, Reading, nothing_read, with_acts, after_words, after_lines}
+use Rattle.cm_language.specs.Program.{MOST_ACTS, Reading, nothing_read, with_acts, reading_after_words, reading_after_lines}
 use Rattle.cm_language.specs.Whole.{AreProgramActs}
 use Rattle.cm_language.proofs.ProgramParts.{are_fields}
 use Rattle.cm_language.proofs.TextsRead.{IsReading}
@@ -20,12 +20,12 @@ use Rattle.cm_source.specs.declared.fault.SourceKind.{SourceKind}
 use Rattle.cm_source.specs.declared.fault.SourceKind.TheVariants.{TooLarge}
 use Rattle.cm_source.specs.declared.fault.SourceFault.{SourceFault}
 use Rattle.cm_source.specs.declared.verb.PhraseVerb.{PhraseVerb}
-use Rattle.cm_source.specs.Says.{verb_of, phrase_of}
-use Rattle.cm_source.specs.Layout.{◌>>=◌, of_source, unless_faulty, NamedNumber}
+use Rattle.cm_source.specs.Says.{phrase_verb_of, phrase_of}
+use Rattle.cm_source.specs.Layout.{◌>>=◌, of_source, unless_faulty_at, NamedNumber}
 use Rattle.cm_source.specs.Expansion as out
 use Rattle.cm_source.specs.Expansion.{MOST_BYTES, Expansion, nothing_out, within_bytes, with_phrase, phrase_text}
-use Rattle.cm_source.specs.Expansion.{plain_line, after_plain, after_place, after_place_of}
-use Rattle.cm_meaning.specs.Meaning.{words_said, after_phrase, after_said, after_line, after_line_at, after_places}
+use Rattle.cm_source.specs.Expansion.{plain_line, after_plain, expansion_after_place, after_place_of}
+use Rattle.cm_meaning.specs.Meaning.{words_said, reading_after_phrase, after_said, reading_after_said, after_line_at, reading_after_places}
 use Rattle.cm_meaning.proofs.Quiet.{IsInLine, IsQuietWord, words_quiet}
 use Rattle.cm_meaning.proofs.PlainLines.{words_of-plain_line, plain_line_whole}
 use Rattle.cm_meaning.proofs.PhraseActs.{phrase_acts-program}
@@ -36,7 +36,7 @@ use Rattle.cm_meaning.proofs.SaidRight.{phrase_ok, line_ok, AreWithin, are_withi
 pub record IsRead (o : Expansion) : Type 0 where
   pub number : ℕ
   pub on : (rest : List ℕ)
-      → after_lines nothing_read 1 (lines_of (o.text ++ rest)) ≡ after_lines o.reading number (lines_of rest)
+      → reading_after_lines nothing_read 1 (lines_of (o.text ++ rest)) ≡ reading_after_lines o.reading number (lines_of rest)
   pub whole : IsReading o.reading
 
 -- so it is before the first line
@@ -64,12 +64,12 @@ agrees_within o said is e = by (nat_lt MOST_BYTES (length o.text)) where
 -- ---- a line of the program language
 
 line_agrees : (o : Expansion) (line : List ℕ) → IsRead o → All (λ b. is_line_end b ≡ false) line
-    → Agrees (out.after_line o line) (after_words o.reading (words_of line))
-line_agrees o line is whole = by (after_words o.reading (words_of line)) refl where
-  by : (read : Result Reading AsmKind) → after_words o.reading (words_of line) ≡ read
+    → Agrees (out.expansion_after_line o line) (reading_after_words o.reading (words_of line))
+line_agrees o line is whole = by (reading_after_words o.reading (words_of line)) refl where
+  by : (read : Result Reading AsmKind) → reading_after_words o.reading (words_of line) ≡ read
       → Agrees
       (of_source read >>= λ r. within_bytes (record { reading = r; text = o.text ++ line ++ 10 ∷ [] }))
-      (after_words o.reading (words_of line))
+      (reading_after_words o.reading (words_of line))
   by (Err kind) e = λ other. ap of_source e
   by (Ok r) e =
       let next : Expansion = record { reading = r; text = o.text ++ line ++ 10 ∷ [] } in
@@ -77,12 +77,12 @@ line_agrees o line is whole = by (after_words o.reading (words_of line)) refl wh
       λ rest. simp append_assoc refl in
       let read : IsRead next = record {
         number = is.number + 1;
-        on = λ rest. ap (λ (t : List ℕ). after_lines nothing_read 1 (lines_of t)) (text rest)
+        on = λ rest. ap (λ (t : List ℕ). reading_after_lines nothing_read 1 (lines_of t)) (text rest)
             ∙ is.on (line ++ 10 ∷ rest)
             ∙ one_line o.reading r is.number line rest whole e;
         whole = subst (λ (q : Result Reading AsmKind). IfOk q IsReading) e (line_ok o.reading line is.whole);
       } in
-      agrees_within next (after_words o.reading (words_of line)) read e
+      agrees_within next (reading_after_words o.reading (words_of line)) read e
 
 -- ---- a phrase
 
@@ -101,16 +101,16 @@ phrase_read o r place said is fields accept e =
     omega (arith, within.few, length-append o.reading.acts acts) in
     record {
       number = is.number + length acts;
-      on = λ rest. ap (λ (t : List ℕ). after_lines nothing_read 1 (lines_of t)) (append_assoc o.text lines rest)
+      on = λ rest. ap (λ (t : List ℕ). reading_after_lines nothing_read 1 (lines_of t)) (append_assoc o.text lines rest)
           ∙ is.on (lines ++ rest)
           ∙ acts_read o.reading.fields o.reading.context o.reading.acts acts is.number (place + 1) rest are few
-          ∙ ap (λ (z : Reading). after_lines z (is.number + length acts) (lines_of rest)) (sym within.is);
+          ∙ ap (λ (z : Reading). reading_after_lines z (is.number + length acts) (lines_of rest)) (sym within.is);
       whole = subst (λ (q : Result Reading AsmKind). IfOk q IsReading) e
           (phrase_left_ok o.reading said None is.whole fields accept);
     }
 
 phrase_agrees : (o : Expansion) (place : ℕ) (said : Phrase) → IsRead o → HasPhraseFields said
-    → Agrees (out.after_phrase o place said) (after_phrase o.reading said)
+    → Agrees (out.expansion_after_phrase o place said) (reading_after_phrase o.reading said)
 phrase_agrees o place said is fields = by (first_phrase_fault said o.reading.context) refl where
   text : List ℕ
   text = o.text ++ phrase_text place (phrase_acts said o.reading.context)
@@ -141,24 +141,24 @@ plain_agrees o place line (Some asked) is whole =
     by (phrase_of o.reading.fields asked (words_of line))
     (phrase_ok o.reading.fields asked (words_of line) (are_fields [] o.reading.fields is.whole.fields)) where
       by : (said : Result Phrase AsmKind) → IfOk said HasPhraseFields
-          → Agrees (of_source said >>= λ s. out.after_phrase o place s) (then_phrase o.reading said)
+          → Agrees (of_source said >>= λ s. out.expansion_after_phrase o place s) (then_phrase o.reading said)
       by (Err kind) fields = λ other. refl
       by (Ok said) fields = phrase_agrees o place said is fields
 
 -- the line at a place
 place_agrees : (constants : List NamedNumber) (o : Expansion) (place : ℕ) (line : List ℕ) → IsRead o
     → AllByRecursion IsInLine line
-    → Agrees (after_place constants o place line) (after_line constants o.reading (words_of line))
-unfolding after_place
+    → Agrees (expansion_after_place constants o place line) (reading_after_said constants o.reading (words_of line))
+unfolding expansion_after_place
 place_agrees constants o place line is whole =
     let words : AllByRecursion IsQuietWord (words_of line) = words_quiet line whole in
     let plain : List ℕ = plain_line constants place (words_of line) in
     let same : words_of plain ≡ words_said constants (words_of line) =
     words_of-plain_line constants place (words_of line) words in
     subst
-    (λ (said : List (List ℕ)). Agrees (after_plain o place plain (verb_of (words_of plain)))
-    (after_said o.reading said (verb_of said))) same
-    (plain_agrees o place plain (verb_of (words_of plain)) is
+    (λ (said : List (List ℕ)). Agrees (after_plain o place plain (phrase_verb_of (words_of plain)))
+    (after_said o.reading said (phrase_verb_of said))) same
+    (plain_agrees o place plain (phrase_verb_of (words_of plain)) is
     (plain_line_whole constants place (words_of line) words))
 
 -- if there is one
@@ -181,21 +181,21 @@ AllAgree (Err fault) said = ¬ (fault.kind ≡ TooLarge) → said ≡ Err fault
 later_agree : (place : ℕ) (come : Result Expansion SourceKind) (said : Result Reading AsmKind)
     (f : Expansion → Result Expansion SourceFault) (g : Reading → Result Reading SourceFault) → Agrees come said
     → ((o : Expansion) → IsRead o → AllAgree (f o) (g o.reading))
-    → AllAgree (unless_faulty place come f) (unless_faulty place (of_source said) g)
+    → AllAgree (unless_faulty_at place come f) (unless_faulty_at place (of_source said) g)
 later_agree place (Ok o) said f g agrees later =
-    subst (λ (q : Result Reading AsmKind). AllAgree (f o) (unless_faulty place (of_source q) g)) (sym agrees.1)
+    subst (λ (q : Result Reading AsmKind). AllAgree (f o) (unless_faulty_at place (of_source q) g)) (sym agrees.1)
     (later o agrees.0)
 later_agree place (Err kind) said f g agrees later =
-    λ other. ap (λ (q : Result Reading SourceKind). unless_faulty place q g) (agrees other)
+    λ other. ap (λ (q : Result Reading SourceKind). unless_faulty_at place q g) (agrees other)
 
 -- lines at these places
 pub places_agree : (lines : List (List ℕ)) (constants : List NamedNumber) (o : Expansion) (places : List ℕ) → IsRead o
     → AllByRecursion (AllByRecursion IsInLine) lines
-    → AllAgree (out.after_places lines constants o places) (after_places lines constants o.reading places)
-unfolding out.after_places after_places
+    → AllAgree (out.expansion_after_places lines constants o places) (reading_after_places lines constants o.reading places)
+unfolding out.expansion_after_places reading_after_places
 places_agree lines constants o [] is whole = (is, refl)
 places_agree lines constants o (place ∷ places) is whole =
     later_agree place (after_place_of constants o place (slice_get lines place))
-    (after_line_at constants o.reading (slice_get lines place)) (λ next. out.after_places lines constants next places)
-    (λ r. after_places lines constants r places) (place_of_agrees constants o place lines place is whole)
+    (after_line_at constants o.reading (slice_get lines place)) (λ next. out.expansion_after_places lines constants next places)
+    (λ r. reading_after_places lines constants r places) (place_of_agrees constants o place lines place is whole)
     (λ next next_is. places_agree lines constants next places next_is whole)

@@ -12,12 +12,12 @@ use Rattle.cm_language.specs.Program.{Reading, ProgramText, nothing_read, progra
 use Rattle.cm_source.specs.declared.fault.SourceKind.{SourceKind}
 use Rattle.cm_source.specs.declared.fault.SourceKind.TheVariants.{TooMany}
 use Rattle.cm_source.specs.declared.fault.SourceFault.{SourceFault}
-use Rattle.cm_source.specs.Says.{verb_of}
+use Rattle.cm_source.specs.Says.{phrase_verb_of}
 use Rattle.cm_source.specs.Layout as layout
-use Rattle.cm_source.specs.Layout.{MOST_LINES, Layout, nothing_laid, of_source, unless_faulty, after_words}
+use Rattle.cm_source.specs.Layout.{MOST_LINES, Layout, nothing_laid, of_source, unless_faulty_at, layout_after_words}
 use Rattle.cm_source.specs.Layout.{all_closed, layout_of}
 use Rattle.cm_source.specs.Expansion.{plain_word}
-use Rattle.cm_meaning.specs.Meaning.{words_said, after_said, after_line_at, after_places, said_by, program_said, meaning_of}
+use Rattle.cm_meaning.specs.Meaning.{words_said, after_said, after_line_at, reading_after_places, said_by, program_said, meaning_of}
 use Rattle.cm_meaning.specs.Laws.{IsProgramLine, IsTextOf, PlainSourcesArePrograms}
 use Rattle.cm_meaning.proofs.Programs.{expansions_are_programs}
 
@@ -43,7 +43,7 @@ in_order order = record { constants = []; opened = []; order = order }
 
 -- a line is laid out where it stands
 line_laid : (order : List ℕ) (place : ℕ) (words : List (List ℕ)) → IsProgramLine words
-    → IfOk (after_words (in_order order) place words) (λ laid. laid ≡ in_order (order ++ placed place words []))
+    → IfOk (layout_after_words (in_order order) place words) (λ laid. laid ≡ in_order (order ++ placed place words []))
 line_laid order place [] is = ap in_order (sym (append-nil order))
 line_laid order place (word ∷ operands) is =
     rw (is.0, is.1, is.2) (by (nat_lt MOST_LINES (length (order ++ place ∷ [])))) where
@@ -61,11 +61,11 @@ placed_behind order place (word ∷ words) places = append_assoc order (place �
 
 -- so are all lines
 lines_laid : (order : List ℕ) (place : ℕ) (lines : List (List ℕ)) → ArePlain lines
-    → IfOk (layout.after_lines (in_order order) place lines) (λ laid. laid ≡ in_order (order ++ places_of place lines))
-unfolding layout.after_lines
+    → IfOk (layout.layout_after_lines (in_order order) place lines) (λ laid. laid ≡ in_order (order ++ places_of place lines))
+unfolding layout.layout_after_lines
 lines_laid order place [] are = ap in_order (sym (append-nil order))
 lines_laid order place (line ∷ lines) are =
-    by (after_words (in_order order) place (words_of line)) (line_laid order place (words_of line) are.0)
+    by (layout_after_words (in_order order) place (words_of line)) (line_laid order place (words_of line) are.0)
     (lines_laid (order ++ placed place (words_of line) []) (place + 1) lines are.1) where
       grown : List ℕ
       grown = order ++ placed place (words_of line) []
@@ -74,16 +74,16 @@ lines_laid order place (line ∷ lines) are =
       all = order ++ places_of place (line ∷ lines)
 
       by : (laid : Result Layout SourceKind) → IfOk laid (λ l. l ≡ in_order grown)
-          → IfOk (layout.after_lines (in_order grown) (place + 1) lines)
+          → IfOk (layout.layout_after_lines (in_order grown) (place + 1) lines)
           (λ l. l ≡ in_order (grown ++ places_of (place + 1) lines))
-          → IfOk (unless_faulty place laid (λ next. layout.after_lines next (place + 1) lines))
+          → IfOk (unless_faulty_at place laid (λ next. layout.layout_after_lines next (place + 1) lines))
           (λ l. l ≡ in_order all)
       by (Err kind) is rest = tt
       by (Ok next) is rest =
           let same = placed_behind order place (words_of line) (places_of (place + 1) lines) in
-          subst (λ (l : Layout). IfOk (layout.after_lines l (place + 1) lines) (λ z. z ≡ in_order all)) (sym is)
+          subst (λ (l : Layout). IfOk (layout.layout_after_lines l (place + 1) lines) (λ z. z ≡ in_order all)) (sym is)
           (subst
-          (λ (o : List ℕ). IfOk (layout.after_lines (in_order grown) (place + 1) lines) (λ z. z ≡ in_order o)) same
+          (λ (o : List ℕ). IfOk (layout.layout_after_lines (in_order grown) (place + 1) lines) (λ z. z ≡ in_order o)) same
           rest)
 
 -- ---- what they say
@@ -98,17 +98,17 @@ words_said-plain [] = refl
 words_said-plain (word ∷ operands) = ap (λ (rest : List (List ℕ)). word ∷ rest) (no_constants operands)
 
 -- a line that has words says what it says as one of a program
-says_itself : (r : Reading) (words : List (List ℕ)) → verb_of words ≡ None
-    → after_said r (words_said [] words) (verb_of (words_said [] words)) ≡ program.after_words r words
+says_itself : (r : Reading) (words : List (List ℕ)) → phrase_verb_of words ≡ None
+    → after_said r (words_said [] words) (phrase_verb_of (words_said [] words)) ≡ program.reading_after_words r words
 says_itself r words none =
-    ap (λ (said : List (List ℕ)). after_said r said (verb_of said)) (words_said-plain words)
+    ap (λ (said : List (List ℕ)). after_said r said (phrase_verb_of said)) (words_said-plain words)
     ∙ ap (after_said r words) none
 
 -- lines one after another
 lines_say : (lines later : List (List ℕ)) (r : Reading) (place n : ℕ) → ArePlain later
     → ((k : ℕ) → slice_get lines (place + k) ≡ slice_get later k)
-    → IfOk (after_places lines [] r (places_of place later)) (λ r'. program.after_lines r n later ≡ Ok r')
-unfolding after_places
+    → IfOk (reading_after_places lines [] r (places_of place later)) (λ r'. program.reading_after_lines r n later ≡ Ok r')
+unfolding reading_after_places
 lines_say lines [] r place n are at = refl
 lines_say lines (line ∷ later) r place n are at =
     let next_at : (k : ℕ) → slice_get lines (place + 1 + k) ≡ slice_get later k =
@@ -117,38 +117,38 @@ lines_say lines (line ∷ later) r place n are at =
     by (λ r'. lines_say lines later r' (place + 1) (n + 1) are.1 next_at) (words_of line) are.0 refl where
       Rest : Type 0
       Rest = (r' : Reading)
-          → IfOk (after_places lines [] r' (places_of (place + 1) later))
-          (λ z. program.after_lines r' (n + 1) later ≡ Ok z)
+          → IfOk (reading_after_places lines [] r' (places_of (place + 1) later))
+          (λ z. program.reading_after_lines r' (n + 1) later ≡ Ok z)
 
       there : slice_get lines place ≡ Some line
       there =
           let e : place ≡ place + 0 = omega arith in
           ap (slice_get lines) e ∙ at 0
 
-      step : Rest → (words : List (List ℕ)) (q : Result Reading AsmKind) → program.after_words r words ≡ q
-          → IfOk (unless_faulty place (of_source q) (λ r'. after_places lines [] r' (places_of (place + 1) later)))
-          (λ z. program.unless_faulty n (program.after_words r words) (λ r'. program.after_lines r' (n + 1) later) ≡ Ok z)
+      step : Rest → (words : List (List ℕ)) (q : Result Reading AsmKind) → program.reading_after_words r words ≡ q
+          → IfOk (unless_faulty_at place (of_source q) (λ r'. reading_after_places lines [] r' (places_of (place + 1) later)))
+          (λ z. program.unless_faulty n (program.reading_after_words r words) (λ r'. program.reading_after_lines r' (n + 1) later) ≡ Ok z)
       step rest words (Err kind) e = tt
       step rest words (Ok r') e =
           subst
-          (λ (q : Result Reading AsmKind). IfOk (after_places lines [] r' (places_of (place + 1) later))
-          (λ z. program.unless_faulty n q (λ r''. program.after_lines r'' (n + 1) later) ≡ Ok z)) (sym e) (rest r')
+          (λ (q : Result Reading AsmKind). IfOk (reading_after_places lines [] r' (places_of (place + 1) later))
+          (λ z. program.unless_faulty n q (λ r''. program.reading_after_lines r'' (n + 1) later) ≡ Ok z)) (sym e) (rest r')
 
       by : Rest → (words : List (List ℕ)) → IsProgramLine words → words_of line ≡ words
-          → IfOk (after_places lines [] r (placed place words (places_of (place + 1) later)))
-          (λ z. program.unless_faulty n (program.after_words r words) (λ r'. program.after_lines r' (n + 1) later) ≡ Ok z)
+          → IfOk (reading_after_places lines [] r (placed place words (places_of (place + 1) later)))
+          (λ z. program.unless_faulty n (program.reading_after_words r words) (λ r'. program.reading_after_lines r' (n + 1) later) ≡ Ok z)
       by rest [] is e = rest r
       by rest (word ∷ operands) is e =
-          let said : after_line_at [] r (slice_get lines place) ≡ program.after_words r (word ∷ operands) =
+          let said : after_line_at [] r (slice_get lines place) ≡ program.reading_after_words r (word ∷ operands) =
           ap (after_line_at [] r) there
-          ∙ ap (λ (ws : List (List ℕ)). after_said r (words_said [] ws) (verb_of (words_said [] ws))) e
+          ∙ ap (λ (ws : List (List ℕ)). after_said r (words_said [] ws) (phrase_verb_of (words_said [] ws))) e
           ∙ says_itself r (word ∷ operands) is.3 in
           subst
           (λ (q : Result Reading AsmKind). IfOk
-          (unless_faulty place (of_source q) (λ r'. after_places lines [] r' (places_of (place + 1) later)))
-          (λ z. program.unless_faulty n (program.after_words r (word ∷ operands))
-          (λ r'. program.after_lines r' (n + 1) later) ≡ Ok z)) (sym said)
-          (step rest (word ∷ operands) (program.after_words r (word ∷ operands)) refl)
+          (unless_faulty_at place (of_source q) (λ r'. reading_after_places lines [] r' (places_of (place + 1) later)))
+          (λ z. program.unless_faulty n (program.reading_after_words r (word ∷ operands))
+          (λ r'. program.reading_after_lines r' (n + 1) later) ≡ Ok z)) (sym said)
+          (step rest (word ∷ operands) (program.reading_after_words r (word ∷ operands)) refl)
 
 -- ---- the whole source
 
@@ -165,14 +165,14 @@ pub source_is_program : (source : List ℕ) (p : ProgramText) → ArePlain (line
     → program_of source ≡ Ok p
 unfolding program_of meaning_of
 source_is_program source p are e =
-    by (layout.after_lines nothing_laid 0 (lines_of source)) (lines_laid [] 0 (lines_of source) are) e where
+    by (layout.layout_after_lines nothing_laid 0 (lines_of source)) (lines_laid [] 0 (lines_of source) are) e where
       by : (laid : Result Layout SourceFault) → IfOk laid (λ l. l ≡ in_order (places_of 0 (lines_of source)))
           → program_said (said_by (lines_of source) (all_closed laid)) ≡ Ok p
-          → program_read (program.after_lines nothing_read 1 (lines_of source)) ≡ Ok p
+          → program_read (program.reading_after_lines nothing_read 1 (lines_of source)) ≡ Ok p
       by (Err fault) is e = absurd cc
       by (Ok laid) is e =
-          read_as_said (after_places (lines_of source) [] nothing_read (places_of 0 (lines_of source)))
-          (program.after_lines nothing_read 1 (lines_of source)) p
+          read_as_said (reading_after_places (lines_of source) [] nothing_read (places_of 0 (lines_of source)))
+          (program.reading_after_lines nothing_read 1 (lines_of source)) p
           (lines_say (lines_of source) (lines_of source) nothing_read 0 1 are
           (λ k. (let z : 0 + k ≡ k = omega arith in ap (slice_get (lines_of source)) z)))
           (subst

@@ -12,7 +12,7 @@ use Rattle.cm_language.specs.declared.fault.AsmKind.TheVariants as kind
 use Rattle.cm_language.specs.declared.fault.MacroFault.{MacroFault}
 use Rattle.cm_language.specs.Lines.{◌>>=◌, operand_of, number_operand, direction_of, field_operand, one_field, two_fields}
 use Rattle.cm_language.specs.Names.{NamedField}
-use Rattle.cm_language.specs.Program.{MOST_ACTS, Reading, with_acts, after_words, unless_faulty}
+use Rattle.cm_language.specs.Program.{MOST_ACTS, Reading, with_acts, reading_after_words, unless_faulty}
 use Rattle.cm_language.specs.Whole.{AreProgramActs}
 use Rattle.cm_language.proofs.ProgramParts.{AreFields, are_fields, acts-append}
 use Rattle.cm_language.proofs.OperandsRead.{if_ok-then, any_ok, operand_ok, field_ok, one_field_ok, two_fields_ok}
@@ -24,9 +24,9 @@ use Rattle.cm_phrases.specs.Faults.{first_phrase_fault}
 use Rattle.cm_phrases.specs.Laws.{HasPhraseFields}
 use Rattle.cm_source.specs.declared.verb.PhraseVerb.{PhraseVerb}
 use Rattle.cm_source.specs.declared.verb.PhraseVerb.TheVariants as verb
-use Rattle.cm_source.specs.Says.{news_of, sum_of, tested_of, kept_of, phrase_with, phrase_of}
+use Rattle.cm_source.specs.Says.{news_of, sum_of, tested_of, keep_phrase, phrase_with, phrase_of}
 use Rattle.cm_source.specs.Expansion.{with_phrase}
-use Rattle.cm_meaning.specs.Meaning.{after_phrase, after_said}
+use Rattle.cm_meaning.specs.Meaning.{reading_after_phrase, after_said}
 use Rattle.cm_meaning.proofs.PhraseActs.{phrase_acts-program}
 
 -- ---- a phrase's fields
@@ -57,7 +57,7 @@ tested_ok fields _ are = tt
 
 -- those of `keep`
 kept_ok : (fields : List NamedField) (words : List (List ℕ)) → AreFields fields
-    → IfOk (kept_of fields words) HasPhraseFields
+    → IfOk (keep_phrase fields words) HasPhraseFields
 kept_ok fields (d ∷ f ∷ []) are =
     if_ok-then (field_operand fields d) _ IsField _ (field_ok fields d are) (λ d' fd.
     if_ok-then (operand_of 16 f) _ (λ n. n < 16) _ (operand_ok 16 f) (λ f' small. (fd, small)))
@@ -93,8 +93,8 @@ phrase_ok fields v (word ∷ operands) are = phrase_with_ok fields v operands ar
 -- ---- a line leaves a reading
 
 -- one of the program language
-pub line_ok : (r : Reading) (line : List ℕ) → IsReading r → IfOk (after_words r (words_of line)) IsReading
-line_ok r line is = by (after_words r (words_of line)) (after_lines_ok r 1 (line ∷ []) is) where
+pub line_ok : (r : Reading) (line : List ℕ) → IsReading r → IfOk (reading_after_words r (words_of line)) IsReading
+line_ok r line is = by (reading_after_words r (words_of line)) (after_lines_ok r 1 (line ∷ []) is) where
   by : (q : Result Reading AsmKind) → IfOk (unless_faulty 1 q (λ r'. Ok r')) IsReading → IfOk q IsReading
   by (Ok r') h = h
   by (Err kind) h = tt
@@ -144,11 +144,11 @@ pub said_ok : (r : Reading) (line : List ℕ) (asked : Option PhraseVerb) → Is
     → IfOk (after_said r (words_of line) asked) IsReading
 said_ok r line None is = line_ok r line is
 said_ok r line (Some asked) is =
-    if_ok-then (phrase_of r.fields asked (words_of line)) (after_phrase r) HasPhraseFields IsReading
+    if_ok-then (phrase_of r.fields asked (words_of line)) (reading_after_phrase r) HasPhraseFields IsReading
     (phrase_ok r.fields asked (words_of line) (are_fields [] r.fields is.fields))
     (λ said fields. phrase_left_ok r said (first_phrase_fault said r.context) is fields refl)
 
 -- ---- a phrase, unless the words had a fault
 
 abbrev pub then_phrase : Reading → Result Phrase AsmKind → Result Reading AsmKind
-then_phrase r said = said >>= after_phrase r
+then_phrase r said = said >>= reading_after_phrase r

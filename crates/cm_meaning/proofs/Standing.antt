@@ -24,7 +24,7 @@ use Rattle.cm_language.specs.Laws as language
 use Rattle.cm_language.specs.Lines.{◌>>=◌, verb_of, statement_of, definition_of}
 use Rattle.cm_language.specs.Places.{Says}
 use Rattle.cm_language.specs.Program.{MOST_ACTS, Reading, ProgramText, nothing_read, with_acts}
-use Rattle.cm_language.specs.Program.{with_macro, after_statement, after_definition, after_words, program_of}
+use Rattle.cm_language.specs.Program.{with_macro, after_statement, after_definition, reading_after_words, program_of}
 use Rattle.cm_language.proofs.ProgramParts.{are_fields}
 use Rattle.cm_language.proofs.OperandsRead.{IsSaid, if_ok-then, any_ok}
 use Rattle.cm_language.proofs.StatementsRead.{statement_ok}
@@ -38,9 +38,9 @@ use Rattle.cm_source.specs.declared.fault.SourceFault.{SourceFault}
 use Rattle.cm_source.specs.declared.verb.PhraseVerb.{PhraseVerb}
 use Rattle.cm_source.specs.Says as asked
 use Rattle.cm_source.specs.Says.{phrase_of}
-use Rattle.cm_source.specs.Layout.{of_source, unless_faulty, NamedNumber, layout_of}
+use Rattle.cm_source.specs.Layout.{of_source, unless_faulty_at, NamedNumber, layout_of}
 use Rattle.cm_source.specs.Expansion.{plain_line, with_phrase, expansion_of}
-use Rattle.cm_meaning.specs.Meaning.{words_said, after_phrase, after_said, after_line_at, after_places}
+use Rattle.cm_meaning.specs.Meaning.{words_said, reading_after_phrase, after_said, after_line_at, reading_after_places}
 use Rattle.cm_meaning.specs.Meaning.{said_by, program_said, meaning_of}
 use Rattle.cm_meaning.specs.Laws.{IsTextOf, IsCarriedOut, PhraseStandsAt, PhrasesStandInTheirProgram}
 use Rattle.cm_meaning.specs.Laws.{ExpansionsDoPhrases, SourcesMacrosStand}
@@ -84,7 +84,7 @@ statement_goes_on r (statement.Context c) = stays r (record { fields = r.fields;
 statement_goes_on r (statement.Macro m) = with_macro_goes_on r m (macro_faults.first_fault m r.context)
 statement_goes_on r (statement.Act a) = with_acts_goes_on r (a ∷ [])
 
-words_go_on : (r : Reading) (words : List (List ℕ)) → IfOk (after_words r words) (Continues r)
+words_go_on : (r : Reading) (words : List (List ℕ)) → IfOk (reading_after_words r words) (Continues r)
 words_go_on r [] = stays r r refl
 words_go_on r (word ∷ operands) = by (bytes_eq word (codes "field")) where
   by : (b : Bool)
@@ -110,7 +110,7 @@ said_goes_on : (r : Reading) (words : List (List ℕ)) (verb : Option PhraseVerb
     → IfOk (after_said r words verb) (Continues r)
 said_goes_on r words None = words_go_on r words
 said_goes_on r words (Some verb) =
-    if_ok-then (phrase_of r.fields verb words) (after_phrase r) (λ p. Unit {0}) _
+    if_ok-then (phrase_of r.fields verb words) (reading_after_phrase r) (λ p. Unit {0}) _
     (any_ok (phrase_of r.fields verb words))
     (λ phrase any. phrase_goes_on r phrase (first_phrase_fault phrase r.context))
 
@@ -118,7 +118,7 @@ line_goes_on : (constants : List NamedNumber) (r : Reading) (line : Option (List
     → IfOk (after_line_at constants r line) (Continues r)
 line_goes_on constants r None = stays r r refl
 line_goes_on constants r (Some line) =
-    said_goes_on r (words_said constants (words_of line)) (asked.verb_of (words_said constants (words_of line)))
+    said_goes_on r (words_said constants (words_of line)) (asked.phrase_verb_of (words_said constants (words_of line)))
 
 later_goes_on : (r r' : Reading) (q : Result Reading SourceFault) → Continues r r' → IfOk q (Continues r')
     → IfOk q (Continues r)
@@ -126,36 +126,36 @@ later_goes_on r r' (Ok z) h k = goes_on r r' z h k
 later_goes_on r r' (Err fault) h k = tt
 
 places_go_on : (lines : List (List ℕ)) (constants : List NamedNumber) (r : Reading) (order : List ℕ)
-    → IfOk (after_places lines constants r order) (Continues r)
-unfolding after_places
+    → IfOk (reading_after_places lines constants r order) (Continues r)
+unfolding reading_after_places
 places_go_on lines constants r [] = stays r r refl
 places_go_on lines constants r (place ∷ order) =
     by (after_line_at constants r (slice_get lines place)) (line_goes_on constants r (slice_get lines place))
     (λ r'. places_go_on lines constants r' order) where
       by : (q : Result Reading AsmKind) → IfOk q (Continues r)
-          → ((r' : Reading) → IfOk (after_places lines constants r' order) (Continues r'))
-          → IfOk (unless_faulty place (of_source q) (λ r'. after_places lines constants r' order)) (Continues r)
-      by (Ok r') h rest = later_goes_on r r' (after_places lines constants r' order) h (rest r')
+          → ((r' : Reading) → IfOk (reading_after_places lines constants r' order) (Continues r'))
+          → IfOk (unless_faulty_at place (of_source q) (λ r'. reading_after_places lines constants r' order)) (Continues r)
+      by (Ok r') h rest = later_goes_on r r' (reading_after_places lines constants r' order) h (rest r')
       by (Err fault) h rest = tt
 
 -- ---- lines in two parts
 
 -- the second part is carried out after what the first has said
 carried_on : (lines : List (List ℕ)) (constants : List NamedNumber) (r r' : Reading) (before after : List ℕ)
-    → after_places lines constants r before ≡ Ok r'
-    → after_places lines constants r (before ++ after) ≡ after_places lines constants r' after
-unfolding after_places
+    → reading_after_places lines constants r before ≡ Ok r'
+    → reading_after_places lines constants r (before ++ after) ≡ reading_after_places lines constants r' after
+unfolding reading_after_places
 carried_on lines constants r r' [] after e =
     let same : r ≡ r' = cc in
-    ap (λ (z : Reading). after_places lines constants z after) same
+    ap (λ (z : Reading). reading_after_places lines constants z after) same
 carried_on lines constants r r' (place ∷ before) after e =
     by (after_line_at constants r (slice_get lines place)) (λ z h. carried_on lines constants z r' before after h) e where
       by : (q : Result Reading AsmKind)
-          → ((z : Reading) → after_places lines constants z before ≡ Ok r'
-          → after_places lines constants z (before ++ after) ≡ after_places lines constants r' after)
-          → unless_faulty place (of_source q) (λ z. after_places lines constants z before) ≡ Ok r'
-          → unless_faulty place (of_source q) (λ z. after_places lines constants z (before ++ after))
-          ≡ after_places lines constants r' after
+          → ((z : Reading) → reading_after_places lines constants z before ≡ Ok r'
+          → reading_after_places lines constants z (before ++ after) ≡ reading_after_places lines constants r' after)
+          → unless_faulty_at place (of_source q) (λ z. reading_after_places lines constants z before) ≡ Ok r'
+          → unless_faulty_at place (of_source q) (λ z. reading_after_places lines constants z (before ++ after))
+          ≡ reading_after_places lines constants r' after
       by (Ok z) rest e = rest z e
       by (Err fault) rest e = absurd cc
 
@@ -202,19 +202,19 @@ place_ok constants r (line ∷ lines) zero is whole =
     let plain : List ℕ = plain_line constants 0 (words_of line) in
     let same : words_of plain ≡ words_said constants (words_of line) =
     words_of-plain_line constants 0 (words_of line) (words_quiet line whole.0) in
-    subst (λ (words : List (List ℕ)). IfOk (after_said r words (asked.verb_of words)) IsReading) same
-    (said_ok r plain (asked.verb_of (words_of plain)) is)
+    subst (λ (words : List (List ℕ)). IfOk (after_said r words (asked.phrase_verb_of words)) IsReading) same
+    (said_ok r plain (asked.phrase_verb_of (words_of plain)) is)
 
 places_ok : (lines : List (List ℕ)) (constants : List NamedNumber) (r : Reading) (order : List ℕ) → IsReading r
-    → AllByRecursion (AllByRecursion IsInLine) lines → IfOk (after_places lines constants r order) IsReading
-unfolding after_places
+    → AllByRecursion (AllByRecursion IsInLine) lines → IfOk (reading_after_places lines constants r order) IsReading
+unfolding reading_after_places
 places_ok lines constants r [] is whole = is
 places_ok lines constants r (place ∷ order) is whole =
     by (after_line_at constants r (slice_get lines place)) (place_ok constants r lines place is whole)
     (λ r' is'. places_ok lines constants r' order is' whole) where
       by : (q : Result Reading AsmKind) → IfOk q IsReading
-          → ((r' : Reading) → IsReading r' → IfOk (after_places lines constants r' order) IsReading)
-          → IfOk (unless_faulty place (of_source q) (λ r'. after_places lines constants r' order)) IsReading
+          → ((r' : Reading) → IsReading r' → IfOk (reading_after_places lines constants r' order) IsReading)
+          → IfOk (unless_faulty_at place (of_source q) (λ r'. reading_after_places lines constants r' order)) IsReading
       by (Ok r') h rest = rest r' h
       by (Err fault) h rest = tt
 
@@ -236,11 +236,11 @@ record IsFollowed (q : Result Reading AsmKind) (program : ProgramText) : Type 0 
 
 followed : (lines : List (List ℕ)) (constants : List NamedNumber) (place : ℕ) (after : List ℕ)
     (q : Result Reading AsmKind) (program : ProgramText)
-    → program_said (unless_faulty place (of_source q) (λ r'. after_places lines constants r' after)) ≡ Ok program
+    → program_said (unless_faulty_at place (of_source q) (λ r'. reading_after_places lines constants r' after)) ≡ Ok program
     → IsFollowed q program
 followed lines constants place after (Err kind) program e = absurd cc
 followed lines constants place after (Ok next) program e =
-    by (after_places lines constants next after) (places_go_on lines constants next after) e where
+    by (reading_after_places lines constants next after) (places_go_on lines constants next after) e where
       by : (rest : Result Reading SourceFault) → IfOk rest (Continues next) → program_said rest ≡ Ok program
           → IsFollowed (Ok next) program
       by (Ok last) on e =
@@ -251,24 +251,24 @@ followed lines constants place after (Ok next) program e =
 -- so was the line of these words
 carried_followed : (source text : List ℕ) (program : ProgramText) (r : Reading) (words : List (List ℕ))
     → expansion_of source ≡ Ok text → program_of text ≡ Ok program → IsCarriedOut source r words
-    → IsFollowed (after_said r words (asked.verb_of words)) program
-unfolding meaning_of after_places
+    → IsFollowed (after_said r words (asked.phrase_verb_of words)) program
+unfolding meaning_of reading_after_places
 carried_followed source text program r words e read it =
     let lines : List (List ℕ) = lines_of source in
     let constants : List NamedNumber = it.laid.constants in
     let of_text : IsTextOf source text = expansions_are_programs source text e in
     let same : of_text.program ≡ program = cc (of_text.read, read) in
-    let all : said_by lines (layout_of lines) ≡ after_places lines constants r (it.place ∷ it.after) =
-    ap (said_by lines) it.layout ∙ ap (after_places lines constants nothing_read) it.order
+    let all : said_by lines (layout_of lines) ≡ reading_after_places lines constants r (it.place ∷ it.after) =
+    ap (said_by lines) it.layout ∙ ap (reading_after_places lines constants nothing_read) it.order
     ∙ carried_on lines constants nothing_read r it.before (it.place ∷ it.after) it.read in
-    let line : after_line_at constants r (slice_get lines it.place) ≡ after_said r words (asked.verb_of words) =
+    let line : after_line_at constants r (slice_get lines it.place) ≡ after_said r words (asked.phrase_verb_of words) =
     ap (after_line_at constants r) it.there
-    ∙ ap (λ (said : List (List ℕ)). after_said r said (asked.verb_of said)) it.said in
-    followed lines constants it.place it.after (after_said r words (asked.verb_of words)) program
+    ∙ ap (λ (said : List (List ℕ)). after_said r said (asked.phrase_verb_of said)) it.said in
+    followed lines constants it.place it.after (after_said r words (asked.phrase_verb_of words)) program
     (sym
     (ap program_said (all
-    ∙ ap (λ (q : Result Reading AsmKind). unless_faulty it.place (of_source q)
-    (λ r'. after_places lines constants r' it.after)) line))
+    ∙ ap (λ (q : Result Reading AsmKind). unless_faulty_at it.place (of_source q)
+    (λ r'. reading_after_places lines constants r' it.after)) line))
     ∙ of_text.said ∙ ap (λ (p : ProgramText). Ok p) same)
 
 -- acts between others
@@ -281,9 +281,9 @@ between before acts more all is =
 
 pub phrases_stand_in_their_program : PhrasesStandInTheirProgram
 phrases_stand_in_their_program source text program r words phrase e read it says =
-    let on : IsFollowed (after_said r words (asked.verb_of words)) program =
+    let on : IsFollowed (after_said r words (asked.phrase_verb_of words)) program =
     carried_followed source text program r words e read it in
-    let line : after_said r words (asked.verb_of words) ≡ with_phrase r phrase (first_phrase_fault phrase r.context) =
+    let line : after_said r words (asked.phrase_verb_of words) ≡ with_phrase r phrase (first_phrase_fault phrase r.context) =
     ap (after_said r words) says.asks ∙ ap (then_phrase r) says.says in
     let taken : IsTaken r on.next phrase =
     phrase_taken r on.next phrase (first_phrase_fault phrase r.context) refl (sym line ∙ on.is) in
@@ -317,7 +317,7 @@ then_then (Ok a) f g = refl
 then_then (Err e) f g = refl
 
 read_as_macro : (r : Reading) (words : List (List ℕ)) (m : Macro) → Says r words m
-    → after_words r words ≡ with_macro r m (macro_faults.first_fault m r.context)
+    → reading_after_words r words ≡ with_macro r m (macro_faults.first_fault m r.context)
 read_as_macro r [] m says = elim says [ ]
 read_as_macro r (word ∷ operands) m says =
     rw says.0
@@ -337,9 +337,9 @@ macro_fields r (word ∷ operands) m is says =
 
 pub sources_macros_stand : SourcesMacrosStand
 sources_macros_stand source text program r words m e read it none says =
-    let on : IsFollowed (after_said r words (asked.verb_of words)) program =
+    let on : IsFollowed (after_said r words (asked.phrase_verb_of words)) program =
     carried_followed source text program r words e read it in
-    let line : after_said r words (asked.verb_of words)
+    let line : after_said r words (asked.phrase_verb_of words)
     ≡ with_macro r m (macro_faults.first_fault m r.context) =
     ap (after_said r words) none ∙ read_as_macro r words m says in
     let taken : MacroTaken r on.next m =

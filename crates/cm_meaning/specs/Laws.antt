@@ -18,10 +18,10 @@ use Rattle.cm_phrases.specs.Laws.{HasPhraseFields, machine_after_phrase}
 use Rattle.cm_source.specs.declared.fault.SourceKind.TheVariants.{TooLarge}
 use Rattle.cm_source.specs.declared.fault.SourceFault.{SourceFault}
 use Rattle.cm_source.specs.declared.verb.PhraseVerb.{PhraseVerb}
-use Rattle.cm_source.specs.Says.{verb_of, phrase_of}
+use Rattle.cm_source.specs.Says.{phrase_verb_of, phrase_of}
 use Rattle.cm_source.specs.Layout.{Layout, layout_of}
 use Rattle.cm_source.specs.Expansion.{expansion_of}
-use Rattle.cm_meaning.specs.Meaning.{words_said, after_places, meaning_of}
+use Rattle.cm_meaning.specs.Meaning.{words_said, reading_after_places, meaning_of}
 
 -- a source says a program, and a text is read as that
 pub record IsTextOf (source text : List ℕ) : Type 0 where
@@ -45,7 +45,7 @@ abbrev pub IsProgramLine : List (List ℕ) → Type 0
 IsProgramLine [] = Unit {0}
 IsProgramLine (word ∷ operands) =
     (bytes_eq word (codes "repeat") ≡ false) × (bytes_eq word (codes "end") ≡ false)
-    × (bytes_eq word (codes "constant") ≡ false) × (verb_of (word ∷ operands) ≡ None)
+    × (bytes_eq word (codes "constant") ≡ false) × (phrase_verb_of (word ∷ operands) ≡ None)
 
 -- a text without constants, repeated lines and phrases
 abbrev pub IsPlainSource : List ℕ → Type 0
@@ -67,14 +67,14 @@ pub record IsCarriedOut (source : List ℕ) (r : Reading) (words : List (List �
   pub line : List ℕ
   pub layout : layout_of (lines_of source) ≡ Ok laid
   pub order : laid.order ≡ before ++ place ∷ after
-  pub read : after_places (lines_of source) laid.constants nothing_read before ≡ Ok r
+  pub read : reading_after_places (lines_of source) laid.constants nothing_read before ≡ Ok r
   pub there : slice_get (lines_of source) place ≡ Some line
   pub said : words_said laid.constants (words_of line) ≡ words
 
 -- the words say this phrase
 pub record SaysPhrase (r : Reading) (words : List (List ℕ)) (phrase : Phrase) : Type 0 where
   pub verb : PhraseVerb
-  pub asks : verb_of words ≡ Some verb
+  pub asks : phrase_verb_of words ≡ Some verb
   pub says : phrase_of r.fields verb words ≡ Ok phrase
 
 -- the acts of a phrase that is not refused under this context stand in a list of acts, the first of them at this place
@@ -95,7 +95,7 @@ abbrev pub SourcesMacrosStand : Type 0
 SourcesMacrosStand =
     (source text : List ℕ) (program : ProgramText) (r : Reading) (words : List (List ℕ)) (m : Macro)
     → expansion_of source ≡ Ok text → program_of text ≡ Ok program → IsCarriedOut source r words
-    → verb_of words ≡ None → Says r words m → places.MacroStandsAt program.acts (length r.acts) m r.context
+    → phrase_verb_of words ≡ None → Says r words m → places.MacroStandsAt program.acts (length r.acts) m r.context
 
 -- so on every machine, run up to there, its acts do what it says in all processors at once
 abbrev pub ExpansionsDoPhrases : Type 0

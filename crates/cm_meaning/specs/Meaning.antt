@@ -3,13 +3,13 @@ use Rattle.std.specs.Prelude.{Option, Some, None, Result, Ok, Err, List, [], ◌
 use Rattle.cm_bits.specs.Text.{lines_of, words_of}
 use Rattle.cm_language.specs.declared.fault.AsmKind.{AsmKind}
 use Rattle.cm_language.specs.Lines.{◌>>=◌}
-use Rattle.cm_language.specs.Program.{Reading, ProgramText, nothing_read, after_words}
+use Rattle.cm_language.specs.Program.{Reading, ProgramText, nothing_read, reading_after_words}
 use Rattle.cm_phrases.specs.declared.phrase.Phrase.{Phrase}
 use Rattle.cm_phrases.specs.Faults.{first_phrase_fault}
 use Rattle.cm_source.specs.declared.fault.SourceFault.{SourceFault}
 use Rattle.cm_source.specs.declared.verb.PhraseVerb.{PhraseVerb}
-use Rattle.cm_source.specs.Says.{verb_of, phrase_of}
-use Rattle.cm_source.specs.Layout.{of_source, unless_faulty, NamedNumber, Layout, layout_of}
+use Rattle.cm_source.specs.Says.{phrase_verb_of, phrase_of}
+use Rattle.cm_source.specs.Layout.{of_source, unless_faulty_at, NamedNumber, Layout, layout_of}
 use Rattle.cm_source.specs.Expansion.{plain_word, with_phrase}
 
 -- the words of a line, with its constants' numbers in place of their names: the first word is none
@@ -18,33 +18,33 @@ words_said constants [] = []
 words_said constants (word ∷ operands) = word ∷ map (plain_word constants) operands
 
 -- the acts of a phrase, under the context that stands, are the next ones, unless it is refused
-abbrev pub after_phrase : Reading → Phrase → Result Reading AsmKind
-after_phrase r phrase = with_phrase r phrase (first_phrase_fault phrase r.context)
+abbrev pub reading_after_phrase : Reading → Phrase → Result Reading AsmKind
+reading_after_phrase r phrase = with_phrase r phrase (first_phrase_fault phrase r.context)
 
 -- after words that say a phrase, if they have this verb, or else what they say in the program language
 abbrev pub after_said : Reading → List (List ℕ) → Option PhraseVerb → Result Reading AsmKind
-after_said r words None = after_words r words
-after_said r words (Some verb) = phrase_of r.fields verb words >>= after_phrase r
+after_said r words None = reading_after_words r words
+after_said r words (Some verb) = phrase_of r.fields verb words >>= reading_after_phrase r
 
 -- after the words of one line more
-abbrev pub after_line : List NamedNumber → Reading → List (List ℕ) → Result Reading AsmKind
-after_line constants r words = after_said r (words_said constants words) (verb_of (words_said constants words))
+abbrev pub reading_after_said : List NamedNumber → Reading → List (List ℕ) → Result Reading AsmKind
+reading_after_said constants r words = after_said r (words_said constants words) (phrase_verb_of (words_said constants words))
 
 -- the same of the line at a place, if there is one
 abbrev pub after_line_at : List NamedNumber → Reading → Option (List ℕ) → Result Reading AsmKind
 after_line_at constants r None = Ok r
-after_line_at constants r (Some line) = after_line constants r (words_of line)
+after_line_at constants r (Some line) = reading_after_said constants r (words_of line)
 
 -- after the lines at these places, one after another, or the first that is faulty
-unfoldable pub after_places : List (List ℕ) → List NamedNumber → Reading → List ℕ → Result Reading SourceFault
-after_places lines constants r [] = Ok r
-after_places lines constants r (place ∷ places) =
-    unless_faulty place (of_source (after_line_at constants r (slice_get lines place)))
-    (λ r'. after_places lines constants r' places)
+unfoldable pub reading_after_places : List (List ℕ) → List NamedNumber → Reading → List ℕ → Result Reading SourceFault
+reading_after_places lines constants r [] = Ok r
+reading_after_places lines constants r (place ∷ places) =
+    unless_faulty_at place (of_source (after_line_at constants r (slice_get lines place)))
+    (λ r'. reading_after_places lines constants r' places)
 
 -- what lines that are laid out so have said
 abbrev pub said_by : List (List ℕ) → Result Layout SourceFault → Result Reading SourceFault
-said_by lines (Ok laid) = after_places lines laid.constants nothing_read laid.order
+said_by lines (Ok laid) = reading_after_places lines laid.constants nothing_read laid.order
 said_by lines (Err fault) = Err fault
 
 -- its fields in order of definition, and its acts

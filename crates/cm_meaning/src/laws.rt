@@ -4,7 +4,7 @@ ghost use Rattle.std.specs.Prelude.{◌≡◌, codes, None};
 ghost use Rattle.cm_bits.specs.Text.{words_of};
 ghost use Rattle.cm_bits.specs.declared.plane.Dir.TheVariants as dir;
 ghost use Rattle.cm_phrases.specs.declared.phrase.Phrase.TheVariants as phrase;
-ghost use Rattle.cm_source.specs.Says.{verb_of};
+ghost use Rattle.cm_source.specs.Says.{phrase_verb_of};
 ghost use Rattle.cm_meaning.specs.Laws.{ExpansionsArePrograms, FaultsAreOfPrograms, PlainSourcesArePrograms};
 ghost use Rattle.cm_meaning.specs.Laws.{PhrasesStandInTheirProgram, ExpansionsDoPhrases, SourcesMacrosStand};
 ghost use Rattle.cm_meaning.specs.SaidLines.{high, low, LineSays};
@@ -54,6 +54,6 @@ pub fn lines_say_phrases()
     ensures number { LineSays (codes "add a 5") (phrase.AddNumber low 5) }
     ensures test { LineSays (codes "test 3 b") (phrase.Test 3 high) }
     ensures keep { LineSays (codes "keep a 7") (phrase.Keep low 7) }
-    ensures sum { verb_of (words_of (codes "add a b")) ≡ None }
-    ensures no_phrase { verb_of (words_of (codes "set 3")) ≡ None }
+    ensures sum { phrase_verb_of (words_of (codes "add a b")) ≡ None }
+    ensures no_phrase { phrase_verb_of (words_of (codes "set 3")) ≡ None }
 {}

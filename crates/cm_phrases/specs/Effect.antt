@@ -10,7 +10,7 @@ use Rattle.cm_model.specs.Each.{each_from}
 use Rattle.cm_model.specs.Chip.{processor_at, no_processor}
 use Rattle.cm_model.specs.Array.{Chips, chip_at, processor_of}
 use Rattle.cm_language.specs.declared.macros.Context.{Context}
-use Rattle.cm_language.specs.Effect.{CARRY, selected, value_of, size, with_value, with_flag}
+use Rattle.cm_language.specs.Effect.{CARRY, selected, value_of, size, with_value, processor_with_flag}
 use Rattle.cm_phrases.specs.declared.phrase.Phrase.{Phrase}
 use Rattle.cm_phrases.specs.declared.phrase.Phrase.TheVariants.{News, Chain, And, Or, Xor, Not, AddNumber, Test, Keep}
 
@@ -50,15 +50,15 @@ with_bits field bits p = record {
 -- a processor after a phrase that was carried out in it, where this other sends to it: every right side is over the
 -- old values
 abbrev pub phrase_assigned : Phrase → Processor → Processor → Processor
-phrase_assigned (News d s dir) from p = with_flag NEWS (top_bit from s) (with_value d (value_of from s) p)
-phrase_assigned (Chain d s) from p = with_flag DAISY (top_bit from s) (with_value d (value_of from s) p)
+phrase_assigned (News d s dir) from p = processor_with_flag NEWS (top_bit from s) (with_value d (value_of from s) p)
+phrase_assigned (Chain d s) from p = processor_with_flag DAISY (top_bit from s) (with_value d (value_of from s) p)
 phrase_assigned (And d s) from p = with_bits d (λ i. bit_of p d i && bit_of p s i) p
 phrase_assigned (Or d s) from p = with_bits d (λ i. bit_of p d i || bit_of p s i) p
 phrase_assigned (Xor d s) from p = with_bits d (λ i. differ (bit_of p d i) (bit_of p s i)) p
 phrase_assigned (Not d) from p = with_bits d (λ i. not (bit_of p d i)) p
 phrase_assigned (AddNumber d v) from p =
-    with_flag CARRY (nat_le (size d) (value_of p d + v)) (with_value d ((value_of p d + v) % size d) p)
-phrase_assigned (Test f s) from p = with_flag f (not (value_of p s == 0)) p
+    processor_with_flag CARRY (nat_le (size d) (value_of p d + v)) (with_value d ((value_of p d + v) % size d) p)
+phrase_assigned (Test f s) from p = processor_with_flag f (not (value_of p s == 0)) p
 phrase_assigned (Keep d f) from p = with_value d (bit_number (flag p f)) p
 
 -- a processor after a phrase under a context, where this other sends to it

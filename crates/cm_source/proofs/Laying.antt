@@ -5,7 +5,7 @@ use Rattle.std.proofs.Common.{◌<◌, length, nat_lt, sym, ap, ◌∙◌, arith
 use Rattle.std.proofs.lemmas.Bool.Decides.{nat_tests}
 use Rattle.cm_bits.specs.Text.{words_of}
 use Rattle.cm_source.specs.declared.fault.SourceKind.{SourceKind}
-use Rattle.cm_source.specs.Layout.{Layout, MOST_LINES, times, after_words, after_lines, unless_faulty}
+use Rattle.cm_source.specs.Layout.{Layout, MOST_LINES, times, layout_after_words, layout_after_lines, unless_faulty_at}
 
 -- ---- lines that are repeated
 
@@ -43,11 +43,11 @@ many before places count =
 -- ---- one line more
 
 pub one_line : (laid : Layout) (place : ℕ) (line : List ℕ) (lines : List (List ℕ)) (q : Result Layout SourceKind)
-    → after_words laid place (words_of line) ≡ q
-    → after_lines laid place (line ∷ lines) ≡ unless_faulty place q (λ next. after_lines next (place + 1) lines)
-unfolding after_lines
+    → layout_after_words laid place (words_of line) ≡ q
+    → layout_after_lines laid place (line ∷ lines) ≡ unless_faulty_at place q (λ next. layout_after_lines next (place + 1) lines)
+unfolding layout_after_lines
 one_line laid place line lines q e =
-    ap (λ (r : Result Layout SourceKind). unless_faulty place r (λ next. after_lines next (place + 1) lines)) e
+    ap (λ (r : Result Layout SourceKind). unless_faulty_at place r (λ next. layout_after_lines next (place + 1) lines)) e
 
 -- a test that failed tells that they are too many
 pub too_many : (before places : List ℕ) (count : ℕ) (b : Bool) (n : ℕ) → n ≡ length before

@@ -24,9 +24,9 @@ of_source (Ok x) = Ok x
 of_source (Err kind) = Err (Asm kind)
 
 -- what comes after a line, the one at this place, unless it has a fault
-abbrev pub unless_faulty : {A B : Type 0} → ℕ → Result A SourceKind → (A → Result B SourceFault) → Result B SourceFault
-unless_faulty place (Ok x) after = after x
-unless_faulty place (Err kind) after = Err (record { line = place + 1; kind = kind })
+abbrev pub unless_faulty_at : {A B : Type 0} → ℕ → Result A SourceKind → (A → Result B SourceFault) → Result B SourceFault
+unless_faulty_at place (Ok x) after = after x
+unless_faulty_at place (Err kind) after = Err (record { line = place + 1; kind = kind })
 
 -- ---- constants
 
@@ -55,8 +55,8 @@ abbrev pub number_said : List NamedNumber → List ℕ → Option ℕ
 number_said constants word = first_of_both (number_named constants word) (number_of word)
 
 -- a name that is not taken, and no direction
-abbrev pub new_name : List NamedNumber → List ℕ → Result (List ℕ) AsmKind
-new_name constants word =
+abbrev pub new_constant_name : List NamedNumber → List ℕ → Result (List ℕ) AsmKind
+new_constant_name constants word =
     if not (is_name word) || is_ok (direction_of word) then Err asm.Name
     else (if is_some (number_named constants word) then Err asm.Twice else Ok word)
 
@@ -99,9 +99,9 @@ after_repeat laid place (count ∷ []) =
 after_repeat laid place _ = Err (Asm asm.Operands)
 
 -- the lines since the innermost `repeat` come as often as it says
-abbrev pub closed : Layout → List Opened → Result Layout SourceKind
-closed laid [] = Err NoRepeat
-closed laid (innermost ∷ opened) =
+abbrev pub repeat_closed : Layout → List Opened → Result Layout SourceKind
+repeat_closed laid [] = Err NoRepeat
+repeat_closed laid (innermost ∷ opened) =
     within_lines (record {
       constants = laid.constants;
       opened = opened;
@@ -110,13 +110,13 @@ closed laid (innermost ∷ opened) =
 
 -- `end`, by its operands
 abbrev pub after_end : Layout → List (List ℕ) → Result Layout SourceKind
-after_end laid [] = closed laid laid.opened
+after_end laid [] = repeat_closed laid laid.opened
 after_end laid (word ∷ words) = Err (Asm asm.Operands)
 
 -- `constant`, by its operands
 abbrev pub after_constant : Layout → List (List ℕ) → Result Layout SourceKind
 after_constant laid (name ∷ value ∷ []) =
-    of_source (new_name laid.constants name) >>= λ name'.
+    of_source (new_constant_name laid.constants name) >>= λ name'.
     of_source (ok_or (number_said laid.constants value) asm.Number) >>= λ number.
     Ok (record {
       constants = laid.constants ++ numbered name' number ∷ [];
@@ -131,19 +131,19 @@ after_other laid place =
     within_lines (record { constants = laid.constants; opened = laid.opened; order = laid.order ++ place ∷ [] })
 
 -- one line more, at this place, by its words
-abbrev pub after_words : Layout → ℕ → List (List ℕ) → Result Layout SourceKind
-after_words laid place [] = Ok laid
-after_words laid place (word ∷ operands) =
+abbrev pub layout_after_words : Layout → ℕ → List (List ℕ) → Result Layout SourceKind
+layout_after_words laid place [] = Ok laid
+layout_after_words laid place (word ∷ operands) =
     if bytes_eq word (codes "repeat") then after_repeat laid place operands
     else (if bytes_eq word (codes "end") then after_end laid operands
     else (if bytes_eq word (codes "constant") then after_constant laid operands
     else after_other laid place))
 
 -- after these lines, the first of them at this place
-unfoldable pub after_lines : Layout → ℕ → List (List ℕ) → Result Layout SourceFault
-after_lines laid place [] = Ok laid
-after_lines laid place (line ∷ lines) =
-    unless_faulty place (after_words laid place (words_of line)) (λ next. after_lines next (place + 1) lines)
+unfoldable pub layout_after_lines : Layout → ℕ → List (List ℕ) → Result Layout SourceFault
+layout_after_lines laid place [] = Ok laid
+layout_after_lines laid place (line ∷ lines) =
+    unless_faulty_at place (layout_after_words laid place (words_of line)) (λ next. layout_after_lines next (place + 1) lines)
 
 -- at the end no `repeat` is open
 abbrev pub unless_open : Layout → List Opened → Result Layout SourceFault
@@ -157,4 +157,4 @@ all_closed (Err fault) = Err fault
 
 -- what the lines of a source lay out
 abbrev pub layout_of : List (List ℕ) → Result Layout SourceFault
-layout_of lines = all_closed (after_lines nothing_laid 0 lines)
+layout_of lines = all_closed (layout_after_lines nothing_laid 0 lines)

@@ -32,9 +32,9 @@ verb_with word operands =
     else None))))))))
 
 -- what a line asks for that says a phrase
-abbrev pub verb_of : List (List ℕ) → Option PhraseVerb
-verb_of [] = None
-verb_of (word ∷ operands) = verb_with word operands
+abbrev pub phrase_verb_of : List (List ℕ) → Option PhraseVerb
+phrase_verb_of [] = None
+phrase_verb_of (word ∷ operands) = verb_with word operands
 
 -- the operands of `news`
 abbrev pub news_of : List NamedField → List (List ℕ) → Result Phrase AsmKind
@@ -56,10 +56,10 @@ tested_of fields (f ∷ s ∷ []) =
 tested_of fields _ = Err Operands
 
 -- the operands of `keep`
-abbrev pub kept_of : List NamedField → List (List ℕ) → Result Phrase AsmKind
-kept_of fields (d ∷ f ∷ []) =
+abbrev pub keep_phrase : List NamedField → List (List ℕ) → Result Phrase AsmKind
+keep_phrase fields (d ∷ f ∷ []) =
     field_operand fields d >>= λ d'. operand_of 16 f >>= λ f'. Ok (phrase.Keep d' f')
-kept_of fields _ = Err Operands
+keep_phrase fields _ = Err Operands
 
 -- the phrase of a verb and its operands
 abbrev pub phrase_with : List NamedField → PhraseVerb → List (List ℕ) → Result Phrase AsmKind
@@ -71,7 +71,7 @@ phrase_with fields verb.Xor operands = two_fields fields operands >>= λ both. O
 phrase_with fields verb.Not operands = one_field fields operands >>= λ d. Ok (phrase.Not d)
 phrase_with fields verb.AddNumber operands = sum_of fields operands
 phrase_with fields verb.Test operands = tested_of fields operands
-phrase_with fields verb.Keep operands = kept_of fields operands
+phrase_with fields verb.Keep operands = keep_phrase fields operands
 
 -- the phrase of a line, by its words
 abbrev pub phrase_of : List NamedField → PhraseVerb → List (List ℕ) → Result Phrase AsmKind

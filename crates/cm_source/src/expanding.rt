@@ -5,9 +5,10 @@ ghost use Rattle.std.specs.Prelude.{length};
 ghost use Rattle.cm_bits.specs.Text.{words_of};
 ghost use Rattle.cm_language.specs.declared.fault.AsmKind.TheVariants as asm;
 ghost use Rattle.cm_source.specs.declared.fault.SourceKind.TheVariants.{Asm};
-ghost use Rattle.cm_source.specs.Expansion.{nothing_out, after_line, after_phrase, after_plain, after_place};
+ghost use Rattle.cm_source.specs.Expansion.{nothing_out, expansion_after_line, expansion_after_phrase, after_plain};
+ghost use Rattle.cm_source.specs.Expansion.{expansion_after_place};
 ghost use Rattle.cm_source.specs.Expansion.{phrase_text, within_bytes};
-ghost use Rattle.cm_source.specs.Says.{verb_of};
+ghost use Rattle.cm_source.specs.Says.{phrase_verb_of};
 
 use crate::acts::acts_of;
 use crate::constants::Constants;
@@ -59,9 +60,9 @@ impl Expanding {
         line: &[u8],
     ) -> Result<(), SourceKind>
         requires within { place + 1 < 2 ^ 64 }
-        ensures ok { OnOk result (after_place constants.now self.old place line.now ≡ Ok self.new) }
+        ensures ok { OnOk result (expansion_after_place constants.now self.old place line.now ≡ Ok self.new) }
         ensures fault { IfErr result (λ kind. kind ≢ Asm asm.Memory
-            → after_place constants.now self.old place line.now ≡ Err kind) }
+            → expansion_after_place constants.now self.old place line.now ≡ Err kind) }
     {
         let mut plain = Vec::new(alloc);
         push_plain(&mut plain, constants, place, line)?;
@@ -71,9 +72,10 @@ impl Expanding {
     /// A line without constants.
     fn write_plain(&mut self, alloc: Global, place: usize, line: &[u8]) -> Result<(), SourceKind>
         requires within { place + 1 < 2 ^ 64 }
-        ensures ok { OnOk result (after_plain self.old place line.now (verb_of (words_of line.now)) ≡ Ok self.new) }
+        ensures ok { OnOk result (after_plain self.old place line.now (phrase_verb_of (words_of line.now))
+            ≡ Ok self.new) }
         ensures fault { IfErr result (λ kind. kind ≢ Asm asm.Memory
-            → after_plain self.old place line.now (verb_of (words_of line.now)) ≡ Err kind) }
+            → after_plain self.old place line.now (phrase_verb_of (words_of line.now)) ≡ Err kind) }
     {
         match verb_of(line) {
             Some(asked) => {
@@ -86,8 +88,9 @@ impl Expanding {
 
     /// A line of the program language.
     fn write_line(&mut self, alloc: Global, line: &[u8]) -> Result<(), SourceKind>
-        ensures ok { OnOk result (after_line self.old line.now ≡ Ok self.new) }
-        ensures fault { IfErr result (λ kind. kind ≢ Asm asm.Memory → after_line self.old line.now ≡ Err kind) }
+        ensures ok { OnOk result (expansion_after_line self.old line.now ≡ Ok self.new) }
+        ensures fault { IfErr result (λ kind. kind ≢ Asm asm.Memory → expansion_after_line self.old line.now
+            ≡ Err kind) }
     {
         match self.reader.read_line(alloc, line) {
             Ok(()) => {}
@@ -101,9 +104,9 @@ impl Expanding {
     /// A phrase: its acts come out.
     fn write_phrase(&mut self, alloc: Global, place: usize, said: &Phrase) -> Result<(), SourceKind>
         requires within { place + 1 < 2 ^ 64 }
-        ensures ok { OnOk result (after_phrase self.old place said.now ≡ Ok self.new) }
+        ensures ok { OnOk result (expansion_after_phrase self.old place said.now ≡ Ok self.new) }
         ensures fault { IfErr result (λ kind. kind ≢ Asm asm.Memory
-            → after_phrase self.old place said.now ≡ Err kind) }
+            → expansion_after_phrase self.old place said.now ≡ Err kind) }
     {
         let context = self.reader.context();
         if let Some(fault) = fault_of(said, &context) {

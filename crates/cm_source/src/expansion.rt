@@ -5,7 +5,7 @@ ghost use Rattle.cm_bits.specs.Text.{lines_of};
 ghost use Rattle.cm_language.specs.declared.fault.AsmKind.TheVariants as asm;
 ghost use Rattle.cm_source.specs.declared.fault.SourceKind.TheVariants.{Asm};
 ghost use Rattle.cm_source.specs.Layout.{layout_of};
-ghost use Rattle.cm_source.specs.Expansion.{nothing_out, after_places, expansion_of};
+ghost use Rattle.cm_source.specs.Expansion.{nothing_out, expansion_after_places, expansion_of};
 
 use crate::constants::Constants;
 use crate::expanding::Expanding;
@@ -78,9 +78,9 @@ fn carry_out(
     order: &[usize],
 ) -> Result<Expanding, SourceFault>
     ensures value { IfOk result (λ out.
-        after_places (map (λ line. line.now) lines.now) constants.now nothing_out order.now ≡ Ok out) }
+        expansion_after_places (map (λ line. line.now) lines.now) constants.now nothing_out order.now ≡ Ok out) }
     ensures refused { IfErr result (λ fault. fault.kind ≢ Asm asm.Memory
-        → after_places (map (λ line. line.now) lines.now) constants.now nothing_out order.now ≡ Err fault) }
+        → expansion_after_places (map (λ line. line.now) lines.now) constants.now nothing_out order.now ≡ Err fault) }
 {
     let mut out = Expanding::new(alloc);
     for place in order {

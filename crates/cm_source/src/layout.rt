@@ -6,7 +6,8 @@ ghost use Rattle.cm_bits.specs.Text.{words_left, words_of};
 ghost use Rattle.cm_language.specs.declared.fault.AsmKind.TheVariants as asm;
 ghost use Rattle.cm_source.specs.declared.fault.SourceKind.TheVariants.{Asm, TooMany};
 ghost use Rattle.cm_source.specs.Layout.{MOST_LINES, nothing_laid, times};
-ghost use Rattle.cm_source.specs.Layout.{after_repeat, after_end, after_constant, after_other, after_words, closed};
+ghost use Rattle.cm_source.specs.Layout.{after_repeat, after_end, after_constant, after_other, layout_after_words};
+ghost use Rattle.cm_source.specs.Layout.{repeat_closed};
 ghost use Rattle.cm_source.specs.Layout.{unless_open};
 
 use crate::constants::Constants;
@@ -68,9 +69,9 @@ impl Layout {
     /// One line more, at this place. After a fault the layout is not used again.
     pub fn read_line(&mut self, alloc: Global, place: usize, line: &[u8]) -> Result<(), SourceKind>
         requires within { place + 1 < 2 ^ 64 }
-        ensures ok { OnOk result (after_words self.old place (words_of line.now) ≡ Ok self.new) }
+        ensures ok { OnOk result (layout_after_words self.old place (words_of line.now) ≡ Ok self.new) }
         ensures fault { IfErr result (λ kind. kind ≢ Asm asm.Memory
-            → after_words self.old place (words_of line.now) ≡ Err kind) }
+            → layout_after_words self.old place (words_of line.now) ≡ Err kind) }
     {
         let mut words = Words::new(line);
         let Some(word) = words.next() else {
@@ -130,9 +131,9 @@ impl Layout {
 
     /// The lines since a `repeat` come as often as it says.
     fn repeat(&mut self, alloc: Global, innermost: &Opened) -> Result<(), SourceKind>
-        ensures ok { OnOk result (closed self.old (innermost.now ∷ self.old.opened) ≡ Ok self.new) }
+        ensures ok { OnOk result (repeat_closed self.old (innermost.now ∷ self.old.opened) ≡ Ok self.new) }
         ensures fault { IfErr result (λ kind. kind ≢ Asm asm.Memory
-            → closed self.old (innermost.now ∷ self.old.opened) ≡ Err kind) }
+            → repeat_closed self.old (innermost.now ∷ self.old.opened) ≡ Err kind) }
     {
         let repeated = lines_from(alloc, self.order.as_slice(), innermost.start)?;
         self.order.truncate(innermost.start);

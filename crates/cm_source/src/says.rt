@@ -3,7 +3,8 @@
 ghost use Rattle.std.specs.Prelude.{◌≡◌};
 ghost use Rattle.cm_bits.specs.Text.{words_left, words_of};
 ghost use Rattle.cm_language.specs.Lines.{operand_of, field_operand, one_field, two_fields};
-ghost use Rattle.cm_source.specs.Says.{adds_number, verb_of, news_of, sum_of, tested_of, kept_of, phrase_with};
+ghost use Rattle.cm_source.specs.Says.{adds_number, phrase_verb_of, news_of, sum_of, tested_of, keep_phrase};
+ghost use Rattle.cm_source.specs.Says.{phrase_with};
 ghost use Rattle.cm_source.specs.Says.{phrase_of};
 
 use crate::verb::PhraseVerb;
@@ -14,7 +15,7 @@ use cm_phrases::Phrase;
 
 /// What a line asks for, where it says a phrase.
 pub fn verb_of(line: &[u8]) -> Option<PhraseVerb>
-    ensures value { result ≡ verb_of (words_of line.now) }
+    ensures value { result ≡ phrase_verb_of (words_of line.now) }
 {
     let mut words = Words::new(line);
     let word = words.next()?;
@@ -135,7 +136,7 @@ fn read_tested(reader: &Reader, mut words: Words) -> Result<Phrase, AsmKind>
 
 /// The operands of `keep`.
 fn read_kept(reader: &Reader, mut words: Words) -> Result<Phrase, AsmKind>
-    ensures value { result ≡ kept_of reader.now.fields (words_left words.entry) }
+    ensures value { result ≡ keep_phrase reader.now.fields (words_left words.entry) }
 {
     let (Some(d), Some(flag), None) = (words.next(), words.next(), words.next()) else {
         return Err(AsmKind::Operands);

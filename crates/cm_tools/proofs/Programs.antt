@@ -18,7 +18,7 @@ use Rattle.cm_language.specs.declared.fault.AsmKind.TheVariants as kind
 use Rattle.cm_language.specs.declared.fault.AsmFault.{AsmFault}
 use Rattle.cm_language.specs.Lines.{◌>>=◌, nano_of}
 use Rattle.cm_language.specs.Program.{MOST_ACTS, Reading, within_length}
-use Rattle.cm_language.specs.Program.{with_acts, after_words, unless_faulty, after_lines}
+use Rattle.cm_language.specs.Program.{with_acts, reading_after_words, unless_faulty, reading_after_lines}
 use Rattle.cm_language.specs.Program.{after_statement}
 use Rattle.cm_language.specs.declared.statement.Statement.TheVariants as statement
 use Rattle.cm_tools.specs.Session.{CHIP_LIMIT}
@@ -88,12 +88,12 @@ nine_operands (a ∷ b ∷ c ∷ d ∷ f ∷ g ∷ h ∷ i ∷ j ∷ words) nano
 
 -- what a line of one chip's text says to the assembler
 abbrev IsSame : Reading → List (List ℕ) → Result (Option Nano) AsmKind → Type 0
-IsSame r words (Ok None) = after_words r words ≡ Ok r
-IsSame r words (Ok (Some nano)) = (after_words r words ≡ with_acts r (act.Nano nano ∷ [])) × (10 ≤ length words)
-IsSame r words (Err fault) = ¬ (fault ≡ kind.Word) → after_words r words ≡ Err fault
+IsSame r words (Ok None) = reading_after_words r words ≡ Ok r
+IsSame r words (Ok (Some nano)) = (reading_after_words r words ≡ with_acts r (act.Nano nano ∷ [])) × (10 ≤ length words)
+IsSame r words (Err fault) = ¬ (fault ≡ kind.Word) → reading_after_words r words ≡ Err fault
 
 with_nano : (r : Reading) (operands : List (List ℕ)) (read : Result Nano AsmKind) → nano_of operands ≡ read
-    → after_words r (codes "nano" ∷ operands) ≡ (read >>= λ nano. with_acts r (act.Nano nano ∷ []))
+    → reading_after_words r (codes "nano" ∷ operands) ≡ (read >>= λ nano. with_acts r (act.Nano nano ∷ []))
 with_nano r operands (Ok nano) e =
     ap (λ (q : Result Nano AsmKind). (q >>= λ nano. Ok (statement.Act (act.Nano nano))) >>= after_statement r) e
 with_nano r operands (Err fault) e =
@@ -129,12 +129,12 @@ within_length-few r few =
 
 -- what the assembler reads after these acts, where a session of one chip reads the lines so
 abbrev IsRead : ℕ → List Act → List (List ℕ) → Result (List Nano) AsmFault → Type 0
-IsRead n acts lines (Ok nanos) = after_lines (reading acts) n lines ≡ Ok (reading (acts ++ map act.Nano nanos))
-IsRead n acts lines (Err fault) = ¬ (fault.kind ≡ kind.Word) → after_lines (reading acts) n lines ≡ Err fault
+IsRead n acts lines (Ok nanos) = reading_after_lines (reading acts) n lines ≡ Ok (reading (acts ++ map act.Nano nanos))
+IsRead n acts lines (Err fault) = ¬ (fault.kind ≡ kind.Word) → reading_after_lines (reading acts) n lines ≡ Err fault
 
 -- a blank line more
 read_blank : (n : ℕ) (acts : List Act) (line : List ℕ) (lines : List (List ℕ)) (after : Result (List Nano) AsmFault)
-    → after_lines (reading acts) n (line ∷ lines) ≡ after_lines (reading acts) (n + 1) lines
+    → reading_after_lines (reading acts) n (line ∷ lines) ≡ reading_after_lines (reading acts) (n + 1) lines
     → IsRead (n + 1) acts lines after → IsRead n acts (line ∷ lines) after
 read_blank n acts line lines (Ok nanos) e h = e ∙ h
 read_blank n acts line lines (Err fault) e h = λ other. e ∙ h other
@@ -142,7 +142,7 @@ read_blank n acts line lines (Err fault) e h = λ other. e ∙ h other
 -- an instruction more
 read_instruction : (n : ℕ) (acts : List Act) (nano : Nano) (line : List ℕ) (lines : List (List ℕ))
     (after : Result (List Nano) AsmFault)
-    → after_lines (reading acts) n (line ∷ lines) ≡ after_lines (reading (acts ++ act.Nano nano ∷ [])) (n + 1) lines
+    → reading_after_lines (reading acts) n (line ∷ lines) ≡ reading_after_lines (reading (acts ++ act.Nano nano ∷ [])) (n + 1) lines
     → IsRead (n + 1) (acts ++ act.Nano nano ∷ []) lines after
     → IsRead n acts (line ∷ lines) (with_line n (Ok (Some nano)) after)
 read_instruction n acts nano line lines (Ok nanos) e h =
@@ -159,19 +159,19 @@ read_line : (n : ℕ) (acts : List Act) (line : List ℕ) (lines : List (List �
     → IsRead n acts (line ∷ lines) (with_line n first (nanos_of_lines (n + 1) lines))
 read_line n acts line lines fits rest (Ok None) same =
     read_blank n acts line lines (nanos_of_lines (n + 1) lines)
-    (ap (λ (q : Result Reading AsmKind). unless_faulty n q (λ r. after_lines r (n + 1) lines)) same)
+    (ap (λ (q : Result Reading AsmKind). unless_faulty n q (λ r. reading_after_lines r (n + 1) lines)) same)
     (rest acts (omega (arith, fits)))
 read_line n acts line lines fits rest (Ok (Some nano)) same =
     let longer : length (acts ++ act.Nano nano ∷ []) ≡ length acts + 1 = length-append acts (act.Nano nano ∷ []) in
     let fits' : Fits (acts ++ act.Nano nano ∷ []) lines = omega (arith, fits, longer, same.1, room-words_of line) in
     let few : length (acts ++ act.Nano nano ∷ []) ≤ MOST_ACTS = omega (arith, fits') in
-    let read : after_words (reading acts) (words_of line) ≡ Ok (reading (acts ++ act.Nano nano ∷ [])) =
+    let read : reading_after_words (reading acts) (words_of line) ≡ Ok (reading (acts ++ act.Nano nano ∷ [])) =
     same.0 ∙ within_length-few (reading (acts ++ act.Nano nano ∷ [])) few in
     read_instruction n acts nano line lines (nanos_of_lines (n + 1) lines)
-    (ap (λ (q : Result Reading AsmKind). unless_faulty n q (λ r. after_lines r (n + 1) lines)) read)
+    (ap (λ (q : Result Reading AsmKind). unless_faulty n q (λ r. reading_after_lines r (n + 1) lines)) read)
     (rest (acts ++ act.Nano nano ∷ []) fits')
 read_line n acts line lines fits rest (Err fault) same =
-    λ other. ap (λ (q : Result Reading AsmKind). unless_faulty n q (λ r. after_lines r (n + 1) lines)) (same other)
+    λ other. ap (λ (q : Result Reading AsmKind). unless_faulty n q (λ r. reading_after_lines r (n + 1) lines)) (same other)
 
 read_lines : (n : ℕ) (acts : List Act) (lines : List (List ℕ)) → Fits acts lines
     → IsRead n acts lines (nanos_of_lines n lines)

@@ -1,15 +1,15 @@
 use Rattle.std.proofs.Common.{◌≡◌, ℕ, Option, Ok, Err, sym, ap, ◌∙◌}
 use Rattle.cm_bits.specs.Text.{words_left, number_of}
-use Rattle.cm_figures.specs.Numbers.{one_more, after_words}
+use Rattle.cm_figures.specs.Numbers.{one_number_more, numbers_after_words}
 use Rattle.cm_figures.proofs.Texts.{after_one_word}
 use Rattle.cm_figures.proofs.numbers.push_words.Goals as goal
 
 pub loop-word-preserved : goal.loop-word-preserved
 loop-word-preserved c =
     let before = c.loop-word.numbers.items in
-    let step : one_more c.args.len c.args.count c.args.line before (number_of c.in-Some.word.now)
+    let step : one_number_more c.args.len c.args.count c.args.line before (number_of c.in-Some.word.now)
     ≡ Ok c.push_one.new.numbers.items =
-    ap (λ (o : Option ℕ). one_more c.args.len c.args.count c.args.line before o) (sym c.read_number.ensures)
+    ap (λ (o : Option ℕ). one_number_more c.args.len c.args.count c.args.line before o) (sym c.read_number.ensures)
     ∙ c.in-Ok.ensures.ok in
     sym (after_one_word c.args.len c.args.count c.args.line before c.in-Some.word.now (words_left c.next.new.self)
     (Ok c.push_one.new.numbers.items) step)
@@ -18,13 +18,13 @@ loop-word-preserved c =
 pub returns-in-Err-clause-err : goal.returns-in-Err-clause-err
 returns-in-Err-clause-err c = λ other.
     let before = c.loop-word.numbers.items in
-    let step : one_more c.args.len c.args.count c.args.line before (number_of c.in-Some.word.now) ≡ Err c.in-Err.fault =
-    ap (λ (o : Option ℕ). one_more c.args.len c.args.count c.args.line before o) (sym c.read_number.ensures)
+    let step : one_number_more c.args.len c.args.count c.args.line before (number_of c.in-Some.word.now) ≡ Err c.in-Err.fault =
+    ap (λ (o : Option ℕ). one_number_more c.args.len c.args.count c.args.line before o) (sym c.read_number.ensures)
     ∙ c.in-Err.ensures.err other in
     sym (rw c.in-Some.ensures.steps at c.loop-word.invariant)
     ∙ after_one_word c.args.len c.args.count c.args.line before c.in-Some.word.now (words_left c.next.new.self)
     (Err c.in-Err.fault) step
 
 pub returns-clause-ok : goal.returns-clause-ok
-unfolding after_words
+unfolding numbers_after_words
 returns-clause-ok c = sym (rw c.in-None.ensures.steps.0 at c.loop-word.invariant)

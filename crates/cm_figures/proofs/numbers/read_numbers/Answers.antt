@@ -2,7 +2,7 @@ use Rattle.std.proofs.Common.{◌≡◌, ℕ, ◌+◌, Bool, Ok, Err, length, re
 use Rattle.std.proofs.Common.{if◌then◌else◌}
 use Rattle.cm_bits.specs.Text.{lines_left, lines_of}
 use Rattle.cm_figures.specs.declared.numbers.NumbersFault.TheVariants.{TooFew}
-use Rattle.cm_figures.specs.Numbers.{after_lines}
+use Rattle.cm_figures.specs.Numbers.{numbers_after_lines}
 use Rattle.cm_figures.proofs.Counting.{few_lines}
 use Rattle.cm_figures.proofs.Texts.{after_one_line}
 use Rattle.cm_figures.proofs.numbers.read_numbers.Goals as goal
@@ -31,7 +31,7 @@ returns-in-Err-clause-refused c = λ other.
     c.in-Some.bytes.now (lines_left c.next.new.self) (Err c.in-Err.fault) (c.in-Err.ensures.err other)
 
 pub returns-then-len-count-clause-value : goal.returns-then-len-count-clause-value
-unfolding after_lines
+unfolding numbers_after_lines
 returns-then-len-count-clause-value c =
     let numbers = c.loop-bytes.numbers in
     sym (rw c.in-None.ensures.steps.0 at c.loop-bytes.invariant.read)
@@ -39,7 +39,7 @@ returns-then-len-count-clause-value c =
     (eq-eqb (length numbers.items) c.args.count (sym numbers.ok.0 ∙ sym c.len.ensures ∙ c.if-len-count.true))
 
 pub returns-else-len-count-clause-refused : goal.returns-else-len-count-clause-refused
-unfolding after_lines
+unfolding numbers_after_lines
 returns-else-len-count-clause-refused c = λ other.
     let numbers = c.loop-bytes.numbers in
     sym (rw c.in-None.ensures.steps.0 at c.loop-bytes.invariant.read)

@@ -4,7 +4,7 @@ use Rattle.cm_asm.proofs.Reading.{few_lines}
 use Rattle.cm_language.specs.declared.fault.AsmKind.TheVariants as kind
 use Rattle.cm_source.specs.declared.fault.SourceFault.{SourceFault}
 use Rattle.cm_source.specs.declared.fault.SourceKind.TheVariants.{Asm}
-use Rattle.cm_source.specs.Layout.{after_lines, all_closed, layout_of}
+use Rattle.cm_source.specs.Layout.{layout_after_lines, all_closed, layout_of}
 use Rattle.cm_source.proofs.Laying.{one_line, told_ok, told_err}
 use Rattle.cm_source.proofs.expansion.lay_out.Goals as goal
 
@@ -39,13 +39,13 @@ returns-in-Err-clause-refused c = λ other.
     ∙ ap (λ (f : SourceFault). Err f) (sym c.at.ensures.value)
 
 pub returns-clause-value : goal.returns-clause-value
-unfolding after_lines
+unfolding layout_after_lines
 returns-clause-value c =
     told_ok (layout_of (lines_of c.args.source.now)) c.all_closed.result
     (ap all_closed (sym (rw c.in-None.ensures.steps.0 at c.loop-line.invariant.laid)) ∙ sym c.all_closed.ensures.value)
 
 pub returns-clause-refused : goal.returns-clause-refused
-unfolding after_lines
+unfolding layout_after_lines
 returns-clause-refused c =
     told_err (layout_of (lines_of c.args.source.now)) c.all_closed.result
     (λ (f : SourceFault). f.kind ≢ Asm kind.Memory)
