@@ -30,7 +30,7 @@ use Rattle.cm_blocks.specs.Rounds.{is_vertical}
 use Rattle.cm_blocks.specs.Steps.{part_after, incoming_in, news_in}
 use Rattle.cm_blocks.proofs.Bands.{band as rows_in, size-band}
 use Rattle.cm_blocks.proofs.Cutting.{within-part, within-from, within-below}
-use Rattle.cm_news.specs.Bands.{AreRows, bits_of, bit_for}
+use Rattle.cm_news.specs.Bands.{AreWholeRows, edge_bits, bit_for}
 use Rattle.cm_news.specs.Moves.{at_edge}
 use Rattle.cm_router.specs.Logs.{Log}
 use Rattle.cm_router.specs.Routes.{routing_of}
@@ -78,14 +78,14 @@ over_news : (n first : ℕ) (nano : Nano) (s : Part) (sent edge : List ℕ) (c p
     → length sent ≡ s.count → c < 2 ^ n → p < 16
     → ((i q : ℕ) → i < s.count → q < 16
     → bit (get_or sent i 0) q ≡ flag_output nano (processor_at (chip_at s.chips i) q))
-    → bit_for n nano.dir s.first sent edge (record { chip = c; proc = p }) ≡ news_in n nano (Edge (bits_of edge)) s c p
+    → bit_for n nano.dir s.first sent edge (record { chip = c; proc = p }) ≡ news_in n nano (Edge (edge_bits edge)) s c p
 over_news n first nano s sent edge c p begin long there h are =
     let place : Place = record { chip = c; proc = p } in
     let from : Place = source n nano.dir place in
     let within : IsPlace n from =
     (neighbours_lead_back n (opposite nano.dir) place (record { chip = there; proc = h })).within in
     ap (λ (count : ℕ). if nat_le s.first from.chip && nat_lt from.chip (s.first + count)
-    then bit (get_or sent (from.chip - s.first) 0) from.proc else bit_in (Edge (bits_of edge)) (column_of n place)) long
+    then bit (get_or sent (from.chip - s.first) 0) from.proc else bit_in (Edge (edge_bits edge)) (column_of n place)) long
     ∙ ⊎_elim
     (λ (e : is_within s from.chip ≡ true). rw e (are (from.chip - s.first) from.proc
     (let low = within-from s from.chip e in let high = within-below s from.chip e in
@@ -107,17 +107,17 @@ along_chain_in n nano parcel s c p apart = rw (ne_eqb nano.write 10 apart) refl
 -- the bits that the code takes in over NEWS
 pub stepped_over_grid : (n : ℕ) (nano : Nano) (old new : Chips) (sent planes edge : List ℕ) → nano.write ≡ 10
     → length sent ≡ length old → AreSent nano old sent
-    → ((first i : ℕ) → AreRows n first → first + length sent ≤ 2 ^ n → i < length sent
+    → ((first i : ℕ) → AreWholeRows n first → first + length sent ≤ 2 ^ n → i < length sent
     → IsPlane (get_or planes i 0) (λ p. bit_for n nano.dir first sent edge (record { chip = first + i; proc = p })))
     → new ≡ each_from 0 (length old) (λ c. chip_after nano (bit (get_or planes c 0)) (chip_at old c))
     → IsStepped n nano edge old new
 stepped_over_grid n nano old new sent planes edge news long are came is routing cap first clock buffers logs rows fit =
     let s : Part = part_of routing first (length old) old buffers logs clock in
-    stepped routing n cap first clock nano (Edge (bits_of edge)) old new buffers logs (λ i. bit (get_or planes i 0)) is
+    stepped routing n cap first clock nano (Edge (edge_bits edge)) old new buffers logs (λ i. bit (get_or planes i 0)) is
     (λ i p l h. came first i rows (omega (arith, long, fit)) (omega (arith, long, l)) p h
     ∙ over_news n first nano s sent edge (first + i) p refl long (omega (arith, fit, l)) h
     (λ k q below small. are.each k below q small)
-    ∙ over_news_in n nano (Edge (bits_of edge)) s (first + i) p news)
+    ∙ over_news_in n nano (Edge (edge_bits edge)) s (first + i) p news)
 
 -- and along the chains
 pub stepped_apart : (n : ℕ) (nano : Nano) (old new : Chips) (edge : List ℕ) → nano.write ≢ 10
@@ -125,15 +125,15 @@ pub stepped_apart : (n : ℕ) (nano : Nano) (old new : Chips) (edge : List ℕ) 
     → IsStepped n nano edge old new
 stepped_apart n nano old new edge apart is routing cap first clock buffers logs rows fit =
     let s : Part = part_of routing first (length old) old buffers logs clock in
-    stepped routing n cap first clock nano (Edge (bits_of edge)) old new buffers logs
+    stepped routing n cap first clock nano (Edge (edge_bits edge)) old new buffers logs
     (λ i. along_chain nano (chip_at old i)) is
     (λ i p l h. ap (λ (k : ℕ). along_chain nano (chip_at old k) p) (let e : i ≡ first + i - first = omega arith in e)
-    ∙ along_chain_in n nano (Edge (bits_of edge)) s (first + i) p apart)
+    ∙ along_chain_in n nano (Edge (edge_bits edge)) s (first + i) p apart)
 
 -- ---- where the band is all chips
 
 -- these are whole rows
-pub all_rows : (n count : ℕ) → count ≡ 2 ^ n → AreRows n count
+pub all_rows : (n count : ℕ) → count ≡ 2 ^ n → AreWholeRows n count
 all_rows n count all = (
   rows_in n 0,
   all ∙ ap (λ (k : ℕ). 2 ^ k) (let e : n ≡ n - 0 = omega arith in e) ∙ size-band n 0 (omega arith),
@@ -161,7 +161,7 @@ pub all_stepped : (n : ℕ) (nano : Nano) (edge : List ℕ) (old new : Chips) �
 unfolding part_after after_nano
 all_stepped n nano edge old new all is =
     let s : Part = part_of plain_routing 0 (length old) old [] [] 0 in
-    let parcel : Parcel = Edge (bits_of edge) in
+    let parcel : Parcel = Edge (edge_bits edge) in
     ap (λ (after : Part). after.chips) (is plain_routing 0 0 0 [] [] (0, omega arith) (omega (arith, all)))
     ∙ ap (λ (k : ℕ). each_from 0 k (λ c. chip_after nano (incoming_in n nano parcel s c) (chip_in s c))) all
     ∙ same_each_below [] (2 ^ n) (λ c. chip_after nano (incoming_in n nano parcel s c) (chip_in s c))
@@ -174,13 +174,13 @@ all_stepped n nano edge old new all is =
 
 -- there are as many chips as before
 pub chips_stay : (n : ℕ) (nano : Nano) (edge : List ℕ) (old new : Chips) (first : ℕ) → IsStepped n nano edge old new
-    → AreRows n first → first + length old ≤ 2 ^ n → length new ≡ length old
+    → AreWholeRows n first → first + length old ≤ 2 ^ n → length new ≡ length old
 unfolding part_after
 chips_stay n nano edge old new first is rows fit =
     let s : Part = part_of plain_routing first (length old) old [] [] 0 in
     ap (λ (after : Part). length after.chips) (is plain_routing 0 first 0 [] [] rows fit)
     ∙ length-each_from first (length old)
-    (λ c. chip_after nano (incoming_in n nano (Edge (bits_of edge)) s c) (chip_in s c))
+    (λ c. chip_after nano (incoming_in n nano (Edge (edge_bits edge)) s c) (chip_in s c))
 
 module _ (dims room first : ℕ) (parts : Parts) (old : KeptPart) (nano : Nano) (edge : List ℕ) (run : Chips)
     (sent incoming : Vec ℕ) (view : kept_part dims room first parts ≡ old) (was : IsKeptPart dims room first parts)
@@ -192,11 +192,11 @@ module _ (dims room first : ℕ) (parts : Parts) (old : KeptPart) (nano : Nano) 
   as_many = chips_stay dims nano edge parts.run run first is here.first was.there
 
   pub kept_instructed : kept_part dims room first (record parts { run = run; sent = sent; incoming = incoming })
-      ≡ record old { part = part_after old.dims old.room (Instruct nano) (Edge (bits_of edge)) old.part }
+      ≡ record old { part = part_after old.dims old.room (Instruct nano) (Edge (edge_bits edge)) old.part }
   kept_instructed =
       let before = kept_part dims room first parts in
       subst (λ (k : KeptPart). kept_part dims room first (record parts { run = run; sent = sent; incoming = incoming })
-      ≡ record k { part = part_after k.dims k.room (Instruct nano) (Edge (bits_of edge)) k.part }) view
+      ≡ record k { part = part_after k.dims k.room (Instruct nano) (Edge (edge_bits edge)) k.part }) view
       (λ t. record {
         dims = dims;
         room = room;
@@ -237,7 +237,7 @@ edge_place : (n : ℕ) (dir : Dir) (s : Part) (column : ℕ) → is_vertical dir
     → place_at n (edge_row n dir s) column
     ≡ record { chip = s.first + (edge_from dir s.count (chip_columns n) + column / 4); proc = at_edge dir (column % 4) }
 edge_place n North s column vertical band = by band.first where
-  by : AreRows n s.first → place_at n (edge_row n North s) column
+  by : AreWholeRows n s.first → place_at n (edge_row n North s) column
       ≡ record {
         chip = s.first + (edge_from North s.count (chip_columns n) + column / 4);
         proc = at_edge North (column % 4);
@@ -255,7 +255,7 @@ edge_place n South s column vertical band = by band.first band.count where
   w : ℕ
   w = chip_columns n
 
-  by : AreRows n s.first → AreRows n s.count → place_at n (edge_row n South s) column
+  by : AreWholeRows n s.first → AreWholeRows n s.count → place_at n (edge_row n South s) column
       ≡ record { chip = s.first + (edge_from South s.count w + column / 4); proc = at_edge South (column % 4) }
   by (above, begin) (zero, size) = absurd (omega (arith, band.some, size))
   by (above, begin) (suc rows, size) =
@@ -284,7 +284,7 @@ at_edge-lt East i h = omega arith
 pub edge_due : (n cap : ℕ) (nano : Nano) (s : Part) (planes edge : List ℕ) → is_vertical nano.dir ≡ true → IsBand n s
     → length s.chips ≡ s.count → length planes ≡ s.count → length edge ≡ chip_columns n → AreSent nano s.chips planes
     → IsEdgeOf nano.dir planes edge → edge_from nano.dir s.count (chip_columns n) + chip_columns n ≤ s.count
-    → Edge (bits_of edge) ≡ due n cap (Instruct nano) s
+    → Edge (edge_bits edge) ≡ due n cap (Instruct nano) s
 unfolding due
 edge_due n cap nano s planes edge vertical band chips long wide sent is fit =
     let w : ℕ = chip_columns n in
@@ -308,7 +308,7 @@ edge_due n cap nano s planes edge vertical band chips long wide sent is fit =
 pub edge_inside : (n : ℕ) (dir : Dir) (s : Part) → IsBand n s
     → (chip_columns n ≤ s.count) × (edge_from dir s.count (chip_columns n) + chip_columns n ≤ s.count)
 edge_inside n dir s band = by band.count dir where
-  by : AreRows n s.count → (dir : Dir)
+  by : AreWholeRows n s.count → (dir : Dir)
       → (chip_columns n ≤ s.count) × (edge_from dir s.count (chip_columns n) + chip_columns n ≤ s.count)
   by (zero, size) dir = absurd (omega (arith, band.some, size))
   by (suc rows, size) dir =

@@ -13,15 +13,15 @@ use Rattle.cm_blocks.specs.Parts.{Part}
 use Rattle.cm_blocks.specs.Parcels.{Edge}
 use Rattle.cm_blocks.specs.Rounds.{is_vertical}
 use Rattle.cm_blocks.specs.Steps.{part_after}
-use Rattle.cm_news.specs.Bands.{AreRows, bits_of}
+use Rattle.cm_news.specs.Bands.{AreWholeRows, edge_bits}
 use Rattle.cm_news.specs.Moves.{at_edge}
 use Rattle.cm_router.specs.Logs.{Log}
 use Rattle.cm_petit.specs.Routers.{part_of}
 
 -- a part is whole rows of chips of a cube of n dimensions, and at least one
 pub record IsBand (n : ℕ) (s : Part) : Type 0 where
-  pub first : AreRows n s.first
-  pub count : AreRows n s.count
+  pub first : AreWholeRows n s.first
+  pub count : AreWholeRows n s.count
   pub some : 0 < s.count
 
 -- an instruction that takes in nothing from outside a part:
@@ -35,10 +35,10 @@ IsAlone n s nano = nano.write ≡ NEWS → IsTrue (is_vertical nano.dir) → s.c
 abbrev pub IsStepped : ℕ → Nano → List ℕ → Chips → Chips → Type 0
 IsStepped n nano edge old new =
     (routing : Routing) (cap first clock : ℕ) (buffers : List (List Message)) (logs : List Log)
-    → AreRows n first
+    → AreWholeRows n first
     → first + length old ≤ 2 ^ n
     → part_of routing first (length old) new buffers logs clock
-    ≡ part_after n cap (Instruct nano) (Edge (bits_of edge)) (part_of routing first (length old) old buffers logs clock)
+    ≡ part_after n cap (Instruct nano) (Edge (edge_bits edge)) (part_of routing first (length old) old buffers logs clock)
 
 -- of the planes of a band's chips, where the row of chips at an edge begins
 abbrev pub edge_from : Dir → ℕ → ℕ → ℕ

@@ -6,7 +6,7 @@ ghost use Rattle.cm_model.specs.Steps.{Instruct};
 ghost use Rattle.cm_blocks.specs.Rounds.{is_vertical};
 ghost use Rattle.cm_blocks.specs.Parcels.{Edge, due};
 ghost use Rattle.cm_blocks.specs.Steps.{part_after};
-ghost use Rattle.cm_news.specs.Bands.{bits_of};
+ghost use Rattle.cm_news.specs.Bands.{edge_bits};
 ghost use Rattle.cm_array.specs.Bands.{IsBand, IsAlone};
 
 use crate::part::Part;
@@ -20,7 +20,7 @@ impl Part {
         requires band { IsBand self.old.dims self.old.part }
         requires lanes { IsAlone self.old.dims self.old.part nano.now ⊎ length edge.now ≡ chip_columns self.old.dims }
         ensures value { self.new ≡ record self.old {
-          part = part_after self.old.dims self.old.room (Instruct nano.now) (Edge (bits_of edge.now)) self.old.part;
+          part = part_after self.old.dims self.old.room (Instruct nano.now) (Edge (edge_bits edge.now)) self.old.part;
         } }
     {
         step_in_band(
@@ -39,7 +39,7 @@ impl Part {
         requires band { IsBand self.old.dims self.old.part }
         requires vertical { IsTrue (is_vertical nano.now.dir) }
         requires lanes { length out.old ≡ chip_columns self.old.dims }
-        ensures value { Edge (bits_of out.new) ≡ due self.old.dims self.old.room (Instruct nano.now) self.old.part }
+        ensures value { Edge (edge_bits out.new) ≡ due self.old.dims self.old.room (Instruct nano.now) self.old.part }
         ensures within { (k : ℕ) → k < length out.new → slice_index out.new k < 16 }
         ensures others { self.new ≡ self.old }
     {

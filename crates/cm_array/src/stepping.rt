@@ -4,7 +4,7 @@ ghost use Rattle.std.specs.Prelude.{◌≡◌, ℕ, ◌+◌, ◌/◌, ◌^◌, �
 ghost use Rattle.cm_model.specs.Place.{chip_columns};
 ghost use Rattle.cm_model.specs.Processor.{NEWS};
 ghost use Rattle.cm_model.specs.Array.{after_nano};
-ghost use Rattle.cm_news.specs.Bands.{AreRows, is_open};
+ghost use Rattle.cm_news.specs.Bands.{AreWholeRows, is_open};
 ghost use Rattle.cm_array.specs.Bands.{IsStepped, edge_from, IsEdgeOf};
 
 use cm_bits::{Dir, FlagNo, Plane};
@@ -36,7 +36,7 @@ pub(crate) fn step_in_band(
     incoming: &mut [Plane],
 )
     requires dimension { dims ≤ 12 }
-    requires rows { AreRows dims (length run.old) }
+    requires rows { AreWholeRows dims (length run.old) }
     requires some { 0 < length run.old }
     requires edge { nano.now.write ≡ NEWS → IsTrue (is_open dims nano.now.dir (length run.old))
         → length edge.now ≡ chip_columns dims }
@@ -62,7 +62,7 @@ fn step_in_band_over_grid(
 )
     requires dimension { dims ≤ 12 }
     requires news { nano.now.write ≡ NEWS }
-    requires rows { AreRows dims (length run.old) }
+    requires rows { AreWholeRows dims (length run.old) }
     requires some { 0 < length run.old }
     requires edge { IsTrue (is_open dims nano.now.dir (length run.old)) → length edge.now ≡ chip_columns dims }
     requires sent_count { length sent.old ≡ length run.old }

@@ -4,9 +4,9 @@ use Rattle.std.proofs.Common.{sym, ap, ◌∙◌, subst, arith}
 use Rattle.cm_bits.specs.Bit.{bit}
 use Rattle.cm_model.specs.declared.act.Nano.{Nano}
 use Rattle.cm_rows.specs.declared.places.Places.{Places}
-use Rattle.cm_rows.specs.Rows.{stores, output, IsComputed}
+use Rattle.cm_rows.specs.Rows.{stores, plane_output, IsComputed}
 use Rattle.cm_element.specs.Laid.{IsRowPut, IsRowLaid}
-use Rattle.cm_element.specs.Sparse.{spread, AreSlots}
+use Rattle.cm_element.specs.Sparse.{spread, AreMemorySlots}
 use Rattle.cm_element.specs.Steps.{ArePlaces, IsStored}
 use Rattle.cm_element.proofs.Spreading.{IsChangedAt, get_or-spread, spread_changed}
 
@@ -22,7 +22,7 @@ word_of words slots stride address k at here below inside at_is here_is =
 -- an instruction over the rows in the slots of its addresses
 pub record IsInSlots (nano : Nano) (words slots : List ℕ) (capacity used stride count : ℕ) (at here : Places) : Type 0
   where
-    pub are : AreSlots words capacity slots used stride
+    pub are : AreMemorySlots words capacity slots used stride
     pub places : ArePlaces nano stride at
     pub few : count ≤ stride
     pub own : 0 < get_or slots nano.a 0
@@ -64,11 +64,11 @@ memory_computed nano words slots new flags capacity used stride count at here ta
       word : (k : ℕ) → k < count → (p : ℕ)
           → bit (get_or new (here.a + k) 0) p
           ≡ cond (stores always sense (bit (get_or flags (here.cond + k) 0) p))
-          (output table chained (get_or words (here.a + k) 0) (get_or words (here.b + k) 0)
+          (plane_output table chained (get_or words (here.a + k) 0) (get_or words (here.b + k) 0)
           (get_or flags (here.read + k) 0) p) (bit (get_or words (here.a + k) 0) p)
           → bit (get_or (spread new slots stride) (at.a + k) 0) p
           ≡ cond (stores always sense (bit (get_or flags (at.cond + k) 0) p))
-          (output table chained (get_or (spread words slots stride) (at.a + k) 0)
+          (plane_output table chained (get_or (spread words slots stride) (at.a + k) 0)
           (get_or (spread words slots stride) (at.b + k) 0)
           (get_or flags (at.read + k) 0) p) (bit (get_or (spread words slots stride) (at.a + k) 0) p)
       word k h p e =
@@ -81,7 +81,7 @@ memory_computed nano words slots new flags capacity used stride count at here ta
           (word_of new slots stride nano.a k at.a here.a is.places.a_below inside is.places.a is.a)
           ∙ e
           ∙ (λ j. cond (stores always sense (bit (get_or flags (is.cond j + k) 0) p))
-          (output table chained (a j) (b j) (get_or flags (is.read j + k) 0) p) (bit (a j) p))
+          (plane_output table chained (a j) (b j) (get_or flags (is.read j + k) 0) p) (bit (a j) p))
 
 -- and the flags
 pub flags_computed : (nano : Nano) (words slots flags flags_new : List ℕ) (capacity used stride count : ℕ)
@@ -98,11 +98,11 @@ flags_computed nano words slots flags flags_new capacity used stride count at he
       word : (k : ℕ) → k < count → (p : ℕ)
           → bit (get_or flags_new (here.write + k) 0) p
           ≡ cond (stores always sense (bit (get_or flags (here.cond + k) 0) p))
-          (output table chained (get_or words (here.a + k) 0) (get_or words (here.b + k) 0)
+          (plane_output table chained (get_or words (here.a + k) 0) (get_or words (here.b + k) 0)
           (get_or flags (here.read + k) 0) p) (bit (get_or flags (here.write + k) 0) p)
           → bit (get_or flags_new (at.write + k) 0) p
           ≡ cond (stores always sense (bit (get_or flags (at.cond + k) 0) p))
-          (output table chained (get_or (spread words slots stride) (at.a + k) 0)
+          (plane_output table chained (get_or (spread words slots stride) (at.a + k) 0)
           (get_or (spread words slots stride) (at.b + k) 0)
           (get_or flags (at.read + k) 0) p) (bit (get_or flags (at.write + k) 0) p)
       word k h p e =
@@ -114,7 +114,7 @@ flags_computed nano words slots flags flags_new capacity used stride count at he
           ap (λ (n : ℕ). bit (get_or flags_new (n + k) 0) p) (sym write)
           ∙ e
           ∙ (λ j. cond (stores always sense (bit (get_or flags (is.cond j + k) 0) p))
-          (output table chained (a j) (b j) (get_or flags (is.read j + k) 0) p)
+          (plane_output table chained (a j) (b j) (get_or flags (is.read j + k) 0) p)
           (bit (get_or flags (write j + k) 0) p))
 
 -- words of one row alone were stored
@@ -127,7 +127,7 @@ stored_changed start holds planes words new stored = record {
 
 -- planes that were stored in the row of an address
 pub row_stored : (words slots new holds planes : List ℕ) (capacity used stride address : ℕ)
-    → AreSlots words capacity slots used stride → address < 4096 → 0 < get_or slots address 0
+    → AreMemorySlots words capacity slots used stride → address < 4096 → 0 < get_or slots address 0
     → length planes ≤ stride → IsStored (get_or slots address 0 * stride) holds planes words new
     → IsStored (address * stride) holds planes (spread words slots stride) (spread new slots stride)
 row_stored words slots new holds planes capacity used stride address are below own few stored = record {
@@ -146,7 +146,7 @@ row_stored words slots new holds planes capacity used stride address are below o
 
 -- words that were put into the row of an address
 pub row_put : (words slots new : List ℕ) (word : ℕ → ℕ) (capacity used stride address first count place : ℕ)
-    → AreSlots words capacity slots used stride → address < 4096 → 0 < get_or slots address 0
+    → AreMemorySlots words capacity slots used stride → address < 4096 → 0 < get_or slots address 0
     → first + count ≤ stride → place ≡ get_or slots address 0 * stride + first
     → ((c : ℕ) → c < count → get_or new (place + c) 0 ≡ word c)
     → IsChangedAt (get_or slots address 0 * stride) first (first + count) words new
@@ -170,7 +170,7 @@ row_put words slots new word capacity used stride address first count place are 
 
 -- those of a list
 pub row_filled : (words slots new part : List ℕ) (capacity used stride address first count place : ℕ)
-    → AreSlots words capacity slots used stride → address < 4096 → 0 < get_or slots address 0
+    → AreMemorySlots words capacity slots used stride → address < 4096 → 0 < get_or slots address 0
     → first + count ≤ stride → place ≡ get_or slots address 0 * stride + first
     → ((c : ℕ) → c < count → get_or new (place + c) 0 ≡ get_or part c 0)
     → IsChangedAt (get_or slots address 0 * stride) first (first + count) words new

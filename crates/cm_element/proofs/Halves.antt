@@ -11,10 +11,10 @@ use Rattle.cm_element.specs.declared.wide_outputs.WideOutputs.{WideOutputs}
 use Rattle.cm_element.specs.Outputs.{AreOutputs}
 use Rattle.cm_element.specs.WideOutputs.{HaveRoomFor, AreWideOutputs}
 use Rattle.cm_element.specs.Planes.{chip_of}
-use Rattle.cm_element.specs.Runs.{column, chip_in, chips_of, AreRows}
+use Rattle.cm_element.specs.Runs.{chip_column, chip_of_rows, chips_of, AreRows}
 use Rattle.cm_element.specs.Steps.{ArePlaces, IsStored}
 use Rattle.cm_element.proofs.Storing.{stored_planes, flags-set, flags-kept}
-use Rattle.cm_element.proofs.Columns.{get_or-column, column-changed, chip_at-chips_of, length-chips_of, IsRowChanged}
+use Rattle.cm_element.proofs.Columns.{get_or-chip_column, chip_column-changed, chip_at-chips_of, length-chips_of, IsRowChanged}
 
 -- a row into which planes were stored
 pub row_stored_into : (first row stride chips : ℕ) (holds planes old new : List ℕ)
@@ -30,12 +30,12 @@ word_stored_into : (first row stride count c : ℕ) (holds planes old new : List
     → row < count → c < length planes
     → IsStored first holds planes old new
     → (p : ℕ) → bit (get_or new (row * stride + c) 0) p
-    ≡ cond (bit (get_or holds c 0) p) (bit (get_or planes c 0) p) (bit (get_or (column old stride count c) row 0) p)
+    ≡ cond (bit (get_or holds c 0) p) (bit (get_or planes c 0) p) (bit (get_or (chip_column old stride count c) row 0) p)
 word_stored_into first row stride count c holds planes old new first_is inside here stored p =
     let place : first + c ≡ row * stride + c = omega (arith, first_is) in
     ap (λ (i : ℕ). bit (get_or new i 0) p) (sym place) ∙ stored.each c here p
     ∙ ap (λ (w : ℕ). cond (bit (get_or holds c 0) p) (bit (get_or planes c 0) p) (bit w p))
-    (ap (λ (i : ℕ). get_or old i 0) place ∙ sym (get_or-column old stride count c row inside))
+    (ap (λ (i : ℕ). get_or old i 0) place ∙ sym (get_or-chip_column old stride count c row inside))
 
 -- what the chips computed, and their memory after it was stored
 pub record IsHalfStored (nano : Nano) (memory flags memory_new : List ℕ) (outputs : WideOutputs) (stride chips : ℕ)
@@ -58,22 +58,22 @@ outputs_of outputs c = record {
 chip_stored : (nano : Nano) (memory flags memory_new flags_new : List ℕ) (outputs : WideOutputs) (stride chips : ℕ)
     (at : Places) (incoming c : ℕ)
     → IsHalfStored nano memory flags memory_new outputs stride chips at → c < chips
-    → ((p : ℕ) → p < 16 → map (λ plane. bit plane p) (column flags_new stride 16 c)
+    → ((p : ℕ) → p < 16 → map (λ plane. bit plane p) (chip_column flags_new stride 16 c)
     ≡ cond (bit (get_or outputs.holds.items c 0) p)
     (flags_after nano (if takes_incoming nano then bit incoming p else bit (get_or outputs.flag.items c 0) p)
-    (map (λ plane. bit plane p) (column flags stride 16 c)))
-    (map (λ plane. bit plane p) (column flags stride 16 c)))
-    → chip_in memory_new flags_new stride c ≡ chip_after nano (bit incoming) (chip_in memory flags stride c)
+    (map (λ plane. bit plane p) (chip_column flags stride 16 c)))
+    (map (λ plane. bit plane p) (chip_column flags stride 16 c)))
+    → chip_of_rows memory_new flags_new stride c ≡ chip_after nano (bit incoming) (chip_of_rows memory flags stride c)
 chip_stored nano memory flags memory_new flags_new outputs stride chips at incoming c half here flags_are =
     let word : ℕ = get_or memory_new (nano.a * stride + c) 0 in
-    let computed : AreOutputs nano (chip_in memory flags stride c) (outputs_of outputs c) =
+    let computed : AreOutputs nano (chip_of_rows memory flags stride c) (outputs_of outputs c) =
     subst (λ chip. AreOutputs nano chip (outputs_of outputs c)) (chip_at-chips_of memory flags stride chips c here)
     (half.are.each c (omega (arith, here, length-chips_of memory flags stride chips))) in
-    ap (λ planes. chip_of planes (column flags_new stride 16 c))
-    (column-changed nano.a stride chips 4096 c memory memory_new half.rows.within here half.places.a_below
+    ap (λ planes. chip_of planes (chip_column flags_new stride 16 c))
+    (chip_column-changed nano.a stride chips 4096 c memory memory_new half.rows.within here half.places.a_below
     (row_stored_into at.a nano.a stride chips outputs.holds.items outputs.mem.items memory memory_new half.places.a
     half.room.mem half.stored))
-    ∙ stored_planes nano (column memory stride 4096 c) (column flags stride 16 c) (column flags_new stride 16 c)
+    ∙ stored_planes nano (chip_column memory stride 4096 c) (chip_column flags stride 16 c) (chip_column flags_new stride 16 c)
     (outputs_of outputs c) incoming word computed
     (word_stored_into at.a nano.a stride 4096 c outputs.holds.items outputs.mem.items memory memory_new half.places.a
     half.places.a_below (omega (arith, here, half.room.mem)) half.stored)
@@ -87,29 +87,29 @@ pub chip_flag_stored : (nano : Nano) (memory flags memory_new flags_new : List �
     → ((p : ℕ) → bit (get_or planes c 0) p
     ≡ (if takes_incoming nano then bit incoming p else bit (get_or outputs.flag.items c 0) p))
     → IsStored at.write outputs.holds.items planes flags flags_new
-    → chip_in memory_new flags_new stride c ≡ chip_after nano (bit incoming) (chip_in memory flags stride c)
+    → chip_of_rows memory_new flags_new stride c ≡ chip_after nano (bit incoming) (chip_of_rows memory flags stride c)
 chip_flag_stored nano memory flags memory_new flags_new outputs stride chips at incoming c planes half
     here other long are stored =
     chip_stored nano memory flags memory_new flags_new outputs stride chips at incoming c half here
     (λ p h. ap (λ ps. map (λ plane. bit plane p) ps)
-    (column-changed nano.write stride chips 16 c flags flags_new half.rows.within here half.places.write_below
+    (chip_column-changed nano.write stride chips 16 c flags flags_new half.rows.within here half.places.write_below
     (row_stored_into at.write nano.write stride chips outputs.holds.items planes flags flags_new
     half.places.write long stored))
-    ∙ flags-set nano (column flags stride 16 c) (get_or flags_new (nano.write * stride + c) 0) p
+    ∙ flags-set nano (chip_column flags stride 16 c) (get_or flags_new (nano.write * stride + c) 0) p
     (if takes_incoming nano then bit incoming p else bit (get_or outputs.flag.items c 0) p)
     (bit (get_or outputs.holds.items c 0) p) other
     (word_stored_into at.write nano.write stride 16 c outputs.holds.items planes flags flags_new half.places.write
     half.places.write_below (omega (arith, here, long)) stored p
     ∙ ap (λ (v : Bool). cond (bit (get_or outputs.holds.items c 0) p) v
-    (bit (get_or (column flags stride 16 c) nano.write 0) p)) (are p)))
+    (bit (get_or (chip_column flags stride 16 c) nano.write 0) p)) (are p)))
 
 -- where none was
 pub chip_flags_kept : (nano : Nano) (memory flags memory_new : List ℕ) (outputs : WideOutputs) (stride chips : ℕ)
     (at : Places) (incoming c : ℕ)
     → IsHalfStored nano memory flags memory_new outputs stride chips at → c < chips → (nano.write == 8) ≡ true
-    → chip_in memory_new flags stride c ≡ chip_after nano (bit incoming) (chip_in memory flags stride c)
+    → chip_of_rows memory_new flags stride c ≡ chip_after nano (bit incoming) (chip_of_rows memory flags stride c)
 chip_flags_kept nano memory flags memory_new outputs stride chips at incoming c half here zero_flag =
     chip_stored nano memory flags memory_new flags outputs stride chips at incoming c half here
-    (λ p h. flags-kept nano (map (λ plane. bit plane p) (column flags stride 16 c))
+    (λ p h. flags-kept nano (map (λ plane. bit plane p) (chip_column flags stride 16 c))
     (if takes_incoming nano then bit incoming p else bit (get_or outputs.flag.items c 0) p)
     (bit (get_or outputs.holds.items c 0) p) zero_flag)

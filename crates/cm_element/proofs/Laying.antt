@@ -10,7 +10,7 @@ use Rattle.cm_model.proofs.Each.{same_each_below, get_or-each_below, length-each
 use Rattle.cm_element.specs.declared.run.lay.Band.{Band}
 use Rattle.cm_element.specs.Laid.{AreLaid, ArePutRows, AreLaidRows}
 use Rattle.cm_element.specs.Planes.{chip_of}
-use Rattle.cm_element.specs.Runs.{column, chips_of, chip_beside, chips_beside, AreRows}
+use Rattle.cm_element.specs.Runs.{chip_column, chips_of, chip_beside, chips_beside, AreRows}
 use Rattle.cm_element.proofs.Columns.{next_row, chip_at-chips_of, length-chips_of}
 use Rattle.cm_element.proofs.Planes.{planes_are_whole}
 
@@ -108,20 +108,20 @@ others_more here row count first old new part wide put before i k inside out = �
 -- ---- chips
 
 -- the planes of a chip whose words were put into rows
-column-put : (here : Band) (rows count c : ℕ) (word : ℕ → ℕ → ℕ) (old new : List ℕ)
+chip_column-put : (here : Band) (rows count c : ℕ) (word : ℕ → ℕ → ℕ) (old new : List ℕ)
     → ArePutRows here rows count word old new → c < count
-    → column new here.stride rows (here.first + c) ≡ each_from 0 rows (λ i. word i c)
-unfolding column
-column-put here rows count c word old new put few =
+    → chip_column new here.stride rows (here.first + c) ≡ each_from 0 rows (λ i. word i c)
+unfolding chip_column
+chip_column-put here rows count c word old new put few =
     same_each_below 0 rows (λ i. get_or new (i * here.stride + (here.first + c)) 0) (λ i. word i c)
     (λ i h. put.laid i c h few)
 
 -- those of another
-column-others : (here : Band) (rows count k : ℕ) (word : ℕ → ℕ → ℕ) (old new : List ℕ)
+chip_column-others : (here : Band) (rows count k : ℕ) (word : ℕ → ℕ → ℕ) (old new : List ℕ)
     → ArePutRows here rows count word old new → k < here.stride
-    → (k < here.first) ⊎ (here.first + count ≤ k) → column new here.stride rows k ≡ column old here.stride rows k
-unfolding column
-column-others here rows count k word old new put inside beside =
+    → (k < here.first) ⊎ (here.first + count ≤ k) → chip_column new here.stride rows k ≡ chip_column old here.stride rows k
+unfolding chip_column
+chip_column-others here rows count k word old new put inside beside =
     same_each_below 0 rows (λ i. get_or new (i * here.stride + k) 0) (λ i. get_or old (i * here.stride + k) 0)
     (λ i h. put.others i k h inside beside)
 
@@ -143,8 +143,8 @@ other_chip : (here : Band) (count : ℕ) (memory flags memory_new flags_new : Li
 other_chip here count memory flags memory_new flags_new chips word flag_word is k beside = ⊎_elim
     (λ (h : k < chips). let few : chips ≤ here.stride = is.rows.within in let inside : k < here.stride = omega arith in
     chip_at-chips_of memory_new flags_new here.stride chips k h
-    ∙ (λ j. chip_of (column-others here 4096 count k word memory memory_new is.laid inside beside j)
-    (column-others here 16 count k flag_word flags flags_new is.flags_laid inside beside j))
+    ∙ (λ j. chip_of (chip_column-others here 4096 count k word memory memory_new is.laid inside beside j)
+    (chip_column-others here 16 count k flag_word flags flags_new is.flags_laid inside beside j))
     ∙ sym (chip_at-chips_of memory flags here.stride chips k h))
     (λ (h : chips ≤ k).
     get_or_past (chips_of memory_new flags_new here.stride chips)
@@ -165,8 +165,8 @@ chips_put here count memory flags memory_new flags_new chips word flag_word firs
   chips = length-chips_of memory_new flags_new here.stride chips ∙ sym (length-chips_of memory flags here.stride chips);
   laid = λ c few. let inside = is.inside in
       chip_at-chips_of memory_new flags_new here.stride chips (here.first + c) (omega arith)
-      ∙ (λ j. chip_of (column-put here 4096 count c word memory memory_new is.laid few j)
-      (column-put here 16 count c flag_word flags flags_new is.flags_laid few j))
+      ∙ (λ j. chip_of (chip_column-put here 4096 count c word memory memory_new is.laid few j)
+      (chip_column-put here 16 count c flag_word flags flags_new is.flags_laid few j))
       ∙ same c few;
   below = λ c h. other_chip here count memory flags memory_new flags_new chips word flag_word is c (inl h);
   above = λ c h. other_chip here count memory flags memory_new flags_new chips word flag_word is c (inr h);
@@ -226,7 +226,7 @@ pub chips_laid : (here there : Band) (count : ℕ) (memory flags memory_from fla
     → AreRunsLaid here there count memory flags memory_from flags_from memory_new flags_new chips chips_from
     → AreLaid here.first there.first count (chips_of memory_from flags_from there.stride chips_from)
     (chips_of memory flags here.stride chips) (chips_of memory_new flags_new here.stride chips)
-unfolding column
+unfolding chip_column
 chips_laid here there count memory flags memory_from flags_from memory_new flags_new chips chips_from is =
     chips_put here count memory flags memory_new flags_new chips
     (λ i c. get_or memory_from (i * there.stride + (there.first + c)) 0)

@@ -9,10 +9,10 @@ use Rattle.cm_bits.specs.Bit.{bit}
 use Rattle.cm_model.proofs.Bits.{bit-zero}
 use Rattle.cm_model.specs.Processor.{Processor}
 use Rattle.cm_model.specs.Chip.{IsPlane, with_memory_bit}
-use Rattle.cm_element.specs.Runs.{column, chips_of, AreRows}
-use Rattle.cm_element.specs.Sparse.{spread, AreSlots}
+use Rattle.cm_element.specs.Runs.{chip_column, chips_of, AreRows}
+use Rattle.cm_element.specs.Sparse.{spread, AreMemorySlots}
 use Rattle.cm_element.specs.Wide.{with_memory_field}
-use Rattle.cm_element.proofs.Columns.{length-chips_of, get_or-column, chip_at-chips_of, chip_is_whole}
+use Rattle.cm_element.proofs.Columns.{length-chips_of, get_or-chip_column, chip_at-chips_of, chip_is_whole}
 use Rattle.cm_element.proofs.Poking.{put_memory}
 use Rattle.cm_element.proofs.Replacing.{memory_set, no_bits_yet, one_more_in_run}
 use Rattle.cm_element.proofs.Spreading.{length-spread, get_or-spread, spread-set, spread-zero, zero_read}
@@ -25,17 +25,17 @@ pub memory_bit_put : (memory flags : List ℕ) (stride chips c p a word : ℕ) (
     → chips_of (set memory (a * stride + c) word) flags stride chips
     ≡ set (chips_of memory flags stride chips) c (with_memory_bit (get_or (chips_of memory flags stride chips) c []) p a b)
 memory_bit_put memory flags stride chips c p a word b rows here below p_below is =
-    let old : get_or memory (a * stride + c) 0 ≡ get_or (column memory stride 4096 c) a 0 =
-    sym (get_or-column memory stride 4096 c a below) in
+    let old : get_or memory (a * stride + c) 0 ≡ get_or (chip_column memory stride 4096 c) a 0 =
+    sym (get_or-chip_column memory stride 4096 c a below) in
     memory_set memory flags stride chips c a word (with_memory_bit (get_or (chips_of memory flags stride chips) c []) p a b)
     rows here below
-    (put_memory (column memory stride 4096 c) (column flags stride 16 c) p a word b p_below
+    (put_memory (chip_column memory stride 4096 c) (chip_column flags stride 16 c) p a word b p_below
     (λ q h. is q h ∙ ap (λ (w : ℕ). if q == p then b else bit w q) old)
     ∙ ap (λ v. with_memory_bit v p a b) (sym (chip_at-chips_of memory flags stride chips c here)))
 
 -- one bit where an address has a row of its own
 pub slot_bit_put : (words slots flags : List ℕ) (capacity used stride chips c p a index word : ℕ) (b : Bool)
-    → AreSlots words capacity slots used stride → AreRows (spread words slots stride) flags stride chips
+    → AreMemorySlots words capacity slots used stride → AreRows (spread words slots stride) flags stride chips
     → c < chips → a < 4096 → 0 < get_or slots a 0 → p < 16 → c < stride
     → index ≡ get_or slots a 0 * stride + c
     → IsPlane word (λ q. if q == p then b else bit (get_or words index 0) q)
@@ -53,7 +53,7 @@ slot_bit_put words slots flags capacity used stride chips c p a index word b are
 
 -- a 0 where it has none: all is as it was
 pub none_bit_put : (words slots flags : List ℕ) (capacity used stride chips c p a : ℕ)
-    → AreSlots words capacity slots used stride → AreRows (spread words slots stride) flags stride chips
+    → AreMemorySlots words capacity slots used stride → AreRows (spread words slots stride) flags stride chips
     → c < chips → a < 4096 → get_or slots a 0 ≡ 0 → p < 16 → c < stride
     → chips_of (spread words slots stride) flags stride chips
     ≡ set (chips_of (spread words slots stride) flags stride chips) c
@@ -81,8 +81,8 @@ still_rows words new slots flags stride chips rows = record {
 
 -- so many bits of a number stand in a field, once these rows are kept as they should be
 pub record ArePut (words slots : List ℕ) (stride c p at i number : ℕ) (new : List ℕ) : Type 0 where
-  pub kept : (capacity used : ℕ) → AreSlots words capacity slots used stride → AreSlots new capacity slots used stride
-  pub value : (capacity used : ℕ) → AreSlots words capacity slots used stride
+  pub kept : (capacity used : ℕ) → AreMemorySlots words capacity slots used stride → AreMemorySlots new capacity slots used stride
+  pub value : (capacity used : ℕ) → AreMemorySlots words capacity slots used stride
       → (flags : List ℕ) (chips : ℕ) → AreRows (spread words slots stride) flags stride chips → c < chips
       → chips_of (spread new slots stride) flags stride chips
       ≡ set (chips_of (spread words slots stride) flags stride chips) c
@@ -102,8 +102,8 @@ none_put words slots stride c p at number = record {
 pub one_more : (words slots : List ℕ) (stride c p at i number : ℕ) (now new : List ℕ)
     → ArePut words slots stride c p at i number now
     → p < 16 → at + i < 4096
-    → ((capacity used : ℕ) → AreSlots now capacity slots used stride → AreSlots new capacity slots used stride)
-    → ((capacity used : ℕ) → AreSlots now capacity slots used stride
+    → ((capacity used : ℕ) → AreMemorySlots now capacity slots used stride → AreMemorySlots new capacity slots used stride)
+    → ((capacity used : ℕ) → AreMemorySlots now capacity slots used stride
     → (flags : List ℕ) (chips : ℕ) → AreRows (spread now slots stride) flags stride chips → c < chips
     → chips_of (spread new slots stride) flags stride chips
     ≡ set (chips_of (spread now slots stride) flags stride chips) c

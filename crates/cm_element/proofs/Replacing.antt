@@ -14,9 +14,9 @@ use Rattle.cm_model.specs.Whole.{IsChip}
 use Rattle.cm_model.proofs.Each.{same_each_below, is_each}
 use Rattle.cm_model.proofs.Wholes.{length-bits_of}
 use Rattle.cm_element.specs.Planes.{chip_of}
-use Rattle.cm_element.specs.Runs.{column, chip_in, chips_of, AreRows}
+use Rattle.cm_element.specs.Runs.{chip_column, chip_of_rows, chips_of, AreRows}
 use Rattle.cm_element.specs.Wide.{with_memory_field}
-use Rattle.cm_element.proofs.Columns.{next_row, row_within, column-changed, chip_at-chips_of}
+use Rattle.cm_element.proofs.Columns.{next_row, row_within, chip_column-changed, chip_at-chips_of}
 use Rattle.cm_element.proofs.Columns.{length-chips_of, IsRowChanged}
 
 -- words of two chips are two
@@ -31,9 +31,9 @@ other_word i j stride c k here there other e = ⊎_elim
     (cases_lt i j)
 
 -- the planes of the chip whose word was set
-pub column-set : (rows : List ℕ) (stride count c row word : ℕ) → c < stride → row < count → length rows ≡ count * stride
-    → column (set rows (row * stride + c) word) stride count c ≡ set (column rows stride count c) row word
-column-set rows stride count c row word here inside long =
+pub chip_column-set : (rows : List ℕ) (stride count c row word : ℕ) → c < stride → row < count → length rows ≡ count * stride
+    → chip_column (set rows (row * stride + c) word) stride count c ≡ set (chip_column rows stride count c) row word
+chip_column-set rows stride count c row word here inside long =
     let within : row * stride + stride ≤ count * stride = row_within row count stride inside in
     let changed : IsRowChanged row stride stride rows (set rows (row * stride + c) word) = record {
       below = λ i h. let other : i ≢ row * stride + c = omega arith in
@@ -41,15 +41,15 @@ column-set rows stride count c row word here inside long =
       above = λ i h. let other : i ≢ row * stride + c = omega arith in
           get_or-set_other rows (row * stride + c) i word 0 other;
     } in
-    column-changed row stride stride count c rows (set rows (row * stride + c) word) (omega arith) here inside changed
-    ∙ ap (set (column rows stride count c) row)
+    chip_column-changed row stride stride count c rows (set rows (row * stride + c) word) (omega arith) here inside changed
+    ∙ ap (set (chip_column rows stride count c) row)
     (get_or-set_same rows (row * stride + c) word 0 (omega (arith, long, within)))
 
 -- those of the others
-pub column-set_other : (rows : List ℕ) (stride count c k row word : ℕ) → c < stride → k < stride → k ≢ c
-    → column (set rows (row * stride + c) word) stride count k ≡ column rows stride count k
-unfolding column
-column-set_other rows stride count c k row word here there other =
+pub chip_column-set_other : (rows : List ℕ) (stride count c k row word : ℕ) → c < stride → k < stride → k ≢ c
+    → chip_column (set rows (row * stride + c) word) stride count k ≡ chip_column rows stride count k
+unfolding chip_column
+chip_column-set_other rows stride count c k row word here there other =
     same_each_below 0 count (λ i. get_or (set rows (row * stride + c) word) (i * stride + k) 0)
     (λ i. get_or rows (i * stride + k) 0)
     (λ i h. get_or-set_other rows (row * stride + c) (i * stride + k) word 0
@@ -57,14 +57,14 @@ column-set_other rows stride count c k row word here there other =
 
 -- the chips with another one in the place of one
 pub chip_replaced : (memory flags memory_new flags_new : List ℕ) (stride chips c : ℕ) (chip : List Processor)
-    → c < chips → chip_in memory_new flags_new stride c ≡ chip
-    → ((k : ℕ) → k < chips → k ≢ c → chip_in memory_new flags_new stride k ≡ chip_in memory flags stride k)
+    → c < chips → chip_of_rows memory_new flags_new stride c ≡ chip
+    → ((k : ℕ) → k < chips → k ≢ c → chip_of_rows memory_new flags_new stride k ≡ chip_of_rows memory flags stride k)
     → chips_of memory_new flags_new stride chips ≡ set (chips_of memory flags stride chips) c chip
 unfolding chips_of
 chip_replaced memory flags memory_new flags_new stride chips c chip here is others =
     let long : length (chips_of memory flags stride chips) ≡ chips = length-chips_of memory flags stride chips in
     let inside : c < length (chips_of memory flags stride chips) = omega (arith, here, long) in
-    sym (is_each [] chips (chip_in memory_new flags_new stride) (set (chips_of memory flags stride chips) c chip)
+    sym (is_each [] chips (chip_of_rows memory_new flags_new stride) (set (chips_of memory flags stride chips) c chip)
     (length-set (chips_of memory flags stride chips) c chip ∙ long)
     (λ k h. ⊎_elim
     (λ (e : (k == c) ≡ true). let same : k ≡ c = eqb-true k c e in
@@ -77,28 +77,28 @@ chip_replaced memory flags memory_new flags_new stride chips c chip here is othe
 -- a word of memory was set, which makes this chip
 pub memory_set : (memory flags : List ℕ) (stride chips c row word : ℕ) (chip : List Processor)
     → AreRows memory flags stride chips → c < chips → row < 4096
-    → chip_of (set (column memory stride 4096 c) row word) (column flags stride 16 c) ≡ chip
+    → chip_of (set (chip_column memory stride 4096 c) row word) (chip_column flags stride 16 c) ≡ chip
     → chips_of (set memory (row * stride + c) word) flags stride chips ≡ set (chips_of memory flags stride chips) c chip
 memory_set memory flags stride chips c row word chip rows here inside is =
     let within : chips ≤ stride = rows.within in
     chip_replaced memory flags (set memory (row * stride + c) word) flags stride chips c chip here
-    (ap (λ planes. chip_of planes (column flags stride 16 c))
-    (column-set memory stride 4096 c row word (omega arith) inside rows.memory_words) ∙ is)
-    (λ k h other. ap (λ planes. chip_of planes (column flags stride 16 k))
-    (column-set_other memory stride 4096 c k row word (omega arith) (omega arith) other))
+    (ap (λ planes. chip_of planes (chip_column flags stride 16 c))
+    (chip_column-set memory stride 4096 c row word (omega arith) inside rows.memory_words) ∙ is)
+    (λ k h other. ap (λ planes. chip_of planes (chip_column flags stride 16 k))
+    (chip_column-set_other memory stride 4096 c k row word (omega arith) (omega arith) other))
 
 -- a word of the flags
 pub flags_set : (memory flags : List ℕ) (stride chips c row word : ℕ) (chip : List Processor)
     → AreRows memory flags stride chips → c < chips → row < 16
-    → chip_of (column memory stride 4096 c) (set (column flags stride 16 c) row word) ≡ chip
+    → chip_of (chip_column memory stride 4096 c) (set (chip_column flags stride 16 c) row word) ≡ chip
     → chips_of memory (set flags (row * stride + c) word) stride chips ≡ set (chips_of memory flags stride chips) c chip
 flags_set memory flags stride chips c row word chip rows here inside is =
     let within : chips ≤ stride = rows.within in
     chip_replaced memory flags memory (set flags (row * stride + c) word) stride chips c chip here
-    (ap (chip_of (column memory stride 4096 c))
-    (column-set flags stride 16 c row word (omega arith) inside rows.flag_words) ∙ is)
-    (λ k h other. ap (chip_of (column memory stride 4096 k))
-    (column-set_other flags stride 16 c k row word (omega arith) (omega arith) other))
+    (ap (chip_of (chip_column memory stride 4096 c))
+    (chip_column-set flags stride 16 c row word (omega arith) inside rows.flag_words) ∙ is)
+    (λ k h other. ap (chip_of (chip_column memory stride 4096 k))
+    (chip_column-set_other flags stride 16 c k row word (omega arith) (omega arith) other))
 
 -- a word of another row than that of flag ZERO leaves the rows as they are to be
 pub flags_set_rows : (memory flags : List ℕ) (stride chips c row word : ℕ)

@@ -8,7 +8,7 @@ use Rattle.std.proofs.lemmas.Nat.{mul-le, div-mul-add, mod-mul-add, div-add-mod'
 use Rattle.std.proofs.lemmas.List.{get_or_past, set-get_or}
 use Rattle.std.proofs.lemmas.Simd.{length-replicate}
 use Rattle.cm_model.proofs.Each.{get_or-each_below, length-each_from, same_each_below}
-use Rattle.cm_element.specs.Sparse.{spread, in_use, AreSlots}
+use Rattle.cm_element.specs.Sparse.{spread, in_use, AreMemorySlots}
 use Rattle.cm_element.proofs.Columns.{next_row, row_within, get_or-zeros}
 
 -- ---- all rows
@@ -69,7 +69,7 @@ pub record IsChangedAt (start low high : ℕ) (old new : List ℕ) : Type 0 wher
 
 -- two rows of which one is in use have no word in common
 other_row : (words slots : List ℕ) (capacity used stride i a low high c : ℕ) (new : List ℕ)
-    → AreSlots words capacity slots used stride → high ≤ stride → a < 4096 → 0 < get_or slots a 0 → i < 4096 → i ≢ a
+    → AreMemorySlots words capacity slots used stride → high ≤ stride → a < 4096 → 0 < get_or slots a 0 → i < 4096 → i ≢ a
     → c < stride → IsChangedAt (get_or slots a 0 * stride) low high words new
     → get_or new (get_or slots i 0 * stride + c) 0 ≡ get_or words (get_or slots i 0 * stride + c) 0
 other_row words slots capacity used stride i a low high c new are few a_below own i_below other here changed =
@@ -88,7 +88,7 @@ other_row words slots capacity used stride i a low high c new are few a_below ow
 
 -- then only those words of the address were changed
 pub spread_changed : (words slots : List ℕ) (capacity used stride a low high : ℕ) (new : List ℕ)
-    → AreSlots words capacity slots used stride → high ≤ stride → a < 4096 → 0 < get_or slots a 0
+    → AreMemorySlots words capacity slots used stride → high ≤ stride → a < 4096 → 0 < get_or slots a 0
     → IsChangedAt (get_or slots a 0 * stride) low high words new
     → (k : ℕ) → (k < a * stride + low) ⊎ (a * stride + high ≤ k)
     → get_or (spread new slots stride) k 0 ≡ get_or (spread words slots stride) k 0
@@ -132,9 +132,9 @@ spread_changed words slots capacity used stride a low high new are few a_below o
 
 -- and the slots are as they were
 pub slots_kept : (words slots : List ℕ) (capacity used stride a low high : ℕ) (new : List ℕ) (capacity_new : ℕ)
-    → AreSlots words capacity slots used stride → high ≤ stride → a < 4096 → 0 < get_or slots a 0
+    → AreMemorySlots words capacity slots used stride → high ≤ stride → a < 4096 → 0 < get_or slots a 0
     → IsChangedAt (get_or slots a 0 * stride) low high words new → length new ≡ length words → capacity ≤ capacity_new
-    → AreSlots new capacity_new slots used stride
+    → AreMemorySlots new capacity_new slots used stride
 slots_kept words slots capacity used stride a low high new capacity_new are few a_below own changed long more =
     let room : 4097 * stride ≤ capacity = are.room in
     let first : 1 * stride ≤ get_or slots a 0 * stride = mul-le 1 stride (get_or slots a 0) stride own (omega arith) in
@@ -175,7 +175,7 @@ none_in_use (suc s ∷ slots) i is = absurd (omega (arith, is))
 none_in_use (zero ∷ slots) (suc i) is = none_in_use slots i is
 
 -- where an address has no row, one is left
-pub one_left : (words slots : List ℕ) (capacity used stride a : ℕ) → AreSlots words capacity slots used stride
+pub one_left : (words slots : List ℕ) (capacity used stride a : ℕ) → AreMemorySlots words capacity slots used stride
     → a < 4096 → get_or slots a 0 ≡ 0 → used ≤ 4096
 one_left words slots capacity used stride a are below none =
     omega (
@@ -195,7 +195,7 @@ pub record IsRowAdded (used stride : ℕ) (old new : List ℕ) : Type 0 where
 
 -- the address reads zeros, as before, and the others what they read
 pub spread-added : (words slots : List ℕ) (capacity used stride a : ℕ) (new : List ℕ)
-    → AreSlots words capacity slots used stride → a < 4096 → get_or slots a 0 ≡ 0 → IsRowAdded used stride words new
+    → AreMemorySlots words capacity slots used stride → a < 4096 → get_or slots a 0 ≡ 0 → IsRowAdded used stride words new
     → spread new (set slots a used) stride ≡ spread words slots stride
 spread-added words slots capacity used stride a new are below none added =
     same_spread words slots new (set slots a used) stride (λ i c i_below here. word i c i_below here) where
@@ -240,8 +240,8 @@ same_or_not i j = ⊎_elim
     (cases_lt i j)
 
 pub slots_added : (words slots : List ℕ) (capacity used stride a : ℕ) (new : List ℕ) (capacity_new : ℕ)
-    → AreSlots words capacity slots used stride → a < 4096 → get_or slots a 0 ≡ 0 → IsRowAdded used stride words new
-    → capacity ≤ capacity_new → AreSlots new capacity_new (set slots a used) (used + 1) stride
+    → AreMemorySlots words capacity slots used stride → a < 4096 → get_or slots a 0 ≡ 0 → IsRowAdded used stride words new
+    → capacity ≤ capacity_new → AreMemorySlots new capacity_new (set slots a used) (used + 1) stride
 slots_added words slots capacity used stride a new capacity_new are below none added more =
     let room : 4097 * stride ≤ capacity = are.room in
     record {
@@ -320,7 +320,7 @@ get_or-blank count words k are = ⊎_elim
     (cases_lt k count)
 
 pub blank_slots : (words slots : List ℕ) (capacity stride : ℕ) → AreZeros stride words → slots ≡ replicate 4096 0
-    → 4097 * stride ≤ capacity → stride < 2 ^ 20 → AreSlots words capacity slots 1 stride
+    → 4097 * stride ≤ capacity → stride < 2 ^ 20 → AreMemorySlots words capacity slots 1 stride
 blank_slots words slots capacity stride are is room few = record {
   count = ap length is ∙ length-replicate {A = ℕ} 4096 0;
   counted = sym (ap suc (ap in_use is ∙ in_use-zeros 4096));
@@ -356,14 +356,14 @@ word_spread words slots stride i c place word below here start is =
     is ∙ ap (λ (n : ℕ). get_or words (n + c) 0) start ∙ sym (get_or-spread words slots stride i c below here)
 
 -- the row of an address lies within the words
-pub row_inside : (words slots : List ℕ) (capacity used stride i : ℕ) → AreSlots words capacity slots used stride
+pub row_inside : (words slots : List ℕ) (capacity used stride i : ℕ) → AreMemorySlots words capacity slots used stride
     → i < 4096 → get_or slots i 0 * stride + stride ≤ length words
 row_inside words slots capacity used stride i are below =
     omega (arith, are.filled, next_row (get_or slots i 0) used stride (are.within i below))
 
 -- all rows after a word of one's own row was set
 pub spread-set : (words slots : List ℕ) (capacity used stride i c word : ℕ)
-    → AreSlots words capacity slots used stride → i < 4096 → 0 < get_or slots i 0 → c < stride
+    → AreMemorySlots words capacity slots used stride → i < 4096 → 0 < get_or slots i 0 → c < stride
     → spread (set words (get_or slots i 0 * stride + c) word) slots stride
     ≡ set (spread words slots stride) (i * stride + c) word
 spread-set words slots capacity used stride i c word are below own here =
@@ -410,7 +410,7 @@ spread-set words slots capacity used stride i c word are below own here =
 
 -- a zero put where there is no row changes nothing
 pub spread-zero : (words slots : List ℕ) (capacity used stride i c : ℕ)
-    → AreSlots words capacity slots used stride → i < 4096 → get_or slots i 0 ≡ 0 → c < stride
+    → AreMemorySlots words capacity slots used stride → i < 4096 → get_or slots i 0 ≡ 0 → c < stride
     → spread words slots stride ≡ set (spread words slots stride) (i * stride + c) 0
 spread-zero words slots capacity used stride i c are below none here =
     let nothing : 0 * stride + c ≡ c = omega arith in
@@ -433,7 +433,7 @@ get_or-row words slots s t i c place below here start same =
     ∙ ap (λ (n : ℕ). get_or (spread words slots s) (i * n + c) 0) same)
 
 -- an address with no row of its own reads 0
-pub zero_read : (words slots : List ℕ) (capacity used s t i c : ℕ) → AreSlots words capacity slots used s → i < 4096
+pub zero_read : (words slots : List ℕ) (capacity used s t i c : ℕ) → AreMemorySlots words capacity slots used s → i < 4096
     → get_or slots i 0 ≡ 0 → c < s → s ≡ t → get_or (spread words slots s) (i * t + c) 0 ≡ 0
 zero_read words slots capacity used s t i c are below none here same =
     let nothing : 0 * s + c ≡ c = omega arith in
@@ -453,7 +453,7 @@ more_zeros slots from at more before behind i begun below = ⊎_elim
 
 -- rows without slots of their own read 0
 pub blank_rows : (words slots rows : List ℕ) (capacity used s t from end : ℕ) → spread words slots s ≡ rows
-    → AreSlots words capacity slots used s → length rows ≡ 4096 * t → end ≤ 4096
+    → AreMemorySlots words capacity slots used s → length rows ≡ 4096 * t → end ≤ 4096
     → ((i : ℕ) → from ≤ i → i < end → get_or slots i 0 ≡ 0)
     → (i c : ℕ) → from ≤ i → i < end → c < t → get_or rows (i * t + c) 0 ≡ 0
 blank_rows words slots rows capacity used s t from end seen are long most none i c begun below here =

@@ -5,16 +5,16 @@ use Rattle.cm_model.specs.Processor.{Processor, ZERO}
 use Rattle.cm_element.specs.Planes.{chip_of}
 
 -- the planes of chip c in so many rows, each of which begins a stride after the one before
-unfoldable pub column : List ℕ → ℕ → ℕ → ℕ → List ℕ
-column rows stride count c = each_from 0 count (λ i. slice_index rows (i * stride + c))
+unfoldable pub chip_column : List ℕ → ℕ → ℕ → ℕ → List ℕ
+chip_column rows stride count c = each_from 0 count (λ i. slice_index rows (i * stride + c))
 
 -- chip c of the rows of memory and of the flags
-abbrev pub chip_in : List ℕ → List ℕ → ℕ → ℕ → List Processor
-chip_in memory flags stride c = chip_of (column memory stride 4096 c) (column flags stride 16 c)
+abbrev pub chip_of_rows : List ℕ → List ℕ → ℕ → ℕ → List Processor
+chip_of_rows memory flags stride c = chip_of (chip_column memory stride 4096 c) (chip_column flags stride 16 c)
 
 -- the chips whose rows these are
 unfoldable pub chips_of : List ℕ → List ℕ → ℕ → ℕ → List (List Processor)
-chips_of memory flags stride chips = each_from 0 chips (chip_in memory flags stride)
+chips_of memory flags stride chips = each_from 0 chips (chip_of_rows memory flags stride)
 
 -- a row for each address and for each flag with a word for each chip, and in that of flag ZERO 0
 pub record AreRows (memory flags : List ℕ) (stride chips : ℕ) : Type 0 where

@@ -14,7 +14,7 @@ in_use (zero ∷ slots) = in_use slots
 in_use (suc _ ∷ slots) = suc (in_use slots)
 
 -- slot 0 is a row of zeros; addresses have other slots of their own, or that one
-pub record AreSlots (words : List ℕ) (capacity : ℕ) (slots : List ℕ) (used stride : ℕ) : Type 0 where
+pub record AreMemorySlots (words : List ℕ) (capacity : ℕ) (slots : List ℕ) (used stride : ℕ) : Type 0 where
   pub count : length slots ≡ 4096
   pub counted : used ≡ suc (in_use slots)
   pub filled : length words ≡ used * stride

@@ -9,7 +9,7 @@ use Rattle.std.proofs.lemmas.Bool.{cases_lt}
 use Rattle.std.proofs.lemmas.List.{drop_all}
 use Rattle.cm_bits.specs.Text.{words_of, number_of}
 use Rattle.cm_figures.specs.declared.numbers.NumbersFault.{NumbersFault}
-use Rattle.cm_figures.specs.Numbers.{◌>>=◌, one_number_more, numbers_after_words, numbers_after_lines, behind, numbers_text}
+use Rattle.cm_figures.specs.Numbers.{◌>>=◌, one_number_more, numbers_after_words, numbers_after_lines, separator_behind, numbers_text}
 
 -- a number has so many bits where nothing stands above them
 pub is_within : (number len : ℕ) → (number / 2 ^ len == 0) ≡ nat_lt number (2 ^ len)
@@ -42,7 +42,7 @@ after_one_line len count line numbers text texts r e =
 -- one more number is written
 pub one_more_written : (width : ℕ) (numbers text written : List ℕ) (i : ℕ) → i < length numbers
     → numbers_text width 0 numbers ≡ text ++ numbers_text width i (drop i numbers)
-    → written ≡ (text ++ decimal (get_or numbers i 0)) ++ behind width i ∷ []
+    → written ≡ (text ++ decimal (get_or numbers i 0)) ++ separator_behind width i ∷ []
     → numbers_text width 0 numbers ≡ written ++ numbers_text width (i + 1) (drop (i + 1) numbers)
 unfolding numbers_text
 one_more_written width numbers text written i inside before is =
@@ -51,9 +51,9 @@ one_more_written width numbers text written i inside before is =
     let next : suc i ≡ i + 1 = omega arith in
     before
     ∙ ap (λ left. text ++ numbers_text width i left) (drop-cons numbers i 0 inside)
-    ∙ ap (λ (k : ℕ). text ++ (number ++ behind width i ∷ numbers_text width (i + 1) (drop k numbers))) next
-    ∙ sym (append_assoc text number (behind width i ∷ rest))
-    ∙ sym (append_assoc (text ++ number) (behind width i ∷ []) rest)
+    ∙ ap (λ (k : ℕ). text ++ (number ++ separator_behind width i ∷ numbers_text width (i + 1) (drop k numbers))) next
+    ∙ sym (append_assoc text number (separator_behind width i ∷ rest))
+    ∙ sym (append_assoc (text ++ number) (separator_behind width i ∷ []) rest)
     ∙ ap (λ done. done ++ rest) (sym is)
 
 -- all are written

@@ -40,10 +40,10 @@ numbers_in len count text = numbers_after_lines len count 1 [] (lines_of text)
 -- ---- writing
 
 -- what stands behind a number: the end of the line after so many, else a blank
-abbrev pub behind : ℕ → ℕ → ℕ
-behind width before = if (before + 1) % width == 0 then 10 else 32
+abbrev pub separator_behind : ℕ → ℕ → ℕ
+separator_behind width before = if (before + 1) % width == 0 then 10 else 32
 
 -- numbers in lines of so many, where so many stand before
 unfoldable pub numbers_text : ℕ → ℕ → List ℕ → List ℕ
 numbers_text width before [] = []
-numbers_text width before (x ∷ xs) = decimal x ++ behind width before ∷ numbers_text width (before + 1) xs
+numbers_text width before (x ∷ xs) = decimal x ++ separator_behind width before ∷ numbers_text width (before + 1) xs

@@ -13,8 +13,8 @@ use Rattle.cm_figures.specs.declared.picture_reading.PictureFault.TheVariants.{T
 use Rattle.cm_figures.specs.Pictures.{Dots, row_bytes}
 
 -- a call answers what a definition gives, where its answer is seen in this way
-abbrev pub Gives : {X Y : Type 0} → (X → Y) → Result X PictureFault → Result Y PictureFault → Type 0
-Gives view result given = MatchResult result (λ x. given ≡ Ok (view x)) (λ fault. given ≡ Err fault)
+abbrev pub GivesPicture : {X Y : Type 0} → (X → Y) → Result X PictureFault → Result Y PictureFault → Type 0
+GivesPicture view result given = MatchResult result (λ x. given ≡ Ok (view x)) (λ fault. given ≡ Err fault)
 
 infixl 10 ◌>>=◌
 -- what comes after, unless a fault came before
@@ -56,8 +56,8 @@ number_part text bytes = picture_number_at text (behind_blanks false bytes)
 -- ---- the header
 
 -- what a picture is by its first two bytes: its form, and whether its dots have one bit
-abbrev pub kind_of : List ℕ → Option (Form × Bool)
-kind_of text =
+abbrev pub form_in : List ℕ → Option (Form × Bool)
+form_in text =
     if slice_index text 0 == 80
     then (if slice_index text 1 == 49 then Some (Plain, true)
     else (if slice_index text 1 == 50 then Some (Plain, false)
@@ -82,14 +82,14 @@ sizes_part text width height is_bits bytes =
     number_part text bytes >>= λ w. number_part text w.1 >>= λ h. sized_part text width height is_bits w.0 h.0 h.1
 
 -- the form, the greatest number and the bytes behind the header
-abbrev pub of_kind : List ℕ → ℕ → ℕ → Option (Form × Bool) → Result (Form × ℕ × List ℕ) PictureFault
-of_kind text width height None = Err Magic
-of_kind text width height (Some kind) =
+abbrev pub picture_of_kind : List ℕ → ℕ → ℕ → Option (Form × Bool) → Result (Form × ℕ × List ℕ) PictureFault
+picture_of_kind text width height None = Err Magic
+picture_of_kind text width height (Some kind) =
     sizes_part text width height kind.1 (drop 2 text) >>= λ read. Ok (kind.0, read.0, read.1)
 
 -- what the header of a text tells, where the picture must have this width and height; the bytes behind it come last
-unfoldable pub header_part : List ℕ → ℕ → ℕ → Result (Form × ℕ × List ℕ) PictureFault
-header_part text width height = of_kind text width height (kind_of text)
+unfoldable pub picture_header_part : List ℕ → ℕ → ℕ → Result (Form × ℕ × List ℕ) PictureFault
+picture_header_part text width height = picture_of_kind text width height (form_in text)
 
 -- ---- the dots as numbers
 
@@ -169,6 +169,6 @@ judged greatest width dots =
 
 -- the picture of a text, which is to have this width and height, or its first fault
 unfoldable pub picture_in : ℕ → ℕ → List ℕ → Result Dots PictureFault
-picture_in width height text = header_part text width height >>= λ header.
+picture_in width height text = picture_header_part text width height >>= λ header.
     dots_part header.0 text header.1 width height header.2 >>= λ dots. judged header.1 width dots >>= λ good.
     Ok (record { width = width; height = height; greatest = header.1; dots = good })

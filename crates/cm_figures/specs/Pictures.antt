@@ -15,8 +15,8 @@ pub record Dots : Type 0 where
   pub dots : List ℕ
 
 -- what a picture shows
-abbrev pub seen : Picture → Dots
-seen picture = record {
+abbrev pub picture_seen : Picture → Dots
+picture_seen picture = record {
   width = picture.width;
   height = picture.height;
   greatest = picture.greatest;
@@ -47,8 +47,8 @@ header_text form picture =
 -- ---- the dots
 
 -- so many numbers stand in a line of a plain picture, which has at most 70 bytes
-abbrev pub line_of : Dots → ℕ
-line_of picture = if picture.greatest == 1 then min picture.width 32 else min picture.width 8
+abbrev pub numbers_in_line : Dots → ℕ
+numbers_in_line picture = if picture.greatest == 1 then min picture.width 32 else min picture.width 8
 
 -- a dot of a raw PGM: one byte, or two where numbers may be above 255, the higher first
 abbrev pub dot_bytes : ℕ → ℕ → List ℕ
@@ -84,7 +84,7 @@ bytes_text picture = flat_map (dot_bytes picture.greatest) picture.dots
 
 -- the dots, as numbers or as bytes
 abbrev pub raster_text : Form → Dots → List ℕ
-raster_text Plain picture = numbers_text (line_of picture) 0 picture.dots
+raster_text Plain picture = numbers_text (numbers_in_line picture) 0 picture.dots
 raster_text Raw picture = if picture.greatest == 1 then packed_text picture else bytes_text picture
 
 -- a picture in a form

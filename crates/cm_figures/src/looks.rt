@@ -2,7 +2,7 @@
 
 ghost use Rattle.std.specs.Prelude.{◌≡◌, ◌+◌, ◌*◌, ◌<◌, ◌≤◌, ◌++◌, max, length, IfOk, OnOk};
 ghost use Rattle.std.specs.List.{flat_map, range_with_len};
-ghost use Rattle.cm_figures.specs.Pictures.{dot_at, seen};
+ghost use Rattle.cm_figures.specs.Pictures.{dot_at, picture_seen};
 ghost use Rattle.cm_figures.specs.Looks.{greatest_dot, level_of, levelled, wider_row, enlarged, look_bytes};
 
 use crate::formats::{Format, write_in};
@@ -24,7 +24,7 @@ pub struct Look {
 pub fn write_look(alloc: Global, picture: Picture, look: Look) -> Result<Vec<u8>, NoMemory>
     requires some { 0 < picture.width }
     requires dots { length picture.dots.items ≡ picture.height * picture.width }
-    ensures value { IfOk result (λ bytes. bytes.items ≡ look_bytes look (seen picture)) }
+    ensures value { IfOk result (λ bytes. bytes.items ≡ look_bytes look (picture_seen picture)) }
 {
     let levelled = levelled(look.is_by_dots, picture);
     let enlarged = enlarged(alloc, look.scale.max(1), levelled)?;
@@ -33,7 +33,7 @@ pub fn write_look(alloc: Global, picture: Picture, look: Look) -> Result<Vec<u8>
 
 /// The picture by the greatest number of its dots, or by its own.
 fn levelled(is_by_dots: bool, picture: Picture) -> Picture
-    ensures value { seen result ≡ levelled is_by_dots (seen picture) }
+    ensures value { picture_seen result ≡ levelled is_by_dots (picture_seen picture) }
     ensures width { result.width ≡ picture.width }
     ensures count { length result.dots.items ≡ length picture.dots.items }
     ensures height { result.height ≡ picture.height }
@@ -72,7 +72,7 @@ fn enlarged(alloc: Global, k: u16, picture: Picture) -> Result<Picture, NoMemory
     requires scale { 0 < k }
     requires some { 0 < picture.width }
     requires dots { length picture.dots.items ≡ picture.height * picture.width }
-    ensures value { IfOk result (λ made. seen made ≡ enlarged k (seen picture)) }
+    ensures value { IfOk result (λ made. picture_seen made ≡ enlarged k (picture_seen picture)) }
     ensures some { IfOk result (λ made. 0 < made.width) }
     ensures count { IfOk result (λ made. length made.dots.items ≡ made.height * made.width) }
 {
@@ -96,7 +96,7 @@ fn repeated(alloc: Global, k: usize, picture: &Picture) -> Result<Vec<u64>, NoMe
     requires high { k * picture.now.height < 65536 }
     requires dots { length picture.now.dots.items ≡ picture.now.height * picture.now.width }
     ensures value { IfOk result (λ dots. dots.items
-        ≡ flat_map (wider_row k (seen picture.now)) (range_with_len 0 (k * picture.now.height))) }
+        ≡ flat_map (wider_row k (picture_seen picture.now)) (range_with_len 0 (k * picture.now.height))) }
     ensures count { IfOk result (λ dots. length dots.items
         ≡ k * picture.now.height * (k * picture.now.width)) }
 {
@@ -118,7 +118,7 @@ fn push_wider_row(
     requires wide { k * picture.now.width < 65536 }
     requires row { y < k * picture.now.height }
     requires dots { length picture.now.dots.items ≡ picture.now.height * picture.now.width }
-    ensures ok { OnOk result (dots.new.items ≡ dots.old.items ++ wider_row k (seen picture.now) y) }
+    ensures ok { OnOk result (dots.new.items ≡ dots.old.items ++ wider_row k (picture_seen picture.now) y) }
     ensures count { OnOk result (length dots.new.items ≡ length dots.old.items + k * picture.now.width) }
 {
     for x in 0..k * usize::from(picture.width) {
@@ -134,7 +134,7 @@ fn dot_at(picture: &Picture, y: usize, x: usize) -> u64
     requires row { y < picture.now.height }
     requires column { x < picture.now.width }
     requires dots { length picture.now.dots.items ≡ picture.now.height * picture.now.width }
-    ensures value { result ≡ dot_at (seen picture.now) y x }
+    ensures value { result ≡ dot_at (picture_seen picture.now) y x }
 {
     picture.dots[y * usize::from(picture.width) + x]
 }

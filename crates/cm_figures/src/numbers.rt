@@ -2,7 +2,8 @@
 
 ghost use Rattle.std.specs.Prelude.{◌≡◌, ◌≢◌, ◌<◌, ◌≤◌, ◌++◌, ◌∷◌, [], ◌^◌, nat_lt, Ok, Err, IfOk, IfErr, OnOk, length};
 ghost use Rattle.cm_bits.specs.Text.{words_of};
-ghost use Rattle.cm_figures.specs.Numbers.{numbers_after_words, one_number_more, numbers_in, numbers_text, behind};
+ghost use Rattle.cm_figures.specs.Numbers.{numbers_after_words, one_number_more, numbers_in, numbers_text};
+ghost use Rattle.cm_figures.specs.Numbers.{separator_behind};
 
 use cm_bits::{Lines, NoMemory, Words, read_number};
 use cm_digits::push_number;
@@ -143,7 +144,7 @@ pub fn write_numbers(alloc: Global, numbers: &[u64], width: usize) -> Result<Vec
 fn behind(width: usize, before: usize) -> u8
     requires some { 0 < width }
     requires within { before < 18446744073709551615 }
-    ensures value { result ≡ behind width before }
+    ensures value { result ≡ separator_behind width before }
 {
     if (before + 1) % width == 0 {
         b'\n'

@@ -1,7 +1,8 @@
 //! Pictures, and how they are written.
 
 ghost use Rattle.std.specs.Prelude.{◌≡◌, ◌+◌, ◌*◌, ◌<◌, ◌≤◌, ◌++◌, length, nat_lt, min, IfOk, OnOk};
-ghost use Rattle.cm_figures.specs.Pictures.{seen, digit_of, header_text, greatest_text, line_of, dot_bytes, row_bytes};
+ghost use Rattle.cm_figures.specs.Pictures.{picture_seen, digit_of, header_text, greatest_text, numbers_in_line};
+ghost use Rattle.cm_figures.specs.Pictures.{dot_bytes, row_bytes};
 ghost use Rattle.cm_figures.specs.Pictures.{bit_at, eight_dots, packed_text, bytes_text, raster_text, picture_text};
 ghost use Rattle.cm_figures.specs.Numbers.{numbers_text};
 
@@ -34,7 +35,7 @@ pub struct Picture {
 pub fn write_picture(alloc: Global, picture: &Picture, form: Form) -> Result<Vec<u8>, NoMemory>
     requires some { 0 < picture.now.width }
     requires dots { length picture.now.dots.items ≡ picture.now.height * picture.now.width }
-    ensures value { IfOk result (λ text. text.items ≡ picture_text form (seen picture.now)) }
+    ensures value { IfOk result (λ text. text.items ≡ picture_text form (picture_seen picture.now)) }
 {
     let mut text = header(alloc, picture, form)?;
     match form {
@@ -46,7 +47,7 @@ pub fn write_picture(alloc: Global, picture: &Picture, form: Form) -> Result<Vec
 
 /// The bytes before the dots.
 fn header(alloc: Global, picture: &Picture, form: Form) -> Result<Vec<u8>, NoMemory>
-    ensures value { IfOk result (λ text. text.items ≡ header_text form (seen picture.now)) }
+    ensures value { IfOk result (λ text. text.items ≡ header_text form (picture_seen picture.now)) }
 {
     let mut text = Vec::new(alloc);
     text.extend_from_slice(&[b'P', digit_of(form, picture.greatest), b'\n'])?;
@@ -74,7 +75,7 @@ fn digit_of(form: Form, greatest: u16) -> u8
 fn push_numbers(alloc: Global, text: &mut Vec<u8>, picture: &Picture) -> Result<(), NoMemory>
     requires some { 0 < picture.now.width }
     ensures ok { OnOk result (text.new.items
-        ≡ text.old.items ++ numbers_text (line_of (seen picture.now)) 0 picture.now.dots.items) }
+        ≡ text.old.items ++ numbers_text (numbers_in_line (picture_seen picture.now)) 0 picture.now.dots.items) }
 {
     let most = if picture.greatest == 1 { 32 } else { 8 };
     let numbers = write_numbers(alloc, &picture.dots, usize::from(picture.width.min(most)))?;
@@ -86,7 +87,7 @@ fn push_numbers(alloc: Global, text: &mut Vec<u8>, picture: &Picture) -> Result<
 fn push_raw(text: &mut Vec<u8>, picture: &Picture) -> Result<(), NoMemory>
     requires some { 0 < picture.now.width }
     requires dots { length picture.now.dots.items ≡ picture.now.height * picture.now.width }
-    ensures ok { OnOk result (text.new.items ≡ text.old.items ++ raster_text Form.Raw (seen picture.now)) }
+    ensures ok { OnOk result (text.new.items ≡ text.old.items ++ raster_text Form.Raw (picture_seen picture.now)) }
 {
     if picture.greatest == 1 {
         push_packed(text, picture)
@@ -99,7 +100,7 @@ fn push_raw(text: &mut Vec<u8>, picture: &Picture) -> Result<(), NoMemory>
 fn push_packed(text: &mut Vec<u8>, picture: &Picture) -> Result<(), NoMemory>
     requires some { 0 < picture.now.width }
     requires dots { length picture.now.dots.items ≡ picture.now.height * picture.now.width }
-    ensures ok { OnOk result (text.new.items ≡ text.old.items ++ packed_text (seen picture.now)) }
+    ensures ok { OnOk result (text.new.items ≡ text.old.items ++ packed_text (picture_seen picture.now)) }
 {
     let in_row = usize::from(picture.width).div_ceil(8);
     for b in 0..usize::from(picture.height) * in_row {
@@ -116,7 +117,7 @@ pub(crate) fn eight_dots(picture: &Picture, y: usize, x: usize) -> u8
     requires row { y < picture.now.height }
     requires column { x ≤ 65536 }
     requires dots { length picture.now.dots.items ≡ picture.now.height * picture.now.width }
-    ensures value { result ≡ eight_dots (seen picture.now) y x }
+    ensures value { result ≡ eight_dots (picture_seen picture.now) y x }
 {
     let bit = |k: usize| bit_at(picture, y, x + k);
     128 * bit(0)
@@ -133,7 +134,7 @@ pub(crate) fn eight_dots(picture: &Picture, y: usize, x: usize) -> u8
 fn bit_at(picture: &Picture, y: usize, x: usize) -> u8
     requires row { y < picture.now.height }
     requires dots { length picture.now.dots.items ≡ picture.now.height * picture.now.width }
-    ensures value { result ≡ bit_at (seen picture.now) y x }
+    ensures value { result ≡ bit_at (picture_seen picture.now) y x }
     ensures within { result ≤ 1 }
 {
     let width = usize::from(picture.width);
@@ -146,7 +147,7 @@ fn bit_at(picture: &Picture, y: usize, x: usize) -> u8
 
 /// A byte or two for each dot.
 fn push_bytes(text: &mut Vec<u8>, picture: &Picture) -> Result<(), NoMemory>
-    ensures ok { OnOk result (text.new.items ≡ text.old.items ++ bytes_text (seen picture.now)) }
+    ensures ok { OnOk result (text.new.items ≡ text.old.items ++ bytes_text (picture_seen picture.now)) }
 {
     for dot in &picture.dots {
         push_dot(text, *dot, picture.greatest)?;

@@ -4,10 +4,12 @@ ghost use Rattle.std.specs.Prelude.{◌≡◌, ◌≢◌, ◌+◌, ◌-◌, ◌*
 ghost use Rattle.std.specs.Prelude.{length, nat_lt, if◌then◌else◌, map, drop, false};
 ghost use Rattle.std.specs.List.{All, position_or_len, range_with_len};
 ghost use Rattle.cm_bits.specs.Text.{has_bytes};
-ghost use Rattle.cm_figures.specs.Pictures.{seen, row_bytes};
-ghost use Rattle.cm_figures.specs.PictureReading.{Gives, is_space, behind_blanks, line_of_rest, picture_number_at};
+ghost use Rattle.cm_figures.specs.Pictures.{picture_seen, row_bytes};
+ghost use Rattle.cm_figures.specs.PictureReading.{GivesPicture, is_space, behind_blanks, line_of_rest};
+ghost use Rattle.cm_figures.specs.PictureReading.{picture_number_at};
 ghost use Rattle.cm_figures.specs.PictureReading.{number_part};
-ghost use Rattle.cm_figures.specs.PictureReading.{kind_of, greatest_part, sizes_part, header_part, plain_dot, digit_at};
+ghost use Rattle.cm_figures.specs.PictureReading.{form_in, greatest_part, sizes_part, picture_header_part, plain_dot};
+ghost use Rattle.cm_figures.specs.PictureReading.{digit_at};
 ghost use Rattle.cm_figures.specs.PictureReading.{plain_dots};
 ghost use Rattle.cm_figures.specs.PictureReading.{raster_len, packed_dot, raw_dot, raw_dots, dots_part, first_large};
 ghost use Rattle.cm_figures.specs.PictureReading.{judged, picture_in};
@@ -56,7 +58,7 @@ pub fn read_picture(
     height: u16,
 ) -> Result<Picture, PictureFault>
     requires some { 0 < width }
-    ensures value { IfOk result (λ picture. picture_in width height text.now ≡ Ok (seen picture)) }
+    ensures value { IfOk result (λ picture. picture_in width height text.now ≡ Ok (picture_seen picture)) }
     ensures count { IfOk result (λ picture. length picture.dots.items ≡ height * width) }
     ensures within { IfOk result (λ picture. All (λ dot. dot ≤ picture.greatest) picture.dots.items) }
     ensures refused { IfErr result (λ fault. fault ≢ PictureFault.Memory
@@ -74,10 +76,10 @@ pub fn read_picture(
 }
 
 /// What stands before the dots, where it tells this width and height.
-#[tactic(auto, unfolding(crate::specs::PictureReading::header_part))]
+#[tactic(auto, unfolding(crate::specs::PictureReading::picture_header_part))]
 fn read_header(text: &[u8], width: u16, height: u16) -> Result<Header<'_>, PictureFault>
-    ensures value { Gives (λ header. (header.form, header.greatest, header.rest.now)) result
-        (header_part text.now width height) }
+    ensures value { GivesPicture (λ header. (header.form, header.greatest, header.rest.now)) result
+        (picture_header_part text.now width height) }
 {
     let Some((form, is_bits)) = kind_of(text) else {
         return Err(PictureFault::Magic);
@@ -108,7 +110,7 @@ fn take_sizes<'a>(
     is_bits: bool,
     bytes: &'a [u8],
 ) -> Result<(u16, &'a [u8]), PictureFault>
-    ensures value { Gives (λ read. (read.0, read.1.now)) result
+    ensures value { GivesPicture (λ read. (read.0, read.1.now)) result
         (sizes_part text.now width height is_bits bytes.now) }
 {
     let (w, rest) = take_number(text, bytes)?;
@@ -122,7 +124,7 @@ fn take_sizes<'a>(
 
 /// What a picture is by its first two bytes: its form, and whether its dots have one bit.
 fn kind_of(text: &[u8]) -> Option<(Form, bool)>
-    ensures value { result ≡ kind_of text.now }
+    ensures value { result ≡ form_in text.now }
 {
     match text {
         [b'P', b'1', ..] => Some((Form::Plain, true)),
@@ -139,7 +141,7 @@ fn take_greatest<'a>(
     is_bits: bool,
     bytes: &'a [u8],
 ) -> Result<(u16, &'a [u8]), PictureFault>
-    ensures value { Gives (λ read. (read.0, read.1.now)) result (greatest_part text.now is_bits bytes.now) }
+    ensures value { GivesPicture (λ read. (read.0, read.1.now)) result (greatest_part text.now is_bits bytes.now) }
 {
     if is_bits {
         return Ok((1, bytes));
@@ -154,14 +156,14 @@ fn take_greatest<'a>(
 
 /// The number whose word comes first.
 fn take_number<'a>(text: &[u8], bytes: &'a [u8]) -> Result<(u64, &'a [u8]), PictureFault>
-    ensures value { Gives (λ read. (read.0, read.1.now)) result (number_part text.now bytes.now) }
+    ensures value { GivesPicture (λ read. (read.0, read.1.now)) result (number_part text.now bytes.now) }
 {
     number_at(text, behind_blanks(bytes))
 }
 
 /// The number whose word stands here.
 fn number_at<'a>(text: &[u8], rest: &'a [u8]) -> Result<(u64, &'a [u8]), PictureFault>
-    ensures value { Gives (λ read. (read.0, read.1.now)) result (picture_number_at text.now rest.now) }
+    ensures value { GivesPicture (λ read. (read.0, read.1.now)) result (picture_number_at text.now rest.now) }
 {
     let end = word_len(rest);
     match read_number(&rest[..end]) {
@@ -286,7 +288,7 @@ fn take_dot<'a>(
     greatest: u16,
     bytes: &'a [u8],
 ) -> Result<(u64, &'a [u8]), PictureFault>
-    ensures value { Gives (λ read. (read.0, read.1.now)) result (plain_dot text.now greatest bytes.now) }
+    ensures value { GivesPicture (λ read. (read.0, read.1.now)) result (plain_dot text.now greatest bytes.now) }
 {
     let rest = behind_blanks(bytes);
     if rest.is_empty() {
@@ -300,7 +302,7 @@ fn take_dot<'a>(
 
 /// The digit 0 or 1 that stands here.
 fn digit_at<'a>(text: &[u8], rest: &'a [u8]) -> Result<(u64, &'a [u8]), PictureFault>
-    ensures value { Gives (λ read. (read.0, read.1.now)) result (digit_at text.now rest.now) }
+    ensures value { GivesPicture (λ read. (read.0, read.1.now)) result (digit_at text.now rest.now) }
 {
     match rest {
         [b'0', after @ ..] => Ok((0, after)),

@@ -18,7 +18,7 @@ use Rattle.cm_model.proofs.Bits.{bit-zero}
 use Rattle.cm_element.specs.Wide.{with_memory_plane, with_flag_plane}
 use Rattle.cm_element.specs.Planes.{processor_in, chip_of}
 use Rattle.cm_image_format.specs.Image.{Listed, ChipImage}
-use Rattle.cm_image_format.specs.Whole.{plane_or, plane_at, planes_of, chip_from, Image, machine_from}
+use Rattle.cm_image_format.specs.Whole.{plane_or, plane_at, planes_of, chip_from, Image, machine_of_image}
 use Rattle.cm_array.specs.Pokes.{machine_with_flag_plane}
 use Rattle.cm_image.specs.Planes.{put_plane}
 use Rattle.cm_image.specs.Chips.{with_chip, with_flags, with_listed, with_message, with_chip_image, IsBlankFrom}
@@ -299,8 +299,8 @@ no_logs n images long =
 
 -- all chips of an image, one after another, are its machine
 pub machine_built : (n : ℕ) (image : Image) → length image.chips ≡ 2 ^ n
-    → fold put_chip (blank_at n image.clock image.routing, 0) image.chips ≡ (machine_from image, 2 ^ n)
-unfolding blank_machine machine_from
+    → fold put_chip (blank_at n image.clock image.routing, 0) image.chips ≡ (machine_of_image image, 2 ^ n)
+unfolding blank_machine machine_of_image
 machine_built n image long =
     let chips : 0 + length image.chips ≡ length (blank_at n image.clock image.routing).chips =
     omega (arith, long, length-each_from 0 (2 ^ n) (λ c. blank_chip)) in

@@ -18,7 +18,7 @@ use Rattle.cm_image_format.specs.Header.{MAGIC, Head, head_text}
 use Rattle.cm_image_format.specs.Cuts.{head_of, routing_text}
 use Rattle.cm_image_format.specs.Image.{Listed, ChipImage, listed_text, chip_text}
 use Rattle.cm_image_format.specs.Whole.{flag_plane_of, memory_plane_of, image_of_chip, image_text, text_of}
-use Rattle.cm_image.specs.Planes.{AreInUse, flags_text, planes_below, listed_below, listing_of, listing_at, chips_text}
+use Rattle.cm_image.specs.Planes.{AreInUse, flags_text, planes_below, listed_below, plane_listing, listing_at, chips_text}
 
 -- ---- what is made of each number
 
@@ -112,7 +112,7 @@ one_listed true e = refl
 one_listed false e = append-nil (listed_text e)
 
 pub listed_step : (chip : List Processor) (n : ℕ)
-    → listed_below chip (n + 1) ≡ listed_below chip n ++ listing_of n (memory_plane_of chip n)
+    → listed_below chip (n + 1) ≡ listed_below chip n ++ plane_listing n (memory_plane_of chip n)
 unfolding listed_below
 listed_step chip n =
     ap (flat_map listed_text) (planes_more chip n)
@@ -134,7 +134,7 @@ in_use_past count at chips used are none = record {
   few = omega (arith, are.few);
   within = λ i h. omega (arith, are.within i h);
   listed = λ c h. listed_step (chip_at chips c) at
-      ∙ ap (λ (k : ℕ). listed_below (chip_at chips c) at ++ listing_of at k) (none c h)
+      ∙ ap (λ (k : ℕ). listed_below (chip_at chips c) at ++ plane_listing at k) (none c h)
       ∙ append-nil (listed_below (chip_at chips c) at) ∙ are.listed c h;
 }
 

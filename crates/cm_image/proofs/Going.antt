@@ -8,7 +8,7 @@ use Rattle.std.proofs.lemmas.List.{length-append, drop-append-le, get_or_append_
 use Rattle.std.proofs.Math.Seq.{drop-append_seam}
 use Rattle.cm_image_format.specs.declared.fault.ImageFault.{ImageFault}
 use Rattle.cm_image_format.specs.declared.fault.ImageFault.TheVariants.{Short}
-use Rattle.cm_image_format.specs.Reading.{◌>>=◌, Read, Check, unless, number_at, part, followed, ◌⨾◌, made, many, counted}
+use Rattle.cm_image_format.specs.Reading.{◌>>=◌, Read, Check, unless, number_at, checked_number, followed, ◌⨾◌, made, many, counted}
 use Rattle.cm_image_format.specs.Header.{Head, is_dimension, is_room, shape_part, header_part}
 use Rattle.cm_image_format.specs.Cuts.{cut_part, cuts_part, routing_part}
 use Rattle.cm_image_format.specs.Image.{flag_part, listed_part, message_part, flags_part, memory_part, messages_part}
@@ -72,8 +72,8 @@ passed : {A : Type 0} (fault : Option ImageFault) (x y : A) → unless fault x �
 passed None x y is = (refl, cc)
 passed (Some fault) x y is = absurd (cc)
 
-pub goes_on-part : (w : Width) (check : Check) → 0 < byte_len w → GoesOn (part w check)
-goes_on-part w check some = record {
+pub goes_on-checked_number : (w : Width) (check : Check) → 0 < byte_len w → GoesOn (checked_number w check)
+goes_on-checked_number w check some = record {
   on = λ bytes more rest n is.
       let first = bound (number_at w bytes) (λ x. unless (check x.0) (x.0, x.1)) (n, rest) is in
       let checked = passed (check first.0.0) (first.0.0, first.0.1) (n, rest) first.2 in
@@ -167,8 +167,8 @@ goes_on-many next one each count s = record {
 pub goes_on-counted : {A : Type 0} (w : Width) (check : Check) (next : ℕ → A → ℕ) (one : ℕ → List ℕ → Read A)
     → 0 < byte_len w → ((s : ℕ) → GoesOn (one s)) → (s : ℕ) → GoesOn (counted w check next one s)
 goes_on-counted {A} w check next one some each s =
-    goes_on-made (λ x. x.1) (followed (part w check) (λ count. many next one count s))
-    (goes_on-followed (part w check) (λ count. many next one count s) (goes_on-part w check some)
+    goes_on-made (λ x. x.1) (followed (checked_number w check) (λ count. many next one count s))
+    (goes_on-followed (checked_number w check) (λ count. many next one count s) (goes_on-checked_number w check some)
     (λ count. goes_on-many next one each count s))
 
 pub goes_on-next : {A B : Type 0} (first : List ℕ → Read A) (second : List ℕ → Read B) → GoesOn first → GoesOn second
@@ -179,38 +179,38 @@ goes_on-next first second one two = goes_on-followed first (λ _. second) one (�
 
 listed_goes_on : (least : ℕ) → GoesOn (listed_part least)
 listed_goes_on least =
-    goes_on-made _ _ (goes_on-next _ _ (goes_on-part w16 _ (lit< tt)) (goes_on-part w16 _ (lit< tt)))
+    goes_on-made _ _ (goes_on-next _ _ (goes_on-checked_number w16 _ (lit< tt)) (goes_on-checked_number w16 _ (lit< tt)))
 
 message_goes_on : (n clock : ℕ) → GoesOn (message_part n clock)
 message_goes_on n clock =
-    goes_on-made _ _ (goes_on-next _ _ (goes_on-part w16 _ (lit< tt))
-    (goes_on-next _ _ (goes_on-part w8 _ (lit< tt))
+    goes_on-made _ _ (goes_on-next _ _ (goes_on-checked_number w16 _ (lit< tt))
+    (goes_on-next _ _ (goes_on-checked_number w8 _ (lit< tt))
     (goes_on-next _ _ (goes_on-number w32 (lit< tt))
-    (goes_on-next _ _ (goes_on-part w16 _ (lit< tt))
-    (goes_on-next _ _ (goes_on-part w8 _ (lit< tt)) (goes_on-part w64 _ (lit< tt)))))))
+    (goes_on-next _ _ (goes_on-checked_number w16 _ (lit< tt))
+    (goes_on-next _ _ (goes_on-checked_number w8 _ (lit< tt)) (goes_on-checked_number w64 _ (lit< tt)))))))
 
 pub chip_goes_on : (n cap clock : ℕ) → GoesOn (chip_part n cap clock)
 unfolding chip_part
 chip_goes_on n cap clock =
     goes_on-made _ _ (goes_on-next flags_part (memory_part ⨾ messages_part n cap clock)
-    (goes_on-many _ flag_part (λ f. goes_on-part w16 _ (lit< tt)) 16 0)
+    (goes_on-many _ flag_part (λ f. goes_on-checked_number w16 _ (lit< tt)) 16 0)
     (goes_on-next memory_part (messages_part n cap clock)
     (goes_on-counted w16 _ _ listed_part (lit< tt) listed_goes_on 0)
     (goes_on-counted w8 _ _ (λ i. message_part n clock) (lit< tt) (λ i. message_goes_on n clock) 0)))
 
 shape_goes_on : (dimension room : ℕ → Bool) → GoesOn (shape_part dimension room)
 shape_goes_on dimension room =
-    goes_on-made _ _ (goes_on-next _ _ (goes_on-part w32 _ (lit< tt))
-    (goes_on-followed _ _ (goes_on-part w8 _ (lit< tt))
-    (λ version. goes_on-next _ _ (goes_on-part w8 _ (lit< tt))
-    (goes_on-next _ _ (goes_on-part w8 _ (lit< tt)) (goes_on-part w8 _ (lit< tt))))))
+    goes_on-made _ _ (goes_on-next _ _ (goes_on-checked_number w32 _ (lit< tt))
+    (goes_on-followed _ _ (goes_on-checked_number w8 _ (lit< tt))
+    (λ version. goes_on-next _ _ (goes_on-checked_number w8 _ (lit< tt))
+    (goes_on-next _ _ (goes_on-checked_number w8 _ (lit< tt)) (goes_on-checked_number w8 _ (lit< tt))))))
 
 pub header_goes_on : (n cap : ℕ) → GoesOn (header_part n cap)
-header_goes_on n cap = goes_on-next _ _ (shape_goes_on _ _) (goes_on-part w64 _ (lit< tt))
+header_goes_on n cap = goes_on-next _ _ (shape_goes_on _ _) (goes_on-checked_number w64 _ (lit< tt))
 
 cut_goes_on : (n least : ℕ) → GoesOn (cut_part n least)
 cut_goes_on n least =
-    goes_on-made _ _ (goes_on-followed _ _ (goes_on-part w16 _ (lit< tt)) (λ chip. goes_on-part w8 _ (lit< tt)))
+    goes_on-made _ _ (goes_on-followed _ _ (goes_on-checked_number w16 _ (lit< tt)) (λ chip. goes_on-checked_number w8 _ (lit< tt)))
 
 either_goes_on : {A : Type 0} (b : Bool) (none : A) (read : List ℕ → Read A) → GoesOn read
     → GoesOn (λ bytes. if b then Ok (none, bytes) else read bytes)

@@ -6,7 +6,7 @@ use Rattle.std.proofs.lemmas.Grind.{take-set_at}
 use Rattle.cm_model.specs.Each.{each_from}
 use Rattle.cm_model.specs.Processor.{Processor}
 use Rattle.cm_image_format.specs.Whole.{memory_plane_of}
-use Rattle.cm_image.specs.Planes.{listings, listing_of, listed_below, planes_below}
+use Rattle.cm_image.specs.Planes.{listings, plane_listing, listed_below, planes_below}
 use Rattle.cm_image.proofs.Dumping.{made_zero, made_more, listed_step}
 
 in_a_row : (xs : List ℕ) (a b c d : ℕ)
@@ -33,12 +33,12 @@ four_put xs n a b c d h =
 
 pub listings_none : (planes text : List ℕ) → text ≡ text ++ listings planes 0
 unfolding listings
-listings_none planes text = made_zero (λ address. listing_of address (get_or planes address 0)) (λ address. address) text
+listings_none planes text = made_zero (λ address. plane_listing address (get_or planes address 0)) (λ address. address) text
 
-pub listings_step : (planes : List ℕ) (n : ℕ) → listings planes (n + 1) ≡ listings planes n ++ listing_of n (get_or planes n 0)
+pub listings_step : (planes : List ℕ) (n : ℕ) → listings planes (n + 1) ≡ listings planes n ++ plane_listing n (get_or planes n 0)
 unfolding listings
 listings_step planes n =
-    made_more (λ address. listing_of address (get_or planes address 0)) (λ address. address) 0 n n (omega arith)
+    made_more (λ address. plane_listing address (get_or planes address 0)) (λ address. address) 0 n n (omega arith)
 
 -- where they are those of a chip, these are listed
 pub same_listings : (chip : List Processor) (planes : List ℕ) (n : ℕ)
@@ -49,14 +49,14 @@ same_listings chip planes (suc n) same =
     let one : suc n ≡ n + 1 = omega arith in
     ap (listings planes) one
     ∙ listings_step planes n
-    ∙ (λ i. same_listings chip planes n (λ a h. same a (omega (arith, h))) i ++ listing_of n (same n (omega arith) i))
+    ∙ (λ i. same_listings chip planes n (λ a h. same a (omega (arith, h))) i ++ plane_listing n (same n (omega arith) i))
     ∙ sym (listed_step chip n) ∙ ap (listed_below chip) (sym one)
 
 -- and one more, behind those that were put
 pub listed_more : (planes before after : List ℕ) (at i : ℕ) → i ≡ 4 * at → take i before ≡ listings planes at
-    → take (i + 4) after ≡ take i before ++ listing_of at (get_or planes at 0)
+    → take (i + 4) after ≡ take i before ++ plane_listing at (get_or planes at 0)
     → take (4 * (at + 1)) after ≡ listings planes (at + 1)
 listed_more planes before after at i is told more =
     let end : 4 * (at + 1) ≡ i + 4 = omega (arith, is) in
-    ap (λ (k : ℕ). take k after) end ∙ more ∙ ap (λ (xs : List ℕ). xs ++ listing_of at (get_or planes at 0)) told
+    ap (λ (k : ℕ). take k after) end ∙ more ∙ ap (λ (xs : List ℕ). xs ++ plane_listing at (get_or planes at 0)) told
     ∙ sym (listings_step planes at)

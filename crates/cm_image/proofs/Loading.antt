@@ -18,7 +18,7 @@ use Rattle.cm_image_format.specs.Cuts.{routing_part}
 use Rattle.cm_image_format.specs.Image.{Listed, ChipImage, flags_part, memory_part, messages_part, chip_part}
 use Rattle.cm_element.specs.Near.{with_near}
 use Rattle.cm_element.specs.Planes.{chip_of}
-use Rattle.cm_image_format.specs.Whole.{planes_of, chip_from, Image, machine_from, messages_in, image_part, ended}
+use Rattle.cm_image_format.specs.Whole.{planes_of, chip_from, Image, machine_of_image, messages_in, image_part, ended}
 use Rattle.cm_image_format.specs.Whole.{read_image, image_fault}
 use Rattle.cm_image.specs.Chips.{with_flags, with_listed, with_message, with_chip_image, IsBlankFrom, blank_at}
 use Rattle.cm_image.specs.Chips.{chips_part, machine_of_chips, put_chip, chips_onto, IsReadTo}
@@ -288,20 +288,20 @@ flat_map-map : {X Y A : Type 0} (g : Y → List A) (f : X → Y) (xs : List X)
 flat_map-map g f [] = refl
 flat_map-map g f (x ∷ xs) = ap (λ z. g (f x) ++ z) (flat_map-map g f xs)
 
-messages_of-machine_from : (image : Image) → standing_messages (machine_from image) ≡ messages_in image.chips
-unfolding machine_from
-messages_of-machine_from image =
+messages_of-machine_of_image : (image : Image) → standing_messages (machine_of_image image) ≡ messages_in image.chips
+unfolding machine_of_image
+messages_of-machine_of_image image =
     flat_map-map (λ (buffer : List Message). buffer) (λ (chip : ChipImage). chip.messages) image.chips
 
 ended_is : (image : Image) (rest : List ℕ)
-    → ended image rest ≡ told (has_tag_twice (messages_in image.chips)) (machine_from image) rest
+    → ended image rest ≡ told (has_tag_twice (messages_in image.chips)) (machine_of_image image) rest
 ended_is image [] = elim (has_tag_twice (messages_in image.chips)) as
-    (λ (b : Bool). (if b then Err TagTwice else Ok (machine_from image))
-    ≡ told b (machine_from image) []) [ true ↦ refl | false ↦ refl ]
+    (λ (b : Bool). (if b then Err TagTwice else Ok (machine_of_image image))
+    ≡ told b (machine_of_image image) []) [ true ↦ refl | false ↦ refl ]
 ended_is image (byte ∷ bytes) =
     elim (has_tag_twice (messages_in image.chips)) as
     (λ (b : Bool). (if b then Err TagTwice else Err Extra)
-    ≡ told b (machine_from image) (byte ∷ bytes)) [ true ↦ refl | false ↦ refl ]
+    ≡ told b (machine_of_image image) (byte ∷ bytes)) [ true ↦ refl | false ↦ refl ]
 
 image_told : (n cap : ℕ) (header : Head × ℕ) (bytes after rest : List ℕ) (first machine : Machine)
     → IsBegun n cap header bytes after first
@@ -312,7 +312,7 @@ image_told n cap header bytes after rest first machine begun chips =
     let images = made_of (machine_of_chips header.1 first.routing) (chips_part n cap header.1) after rest machine chips in
     let image : Image = record { clock = header.1; routing = first.routing; chips = images.0 } in
     let twice : has_tag_twice (messages_in images.0) ≡ has_tag_twice (standing_messages machine) =
-    ap has_tag_twice (sym (messages_of-machine_from image) ∙ ap standing_messages images.2) in
+    ap has_tag_twice (sym (messages_of-machine_of_image image) ∙ ap standing_messages images.2) in
     rw (begun.header_is, begun.routing_is, images.1)
     (ended_is image rest ∙ (λ i. told (twice i) (images.2 i) rest))
 

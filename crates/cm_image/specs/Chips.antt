@@ -11,7 +11,7 @@ use Rattle.cm_image_format.specs.Reading.{Read, made, many}
 use Rattle.cm_image_format.specs.Header.{Head, header_part}
 use Rattle.cm_image_format.specs.Cuts.{routing_part}
 use Rattle.cm_image_format.specs.Image.{Listed, ChipImage, chip_part}
-use Rattle.cm_image_format.specs.Whole.{chip_from, machine_from}
+use Rattle.cm_image_format.specs.Whole.{chip_from, machine_of_image}
 
 -- the machine with a chip of these planes, of memory and of flags
 abbrev pub with_chip : ℕ → Machine → List ℕ → List ℕ → Machine
@@ -53,7 +53,7 @@ chips_part n cap clock = many (λ i chip. i) (λ i. chip_part n cap clock) (2 ^ 
 
 -- the machine of chips that were read behind a counter and a routing
 abbrev pub machine_of_chips : ℕ → Routing → List ChipImage → Machine
-machine_of_chips clock routing chips = machine_from (record { clock = clock; routing = routing; chips = chips })
+machine_of_chips clock routing chips = machine_of_image (record { clock = clock; routing = routing; chips = chips })
 
 -- a machine and how many of its chips were put in, with one chip more
 abbrev pub put_chip : Machine × ℕ → ChipImage → Machine × ℕ

@@ -28,17 +28,17 @@ unfoldable pub listed_below : List Processor → ℕ → List ℕ
 listed_below chip count = flat_map listed_text (planes_below chip count)
 
 -- how the plane of an address is listed: a plane that is 0 is not
-abbrev pub listing_of : ℕ → ℕ → List ℕ
-listing_of address plane = if plane == 0 then [] else listed_text (record { at = address; plane = plane })
+abbrev pub plane_listing : ℕ → ℕ → List ℕ
+plane_listing address plane = if plane == 0 then [] else listed_text (record { at = address; plane = plane })
 
 -- how that of an address is listed, if it is
 abbrev pub listing_at : List Processor → ℕ → List ℕ
-listing_at chip address = listing_of address (memory_plane_of chip address)
+listing_at chip address = plane_listing address (memory_plane_of chip address)
 
 -- those of a list below an address, one after another
 unfoldable pub listings : List ℕ → ℕ → List ℕ
 listings planes count =
-    flat_map (λ address. listing_of address (slice_index planes address)) (each_from 0 count (λ address. address))
+    flat_map (λ address. plane_listing address (slice_index planes address)) (each_from 0 count (λ address. address))
 
 -- addresses below this one, at which alone planes of so many chips are listed
 pub record AreInUse (count : ℕ) (chips : Chips) (below : ℕ) (addresses : List ℕ) : Type 0 where

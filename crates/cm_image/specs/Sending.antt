@@ -30,10 +30,10 @@ pub record GoesOutInPart (held holds : Option (List ℕ)) (bytes : List ℕ) : T
   pub so : GoesOut held holds bytes left
 
 -- whether a write failed
-abbrev pub is_write : Result (Unit {0}) DumpFault → Bool
-is_write (Ok done) = false
-is_write (Err Write) = true
-is_write (Err Memory) = false
+abbrev pub is_dump_write : Result (Unit {0}) DumpFault → Bool
+is_dump_write (Ok done) = false
+is_dump_write (Err Write) = true
+is_dump_write (Err Memory) = false
 
 -- room for 64 chips, or for their planes
 abbrev pub IsNear : Near → Type 0

@@ -6,7 +6,7 @@ use Rattle.cm_array.specs.Pokes.{machine_with_chips}
 use Rattle.cm_image_format.specs.Image.{listed_part}
 
 -- planes that lie chip by chip, of at most 256 chips, with room for all of them
-pub record IsTile (planes : List ℕ) (capacity : ℕ) (flags : List ℕ) (flags_capacity : ℕ) (count : ℕ) : Type 0 where
+pub record IsPlaneTile (planes : List ℕ) (capacity : ℕ) (flags : List ℕ) (flags_capacity : ℕ) (count : ℕ) : Type 0 where
   pub few : count ≤ 256
   pub memory : count * 4128 ≤ length planes
   pub room : 256 * 4128 ≤ capacity

@@ -7,8 +7,8 @@ ghost use Rattle.std.specs.List.{flat_map};
 ghost use Rattle.cm_model.specs.Array.{chip_at};
 ghost use Rattle.cm_image_format.specs.Image.{chip_text};
 ghost use Rattle.cm_image_format.specs.Whole.{memory_plane_of, image_of_chip, image_of};
-ghost use Rattle.cm_image.specs.Planes.{AreCounted, chips_text, listing_of, listings, planes_below};
-ghost use Rattle.cm_image.specs.Sending.{GoesOut, GoesOutInPart, is_write};
+ghost use Rattle.cm_image.specs.Planes.{AreCounted, chips_text, plane_listing, listings, planes_below};
+ghost use Rattle.cm_image.specs.Sending.{GoesOut, GoesOutInPart, is_dump_write};
 
 use crate::counts::ADDRESSES;
 use crate::dumps::{push, push_flags, push_messages, push_plane, push_u8, push_u16};
@@ -43,7 +43,7 @@ pub(crate) fn send_dense_chips<const N: usize, const CAP: usize, O: Sink>(
         (text.old.items ++ chips_text machine.now.machine 0 (2 ^ N)) text.new.items) }
     ensures err { IfErr result (λ _. GoesOutInPart (O.contents sink.old) (O.contents sink.new)
         (text.old.items ++ chips_text machine.now.machine 0 (2 ^ N))) }
-    ensures failed { O.has_failed sink.new ≡ is_write result }
+    ensures failed { O.has_failed sink.new ≡ is_dump_write result }
     ensures capacity { vec_capacity text.old ≤ vec_capacity text.new }
     ensures waits { OnOk result (length text.old.items ≤ piece → length text.new.items ≤ piece) }
     ensures memory { length text.old.items ≤ piece → piece + 20000 ≤ vec_capacity text.old
@@ -100,7 +100,7 @@ fn send_tile<const N: usize, const CAP: usize, O: Sink>(
         (text.old.items ++ chips_text machine.now.machine first some) text.new.items) }
     ensures err { IfErr result (λ _. GoesOutInPart (O.contents sink.old) (O.contents sink.new)
         (text.old.items ++ chips_text machine.now.machine first some)) }
-    ensures failed { O.has_failed sink.new ≡ is_write result }
+    ensures failed { O.has_failed sink.new ≡ is_dump_write result }
     ensures capacity { vec_capacity text.old ≤ vec_capacity text.new }
     ensures waits { OnOk result (length text.old.items ≤ piece → length text.new.items ≤ piece) }
     ensures memory { length text.old.items ≤ piece → piece + 20000 ≤ vec_capacity text.old
@@ -183,7 +183,7 @@ fn list_all(listed: &mut [u8], planes: &[Plane]) -> bool
 #[tactic(auto, using(crate::proofs::Listing::four_put), unfolding(cm_message::specs::Bytes::number_bytes))]
 fn put_listing(bytes: &mut [u8], i: usize, at: u16, plane: Plane) -> u32
     requires within { i + 4 ≤ length bytes.old }
-    ensures value { result ≡ 0 → take (i + 4) bytes.new ≡ take i bytes.old ++ listing_of at plane }
+    ensures value { result ≡ 0 → take (i + 4) bytes.new ≡ take i bytes.old ++ plane_listing at plane }
     ensures few { result ≤ 1 }
 {
     let [at_high, at_low] = at.to_be_bytes();

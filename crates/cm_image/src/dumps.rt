@@ -15,9 +15,9 @@ ghost use Rattle.cm_image_format.specs.Image.{chip_text};
 ghost use Rattle.cm_image_format.specs.Whole.{flag_plane_of, memory_plane_of, image_of_chip, image_of, text_of};
 ghost use Rattle.cm_image_format.specs.Whole.{read_image};
 ghost use Rattle.cm_image_format.specs.Laws.{without_logs};
-ghost use Rattle.cm_image.specs.Planes.{AreCounted, AreInUse, chips_text, flags_text, listing_of, listing_at};
+ghost use Rattle.cm_image.specs.Planes.{AreCounted, AreInUse, chips_text, flags_text, plane_listing, listing_at};
 ghost use Rattle.cm_image.specs.Planes.{listed_below, planes_below};
-ghost use Rattle.cm_image.specs.Sending.{front_text, GoesOut, GoesOutInPart, is_write};
+ghost use Rattle.cm_image.specs.Sending.{front_text, GoesOut, GoesOutInPart, is_dump_write};
 
 use crate::cuts::{cuts_len, push_cuts, version_of};
 use crate::header::MAGIC;
@@ -179,7 +179,7 @@ pub(crate) fn send_chips<const N: usize, const CAP: usize, O: Sink>(
         (text.old.items ++ chips_text machine.now.machine 0 (2 ^ N)) text.new.items) }
     ensures err { IfErr result (λ _. GoesOutInPart (O.contents sink.old) (O.contents sink.new)
         (text.old.items ++ chips_text machine.now.machine 0 (2 ^ N))) }
-    ensures failed { O.has_failed sink.new ≡ is_write result }
+    ensures failed { O.has_failed sink.new ≡ is_dump_write result }
     ensures capacity { vec_capacity text.old ≤ vec_capacity text.new }
     ensures waits { OnOk result (length text.old.items ≤ piece → length text.new.items ≤ piece) }
     ensures memory { length text.old.items ≤ piece → piece + 20000 ≤ vec_capacity text.old
@@ -224,7 +224,7 @@ fn send_tile<const N: usize, const CAP: usize, O: Sink>(
         (text.old.items ++ chips_text machine.now.machine first some) text.new.items) }
     ensures err { IfErr result (λ _. GoesOutInPart (O.contents sink.old) (O.contents sink.new)
         (text.old.items ++ chips_text machine.now.machine first some)) }
-    ensures failed { O.has_failed sink.new ≡ is_write result }
+    ensures failed { O.has_failed sink.new ≡ is_dump_write result }
     ensures capacity { vec_capacity text.old ≤ vec_capacity text.new }
     ensures waits { OnOk result (length text.old.items ≤ piece → length text.new.items ≤ piece) }
     ensures memory { length text.old.items ≤ piece → piece + 20000 ≤ vec_capacity text.old
@@ -375,7 +375,7 @@ fn push_planes(text: &mut Vec<u8>, chip: &ChipView<'_>, addresses: &[u16]) -> Re
 /// The address and the plane, but nothing where it is 0.
 #[tactic(auto, unfolding(cm_message::specs::Bytes::number_bytes))]
 pub(crate) fn push_plane(text: &mut Vec<u8>, at: u16, plane: Plane) -> Result<(), NoMemory>
-    ensures ok { OnOk result (text.new.items ≡ text.old.items ++ listing_of at plane) }
+    ensures ok { OnOk result (text.new.items ≡ text.old.items ++ plane_listing at plane) }
     ensures capacity { vec_capacity text.old ≤ vec_capacity text.new }
     ensures grows { OnOk result (length text.new.items ≤ length text.old.items + 4) }
     ensures full { OnErr result (vec_capacity text.old < length text.old.items + 4) }

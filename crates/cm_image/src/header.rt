@@ -4,7 +4,7 @@ ghost use Rattle.std.specs.Prelude.{◌≡◌, ◌<◌, ◌≤◌, ◌^◌, ◌=
 ghost use Rattle.std.specs.Int.{w8, w32};
 ghost use Rattle.cm_model.specs.Wiring.{rule_number};
 ghost use Rattle.cm_model.specs.Keeping.{AreSizes};
-ghost use Rattle.cm_image_format.specs.Reading.{Gives, must, part};
+ghost use Rattle.cm_image_format.specs.Reading.{Gives, must, checked_number};
 ghost use Rattle.cm_image_format.specs.Header.{MAGIC, is_version, is_rule, header_part};
 ghost use Rattle.cm_image_format.specs.Whole.{read_shape};
 ghost use Rattle.cm_image.specs.Cuts.{header_of};
@@ -77,7 +77,8 @@ pub(crate) fn take_header(n: usize, cap: usize, bytes: &[u8]) -> Result<(Header,
 }
 
 fn take_magic(bytes: &[u8]) -> Result<(u32, &[u8]), ImageFault>
-    ensures value { Gives (λ x. (x.0, x.1.now)) result (part w32 (must ImageFault.Magic (λ k. k == MAGIC)) bytes.now) }
+    ensures value { Gives (λ x. (x.0, x.1.now)) result
+        (checked_number w32 (must ImageFault.Magic (λ k. k == MAGIC)) bytes.now) }
 {
     let (magic, rest) = take_u32(bytes)?;
     if magic != MAGIC {
@@ -87,7 +88,8 @@ fn take_magic(bytes: &[u8]) -> Result<(u32, &[u8]), ImageFault>
 }
 
 fn take_version(bytes: &[u8]) -> Result<(u8, &[u8]), ImageFault>
-    ensures value { Gives (λ x. (x.0, x.1.now)) result (part w8 (must ImageFault.Version is_version) bytes.now) }
+    ensures value { Gives (λ x. (x.0, x.1.now)) result
+        (checked_number w8 (must ImageFault.Version is_version) bytes.now) }
     ensures known { IfOk result (λ x. x.0 ≤ 2) }
 {
     let (version, rest) = take_u8(bytes)?;
@@ -101,7 +103,7 @@ fn take_version(bytes: &[u8]) -> Result<(u8, &[u8]), ImageFault>
 fn take_rule(version: u8, bytes: &[u8]) -> Result<(Rule, &[u8]), ImageFault>
     requires known { version ≤ 2 }
     ensures value { Gives (λ x. (rule_number x.0, x.1.now)) result
-        (part w8 (must ImageFault.Shape (is_rule version)) bytes.now) }
+        (checked_number w8 (must ImageFault.Shape (is_rule version)) bytes.now) }
 {
     let (number, rest) = take_u8(bytes)?;
     if number >= version {

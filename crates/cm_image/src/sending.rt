@@ -6,7 +6,7 @@ ghost use Rattle.std.specs.Io.KnownBytes.{Appends};
 ghost use Rattle.cm_model.specs.Keeping.{AreSizes};
 ghost use Rattle.cm_image_format.specs.Whole.{text_of};
 ghost use Rattle.cm_image.specs.Planes.{AreCounted, AreInUse, chips_text};
-ghost use Rattle.cm_image.specs.Sending.{GoesOut, GoesOutInPart, IsLaidOutFor, IsNear, IsRoomOf, is_write};
+ghost use Rattle.cm_image.specs.Sending.{GoesOut, GoesOutInPart, IsLaidOutFor, IsNear, IsRoomOf, is_dump_write};
 
 use crate::counts::{addresses_in_use, listed_planes};
 use crate::dense::{TILE_PLANES, send_dense_chips};
@@ -126,7 +126,7 @@ pub fn dump_into<const N: usize, const CAP: usize, O: Sink>(
     ensures ok { OnOk result (Appends (O.contents sink.old) (O.contents sink.new) (text_of N CAP machine.now.machine)) }
     ensures err { IfErr result (λ _. GoesOutInPart (O.contents sink.old) (O.contents sink.new)
         (text_of N CAP machine.now.machine)) }
-    ensures failed { O.has_failed sink.new ≡ is_write result }
+    ensures failed { O.has_failed sink.new ≡ is_dump_write result }
     ensures memory { ¬ IsErrOf result DumpFault.Memory }
 {
     sizes(machine);
@@ -165,7 +165,7 @@ pub(crate) fn send_all_chips<const N: usize, const CAP: usize, O: Sink>(
         (text.old.items ++ chips_text machine.now.machine 0 (2 ^ N)) text.new.items) }
     ensures err { IfErr result (λ _. GoesOutInPart (O.contents sink.old) (O.contents sink.new)
         (text.old.items ++ chips_text machine.now.machine 0 (2 ^ N))) }
-    ensures failed { O.has_failed sink.new ≡ is_write result }
+    ensures failed { O.has_failed sink.new ≡ is_dump_write result }
     ensures capacity { vec_capacity text.old ≤ vec_capacity text.new }
     ensures waits { OnOk result (length text.old.items ≤ piece → length text.new.items ≤ piece) }
     ensures memory { length text.old.items ≤ piece → piece + 20000 ≤ vec_capacity text.old
@@ -195,7 +195,7 @@ pub(crate) fn send_full<O: Sink>(
     requires working { O.has_failed sink.old ≡ false }
     ensures ok { OnOk result (GoesOut (O.contents sink.old) (O.contents sink.new) text.old.items text.new.items) }
     ensures err { IfErr result (λ _. GoesOutInPart (O.contents sink.old) (O.contents sink.new) text.old.items) }
-    ensures failed { O.has_failed sink.new ≡ is_write result }
+    ensures failed { O.has_failed sink.new ≡ is_dump_write result }
     ensures capacity { vec_capacity text.new ≡ vec_capacity text.old }
     ensures waits { OnOk result (length text.new.items ≤ piece) }
     ensures memory { ¬ IsErrOf result DumpFault.Memory }
@@ -212,7 +212,7 @@ fn send_out<O: Sink>(text: &mut Vec<u8>, sink: &mut O) -> Result<(), DumpFault>
     ensures ok { OnOk result (GoesOut (O.contents sink.old) (O.contents sink.new) text.old.items text.new.items) }
     ensures all { OnOk result (text.new.items ≡ []) }
     ensures err { IfErr result (λ _. GoesOutInPart (O.contents sink.old) (O.contents sink.new) text.old.items) }
-    ensures failed { O.has_failed sink.new ≡ is_write result }
+    ensures failed { O.has_failed sink.new ≡ is_dump_write result }
     ensures capacity { vec_capacity text.new ≡ vec_capacity text.old }
     ensures memory { ¬ IsErrOf result DumpFault.Memory }
 {

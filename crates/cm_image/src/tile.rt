@@ -39,13 +39,13 @@ impl Model for Tile {
     ghost use Rattle.std.specs.Prelude.{vec_capacity};
     ghost use Rattle.cm_model.specs.Array.{Chips};
     ghost use Rattle.cm_element.specs.Runs.{chips_beside};
-    ghost use Rattle.cm_image.specs.Tile.{IsTile};
+    ghost use Rattle.cm_image.specs.Tile.{IsPlaneTile};
 
     ghost Value = { Chips };
 
     ghost view = { λ tile. chips_beside tile.memory.items tile.flags.items tile.count };
 
-    ghost invariant = { λ tile. IsTile tile.memory.items (vec_capacity tile.memory) tile.flags.items
+    ghost invariant = { λ tile. IsPlaneTile tile.memory.items (vec_capacity tile.memory) tile.flags.items
         (vec_capacity tile.flags) tile.count };
 }
 

@@ -18,13 +18,13 @@ use Rattle.cm_model.specs.Wiring.{Routing, rule_number, wire_before, AreRising, 
 use Rattle.cm_model.proofs.Cuts.{cuts_are_few}
 use Rattle.cm_message.specs.Bytes.{number_bytes}
 use Rattle.cm_image_format.specs.declared.fault.ImageFault.TheVariants.{Count, Value}
-use Rattle.cm_image_format.specs.Reading.{Read, must, part, followed}
+use Rattle.cm_image_format.specs.Reading.{Read, must, checked_number, followed}
 use Rattle.cm_image_format.specs.Header.{is_version, is_rule, Head}
 use Rattle.cm_image_format.specs.Cuts.{chip_number_part, cut_text, cut_fault, cut_part, after_cut, is_cut_count}
 use Rattle.cm_image_format.specs.Cuts.{listed_cuts_text, listed_cuts_part, cuts_text, cuts_part, version_by, version_of}
 use Rattle.cm_image_format.specs.Cuts.{head_of, rule_of, routing_part}
 use Rattle.cm_image_format.proofs.Numbers.{Reads, Fits8, Fits16, number_8, number_16}
-use Rattle.cm_image_format.proofs.Forms.{must_pass, must_hold, same_ok, AllFrom, Reads-part, Reads-followed, Reads-made}
+use Rattle.cm_image_format.proofs.Forms.{must_pass, must_hold, same_ok, AllFrom, Reads-checked_number, Reads-followed, Reads-made}
 use Rattle.cm_image_format.proofs.Forms.{Reads-counted}
 use Rattle.cm_image_format.proofs.Parts.{IsBelow, below_pass, below_hold, value_pass, value_hold}
 use Rattle.cm_image_format.proofs.Header.{version_cases}
@@ -47,11 +47,11 @@ Reads-cut n least =
     Reads-made (λ (p : ℕ × ℕ). IsChipNumber n p.0 × MayFollow n least p.0 p.1) (IsCut n least)
     (λ (p : ℕ × ℕ). number_bytes w16 p.0 ++ number_bytes w8 p.1) cut_text
     (λ (p : ℕ × ℕ). record { chip = p.0; dim = p.1 }) (λ (w : Wire). (w.chip, w.dim))
-    (followed (chip_number_part n) (λ chip. part w8 (cut_fault n least chip)))
+    (followed (chip_number_part n) (λ chip. checked_number w8 (cut_fault n least chip)))
     (Reads-followed (IsChipNumber n) (MayFollow n least) (number_bytes w16) (λ (chip : ℕ). number_bytes w8)
-    (chip_number_part n) (λ chip. part w8 (cut_fault n least chip))
-    (Reads-part w16 (must Value (λ k. nat_lt k (2 ^ n))) Fits16 number_16)
-    (λ chip good. Reads-part w8 (cut_fault n least chip) Fits8 number_8))
+    (chip_number_part n) (λ chip. checked_number w8 (cut_fault n least chip))
+    (Reads-checked_number w16 (must Value (λ k. nat_lt k (2 ^ n))) Fits16 number_16)
+    (λ chip good. Reads-checked_number w8 (cut_fault n least chip) Fits8 number_8))
     (λ w good. refl) (λ w good. good) (λ w good. refl) (λ p good. (good, refl))
 
 -- ---- all wires

@@ -5,7 +5,7 @@ use Rattle.std.specs.Int.{Width}
 use Rattle.std.specs.List.{flat_map}
 use Rattle.cm_message.specs.Bytes.{number_bytes}
 use Rattle.cm_image_format.specs.declared.fault.ImageFault.{ImageFault}
-use Rattle.cm_image_format.specs.Reading.{◌>>=◌, Read, Check, unless, number_at, part, followed, made, many, counted}
+use Rattle.cm_image_format.specs.Reading.{◌>>=◌, Read, Check, unless, number_at, checked_number, followed, made, many, counted}
 use Rattle.cm_image_format.specs.Laws.{AreBytes}
 use Rattle.cm_image_format.proofs.Numbers.{Reads, AreBytes-rest}
 
@@ -37,9 +37,9 @@ must_hold fault false is = absurd (cc)
 
 -- ---- a part
 
-pub Reads-part : (w : Width) (check : Check) (Fits : ℕ → Type 0) → Reads Fits (number_bytes w) (number_at w)
-    → Reads (λ n. Fits n × (check n ≡ None)) (number_bytes w) (part w check)
-Reads-part w check Fits inner = record {
+pub Reads-checked_number : (w : Width) (check : Check) (Fits : ℕ → Type 0) → Reads Fits (number_bytes w) (number_at w)
+    → Reads (λ n. Fits n × (check n ≡ None)) (number_bytes w) (checked_number w check)
+Reads-checked_number w check Fits inner = record {
   back = λ n rest good. rw (inner.back n rest good.0, good.1) refl;
   only = λ bytes rest n are read.
       let first = bound (number_at w bytes) (λ x. unless (check x.0) (x.0, x.1)) (n, rest) read in
@@ -154,10 +154,10 @@ Reads-counted {A} w check Fits next Good text one inner each s =
     (λ (xs : List A). (Fits (length xs) × (check (length xs) ≡ None)) × AllFrom next Good s xs)
     (λ (p : ℕ × List A). number_bytes w p.0 ++ flat_map text p.1) (λ (xs : List A). number_bytes w (length xs) ++ flat_map text xs)
     (λ (p : ℕ × List A). p.1) (λ (xs : List A). (length xs, xs))
-    (followed (part w check) (λ count. many next one count s))
+    (followed (checked_number w check) (λ count. many next one count s))
     (Reads-followed (λ n. Fits n × (check n ≡ None)) (λ n (xs : List A). (length xs ≡ n) × AllFrom next Good s xs)
-    (number_bytes w) (λ n. flat_map text) (part w check) (λ count. many next one count s)
-    (Reads-part w check Fits inner) (λ n good. Reads-many next Good text one each n s))
+    (number_bytes w) (λ n. flat_map text) (checked_number w check) (λ count. many next one count s)
+    (Reads-checked_number w check Fits inner) (λ n good. Reads-many next Good text one each n s))
     (λ xs good. refl) (λ xs good. (good.0, (refl, good.1))) (λ xs good. refl)
     (λ p good. (
       (subst (λ (n : ℕ). Fits n × (check n ≡ None)) (sym good.1.0) good.0, good.1.1),

@@ -6,11 +6,11 @@ use Rattle.std.proofs.lemmas.Bool.{and_parts, or_cases, eqb-true, leb-true, ltb-
 use Rattle.cm_message.specs.Bytes.{number_bytes}
 use Rattle.cm_image_format.specs.declared.fault.ImageFault.{ImageFault}
 use Rattle.cm_image_format.specs.declared.fault.ImageFault.TheVariants.{Magic, Version, Shape, Value}
-use Rattle.cm_image_format.specs.Reading.{must, part, followed, ◌⨾◌}
+use Rattle.cm_image_format.specs.Reading.{must, checked_number, followed, ◌⨾◌}
 use Rattle.cm_image_format.specs.Header.{MAGIC, is_version, is_dimension, is_room, is_rule, Head, head_text, shape_part}
 use Rattle.cm_image_format.specs.Header.{clock_part, header_part}
 use Rattle.cm_image_format.proofs.Numbers.{Reads, Fits8, Fits32, Fits64, number_8, number_32, number_64}
-use Rattle.cm_image_format.proofs.Forms.{must_pass, must_hold, Reads-part, Reads-followed, Reads-made}
+use Rattle.cm_image_format.proofs.Forms.{must_pass, must_hold, Reads-checked_number, Reads-followed, Reads-made}
 use Rattle.cm_image_format.proofs.Parts.{Reads-then, below_hold, IsBelow}
 
 -- ---- the first eight bytes
@@ -23,8 +23,8 @@ abbrev Passes : (ℕ → Bool) → ImageFault → ℕ → Type 0
 Passes holds fault k = Fits8 k × (must fault holds k ≡ None)
 
 reads_byte : (holds : ℕ → Bool) (fault : ImageFault)
-    → Reads (Passes holds fault) (number_bytes w8) (part w8 (must fault holds))
-reads_byte holds fault = Reads-part w8 (must fault holds) Fits8 number_8
+    → Reads (Passes holds fault) (number_bytes w8) (checked_number w8 (must fault holds))
+reads_byte holds fault = Reads-checked_number w8 (must fault holds) Fits8 number_8
 
 -- dimension, room and rule, in an image of this version
 abbrev GoodThree : (ℕ → Bool) → (ℕ → Bool) → ℕ → ℕ × (ℕ × ℕ) → Type 0
@@ -36,14 +36,15 @@ three_text p = number_bytes w8 p.0 ++ (number_bytes w8 p.1.0 ++ number_bytes w8 
 
 reads_three : (dimension room : ℕ → Bool) (version : ℕ)
     → Reads (GoodThree dimension room version) three_text
-    (part w8 (must Shape dimension) ⨾ part w8 (must Shape room) ⨾ part w8 (must Shape (is_rule version)))
+    (checked_number w8 (must Shape dimension) ⨾ checked_number w8 (must Shape room) ⨾ checked_number w8 (must Shape (is_rule version)))
 reads_three dimension room version =
     Reads-then (Passes dimension Shape) (λ (p : ℕ × ℕ). Passes room Shape p.0 × Passes (is_rule version) Shape p.1)
     (number_bytes w8) (λ (p : ℕ × ℕ). number_bytes w8 p.0 ++ number_bytes w8 p.1)
-    (part w8 (must Shape dimension)) (part w8 (must Shape room) ⨾ part w8 (must Shape (is_rule version)))
+    (checked_number w8 (must Shape dimension)) (checked_number w8 (must Shape room) ⨾ checked_number w8 (must Shape (is_rule version)))
     (reads_byte dimension Shape)
-    (Reads-then (Passes room Shape) (Passes (is_rule version) Shape) (number_bytes w8) (number_bytes w8) (part w8 (must Shape room))
-    (part w8 (must Shape (is_rule version))) (reads_byte room Shape) (reads_byte (is_rule version) Shape))
+    (Reads-then (Passes room Shape) (Passes (is_rule version) Shape) (number_bytes w8) (number_bytes w8)
+    (checked_number w8 (must Shape room))
+    (checked_number w8 (must Shape (is_rule version))) (reads_byte room Shape) (reads_byte (is_rule version) Shape))
 
 abbrev GoodFive : (ℕ → Bool) → (ℕ → Bool) → Five → Type 0
 GoodFive dimension room p =
@@ -55,21 +56,21 @@ five_text p = number_bytes w32 p.0 ++ (number_bytes w8 p.1.0 ++ three_text p.1.1
 
 reads_five : (dimension room : ℕ → Bool)
     → Reads (GoodFive dimension room) five_text
-    (part w32 (must Magic (λ k. k == MAGIC))
-    ⨾ followed (part w8 (must Version is_version)) (λ version.
-    part w8 (must Shape dimension) ⨾ part w8 (must Shape room) ⨾ part w8 (must Shape (is_rule version))))
+    (checked_number w32 (must Magic (λ k. k == MAGIC))
+    ⨾ followed (checked_number w8 (must Version is_version)) (λ version.
+    checked_number w8 (must Shape dimension) ⨾ checked_number w8 (must Shape room) ⨾ checked_number w8 (must Shape (is_rule version))))
 reads_five dimension room =
     Reads-then (λ k. Fits32 k × (must Magic (λ j. j == MAGIC) k ≡ None))
     (λ (p : ℕ × (ℕ × (ℕ × ℕ))). Passes is_version Version p.0 × GoodThree dimension room p.0 p.1)
     (number_bytes w32) (λ (p : ℕ × (ℕ × (ℕ × ℕ))). number_bytes w8 p.0 ++ three_text p.1)
-    (part w32 (must Magic (λ k. k == MAGIC)))
-    (followed (part w8 (must Version is_version)) (λ version.
-    part w8 (must Shape dimension) ⨾ part w8 (must Shape room) ⨾ part w8 (must Shape (is_rule version))))
-    (Reads-part w32 (must Magic (λ k. k == MAGIC)) Fits32 number_32)
+    (checked_number w32 (must Magic (λ k. k == MAGIC)))
+    (followed (checked_number w8 (must Version is_version)) (λ version.
+    checked_number w8 (must Shape dimension) ⨾ checked_number w8 (must Shape room) ⨾ checked_number w8 (must Shape (is_rule version))))
+    (Reads-checked_number w32 (must Magic (λ k. k == MAGIC)) Fits32 number_32)
     (Reads-followed (Passes is_version Version) (GoodThree dimension room) (number_bytes w8) (λ version. three_text)
-    (part w8 (must Version is_version))
+    (checked_number w8 (must Version is_version))
     (λ version.
-    part w8 (must Shape dimension) ⨾ part w8 (must Shape room) ⨾ part w8 (must Shape (is_rule version)))
+    checked_number w8 (must Shape dimension) ⨾ checked_number w8 (must Shape room) ⨾ checked_number w8 (must Shape (is_rule version)))
     (reads_byte is_version Version) (λ version good. reads_three dimension room version))
 
 -- a version is one of two
@@ -140,9 +141,9 @@ pub Reads-shape : (dimension room : ℕ → Bool)
     → Reads (IsHead dimension room) head_text (shape_part dimension room)
 Reads-shape dimension room =
     Reads-made (GoodFive dimension room) (IsHead dimension room) five_text head_text to_head to_five
-    (part w32 (must Magic (λ k. k == MAGIC))
-    ⨾ followed (part w8 (must Version is_version)) (λ version.
-    part w8 (must Shape dimension) ⨾ part w8 (must Shape room) ⨾ part w8 (must Shape (is_rule version))))
+    (checked_number w32 (must Magic (λ k. k == MAGIC))
+    ⨾ followed (checked_number w8 (must Version is_version)) (λ version.
+    checked_number w8 (must Shape dimension) ⨾ checked_number w8 (must Shape room) ⨾ checked_number w8 (must Shape (is_rule version))))
     (reads_five dimension room)
     (λ head is. refl) (λ head is. good_five dimension room head is) (λ head is. five_of_head head)
     (λ p good. from_five dimension room p good)
@@ -168,7 +169,7 @@ pub Reads-header : (n cap : ℕ) → Reads (IsHeader n cap) header_text (header_
 Reads-header n cap =
     Reads-then (IsHead (is_n n) (is_cap cap)) Clock head_text (number_bytes w64)
     (shape_part (is_n n) (is_cap cap)) clock_part
-    (Reads-shape (is_n n) (is_cap cap)) (Reads-part w64 (must Value (λ k. nat_lt k (2 ^ 63))) Fits64 number_64)
+    (Reads-shape (is_n n) (is_cap cap)) (Reads-checked_number w64 (must Value (λ k. nat_lt k (2 ^ 63))) Fits64 number_64)
 
 -- what the header of an image tells
 pub record Told (n cap : ℕ) (h : Head × ℕ) : Type 0 where

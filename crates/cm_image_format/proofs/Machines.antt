@@ -19,8 +19,8 @@ use Rattle.cm_model.proofs.Each.{length-each_from, get_or-each_below, is_each}
 use Rattle.cm_model.proofs.Unlogged.{standing, none_injected, HasTagsOnce-standing, IsBorn, BornBefore-buffers, born_at}
 use Rattle.cm_image_format.specs.declared.fault.ImageFault.TheVariants.{Count}
 use Rattle.cm_image_format.specs.Image.{ChipImage}
-use Rattle.cm_image_format.specs.Whole.{image_of_chip, chip_from, Image, image_of, machine_from, messages_in}
-use Rattle.cm_image_format.specs.Laws.{IsStored}
+use Rattle.cm_image_format.specs.Whole.{image_of_chip, chip_from, Image, image_of, machine_of_image, messages_in}
+use Rattle.cm_image_format.specs.Laws.{IsStorable}
 use Rattle.cm_image_format.proofs.Forms.{must_hold}
 use Rattle.cm_image_format.proofs.Parts.{IsStoredMessage, IsChipImage}
 use Rattle.cm_image_format.proofs.Images.{IsImage}
@@ -42,10 +42,10 @@ buffer_again machine c = refl
 
 -- ---- a machine is made again of its image
 
-pub machine_from-image_of : (n cap : ℕ) (machine : Machine) → IsStored n cap machine
-    → machine_from (image_of n machine) ≡ machine
-unfolding machine_from
-machine_from-image_of n cap machine is =
+pub machine_of_image-image_of : (n cap : ℕ) (machine : Machine) → IsStorable n cap machine
+    → machine_of_image (image_of n machine) ≡ machine
+unfolding machine_of_image
+machine_of_image-image_of n cap machine is =
     let whole = is.whole in
     let chips : map chip_from (each_chip n (chip_image machine)) ≡ machine.chips =
     map-each_from chip_from 0 (2 ^ n) (chip_image machine)
@@ -65,21 +65,21 @@ abbrev no_image : ChipImage
 no_image = record { flags = []; memory = []; messages = [] }
 
 chip_made : (image : Image) (c : ℕ) → c < length image.chips
-    → chip_at (machine_from image).chips c ≡ chip_from (get_or image.chips c no_image)
-unfolding machine_from
+    → chip_at (machine_of_image image).chips c ≡ chip_from (get_or image.chips c no_image)
+unfolding machine_of_image
 chip_made image c h = get_or-map chip_from image.chips c no_image [] h
 
 buffer_made : (image : Image) (c : ℕ) → c < length image.chips
-    → list_at (machine_from image).buffers c ≡ (get_or image.chips c no_image).messages
-unfolding machine_from
+    → list_at (machine_of_image image).buffers c ≡ (get_or image.chips c no_image).messages
+unfolding machine_of_image
 buffer_made image c h = get_or-map (λ (chip : ChipImage). chip.messages) image.chips c no_image [] h
 
-clock_made : (image : Image) → (machine_from image).clock ≡ image.clock
-unfolding machine_from
+clock_made : (image : Image) → (machine_of_image image).clock ≡ image.clock
+unfolding machine_of_image
 clock_made image = refl
 
-routing_made : (image : Image) → (machine_from image).routing ≡ image.routing
-unfolding machine_from
+routing_made : (image : Image) → (machine_of_image image).routing ≡ image.routing
+unfolding machine_of_image
 routing_made image = refl
 
 each_is : (n cap : ℕ) (image : Image) (c : ℕ) → IsImage n cap image → c < 2 ^ n
@@ -88,10 +88,10 @@ each_is n cap image c is h =
     All-get_or (IsChipImage n cap image.clock) image.chips c no_image (omega (arith, is.count))
     (All-AllFrom (IsChipImage n cap image.clock) 0 image.chips is.each)
 
-pub image_of-machine_from : (n cap : ℕ) (image : Image) → IsImage n cap image → image_of n (machine_from image) ≡ image
-image_of-machine_from n cap image is =
-    let chips : each_chip n (chip_image (machine_from image)) ≡ image.chips =
-    sym (is_each no_image (2 ^ n) (chip_image (machine_from image)) image.chips is.count
+pub image_of-machine_of_image : (n cap : ℕ) (image : Image) → IsImage n cap image → image_of n (machine_of_image image) ≡ image
+image_of-machine_of_image n cap image is =
+    let chips : each_chip n (chip_image (machine_of_image image)) ≡ image.chips =
+    sym (is_each no_image (2 ^ n) (chip_image (machine_of_image image)) image.chips is.count
     (λ c h. sym ((λ i. image_of_chip (chip_made image c (omega (arith, is.count)) i)
     (buffer_made image c (omega (arith, is.count)) i))
     ∙ image_of_chip-chip_from n cap image.clock (get_or image.chips c no_image) (each_is n cap image c is h)))) in
@@ -103,7 +103,7 @@ stored_messages : (n clock : ℕ) (ms : List Message) → All (IsMessage n) ms �
     → All (IsStoredMessage n clock) ms
 stored_messages n clock ms are born = λ k d h. record { message = are k d h; birth = born k d h }
 
-pub IsImage-image_of : (n cap : ℕ) (machine : Machine) → IsStored n cap machine → IsImage n cap (image_of n machine)
+pub IsImage-image_of : (n cap : ℕ) (machine : Machine) → IsStorable n cap machine → IsImage n cap (image_of n machine)
 IsImage-image_of n cap machine is =
     let whole = is.whole in
     let chips : List ChipImage = each_chip n (chip_image machine) in
@@ -128,17 +128,17 @@ IsImage-image_of n cap machine is =
 
 -- ---- what is made of an image is a machine
 
-unlogged : (n cap : ℕ) (image : Image) → IsImage n cap image → IsUnlogged n (machine_from image)
-unfolding machine_from
+unlogged : (n cap : ℕ) (image : Image) → IsImage n cap image → IsUnlogged n (machine_of_image image)
+unfolding machine_of_image
 unlogged n cap image is =
     is_each [] (2 ^ n) (λ c. []) (map (λ (chip : ChipImage). []) image.chips)
     (length-map image.chips (λ (chip : ChipImage). []) ∙ is.count)
     (λ c h. get_or-map (λ (chip : ChipImage). []) image.chips c no_image [] (omega (arith, is.count)))
 
 counts : (n cap : ℕ) (image : Image) → IsImage n cap image
-    → (length (machine_from image).chips ≡ 2 ^ n) × (length (machine_from image).buffers ≡ 2 ^ n)
-    × (length (machine_from image).logs ≡ 2 ^ n)
-unfolding machine_from
+    → (length (machine_of_image image).chips ≡ 2 ^ n) × (length (machine_of_image image).buffers ≡ 2 ^ n)
+    × (length (machine_of_image image).logs ≡ 2 ^ n)
+unfolding machine_of_image
 counts n cap image is = (
   length-map image.chips chip_from ∙ is.count,
   length-map image.chips (λ (chip : ChipImage). chip.messages)
@@ -147,25 +147,25 @@ counts n cap image is = (
 )
 
 stored_at : (n cap : ℕ) (image : Image) (c : ℕ) → IsImage n cap image → c < 2 ^ n
-    → All (IsStoredMessage n image.clock) (list_at (machine_from image).buffers c)
+    → All (IsStoredMessage n image.clock) (list_at (machine_of_image image).buffers c)
 stored_at n cap image c is h =
     subst (λ (ms : List Message). All (IsStoredMessage n image.clock) ms)
     (sym (buffer_made image c (omega (arith, is.count))))
     (All-AllFrom (IsStoredMessage n image.clock)
     0 (get_or image.chips c no_image).messages (each_is n cap image c is h).messages.1)
 
-pub IsStored-machine_from : (n cap : ℕ) (image : Image) → IsImage n cap image
-    → has_tag_twice (messages_in image.chips) ≡ false → IsStored n cap (machine_from image)
-unfolding machine_from
-IsStored-machine_from n cap image is apart =
-    let m : Machine = machine_from image in
+pub IsStorable-machine_of_image : (n cap : ℕ) (image : Image) → IsImage n cap image
+    → has_tag_twice (messages_in image.chips) ≡ false → IsStorable n cap (machine_of_image image)
+unfolding machine_of_image
+IsStorable-machine_of_image n cap image is apart =
+    let m : Machine = machine_of_image image in
     let long = counts n cap image is in
-    let none : IsUnlogged n (machine_from image) = unlogged n cap image is in
-    let clock : (machine_from image).clock ≡ image.clock = clock_made image in
+    let none : IsUnlogged n (machine_of_image image) = unlogged n cap image is in
+    let clock : (machine_of_image image).clock ≡ image.clock = clock_made image in
     let early : image.clock < 2 ^ 63 = is.clock in
-    let once : has_tag_twice (standing n (machine_from image)) ≡ false =
-    ap has_tag_twice (sym (messages_in-image_of n (machine_from image))
-    ∙ ap (λ (im : Image). messages_in im.chips) (image_of-machine_from n cap image is)) ∙ apart in
+    let once : has_tag_twice (standing n (machine_of_image image)) ≡ false =
+    ap has_tag_twice (sym (messages_in-image_of n (machine_of_image image))
+    ∙ ap (λ (im : Image). messages_in im.chips) (image_of-machine_of_image n cap image is)) ∙ apart in
     record {
       dimension = is.dimension;
       some_room = is.some_room;
@@ -190,10 +190,10 @@ IsStored-machine_from n cap image is apart =
         events = λ c h. subst (λ (log : List Event). All (IsEventOf n c) log)
             (sym (ap (λ (logs : List (List Event)). list_at logs c) none
             ∙ get_or-each_below (2 ^ n) (λ b. []) c [] h)) (All-nil (IsEventOf n c));
-        births = BornBefore-buffers n (machine_from image) none
-            (λ c h. λ k d l. subst (λ (t : ℕ). (get_or (list_at (machine_from image).buffers c) k d).tag.birth < t)
+        births = BornBefore-buffers n (machine_of_image image) none
+            (λ c h. λ k d l. subst (λ (t : ℕ). (get_or (list_at (machine_of_image image).buffers c) k d).tag.birth < t)
             (sym clock) (stored_at n cap image c is h k d l).birth);
-        tags = HasTagsOnce-standing n (machine_from image) none once;
-        injected = none_injected n (machine_from image) none;
+        tags = HasTagsOnce-standing n (machine_of_image image) none once;
+        injected = none_injected n (machine_of_image image) none;
       };
     }

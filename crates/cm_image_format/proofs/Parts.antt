@@ -9,14 +9,14 @@ use Rattle.cm_model.specs.Keeping.{IsMessage}
 use Rattle.cm_message.specs.Bytes.{number_bytes, message_text}
 use Rattle.cm_image_format.specs.declared.fault.ImageFault.{ImageFault}
 use Rattle.cm_image_format.specs.declared.fault.ImageFault.TheVariants.{Order, Count, Value}
-use Rattle.cm_image_format.specs.Reading.{Read, must, part, number_at, ◌⨾◌}
+use Rattle.cm_image_format.specs.Reading.{Read, must, checked_number, number_at, ◌⨾◌}
 use Rattle.cm_image_format.specs.Image.{Listed, ChipImage, flag_part, address_fault, listed_text, listed_part}
 use Rattle.cm_image_format.specs.Image.{memory_part, processor_part, message_part, chip_text, flags_part, messages_part}
 use Rattle.cm_image_format.specs.Image.{chip_part}
 use Rattle.cm_image_format.specs.Cuts.{chip_number_part}
 use Rattle.cm_image_format.proofs.Numbers.{Reads, Fits8, Fits16, Fits32, Fits64, number_8, number_16, number_32}
 use Rattle.cm_image_format.proofs.Numbers.{number_64}
-use Rattle.cm_image_format.proofs.Forms.{must_pass, must_hold, AllFrom, Reads-part, Reads-followed, Reads-made}
+use Rattle.cm_image_format.proofs.Forms.{must_pass, must_hold, AllFrom, Reads-checked_number, Reads-followed, Reads-made}
 use Rattle.cm_image_format.proofs.Forms.{Reads-many, Reads-counted}
 
 -- one part after another
@@ -58,19 +58,19 @@ abbrev Six : Type 0
 Six = ℕ × (ℕ × (ℕ × (ℕ × (ℕ × ℕ))))
 
 abbrev ThreePart : ℕ → ℕ → List ℕ → Read (ℕ × (ℕ × ℕ))
-ThreePart n clock = chip_number_part n ⨾ processor_part ⨾ part w64 (must Value (λ k. nat_lt k clock))
+ThreePart n clock = chip_number_part n ⨾ processor_part ⨾ checked_number w64 (must Value (λ k. nat_lt k clock))
 
 reads_tag : (n clock : ℕ) → Reads (λ (p : ℕ × (ℕ × ℕ)). Fitting (2 ^ n) p.0 × (Sixteenth p.1.0 × Born clock p.1.1))
     (λ (p : ℕ × (ℕ × ℕ)). number_bytes w16 p.0 ++ (number_bytes w8 p.1.0 ++ number_bytes w64 p.1.1)) (ThreePart n clock)
 reads_tag n clock =
-    let birth = Reads-part w64 (must Value (λ k. nat_lt k clock)) Fits64 number_64 in
-    let proc = Reads-part w8 (must Value (λ k. nat_lt k 16)) Fits8 number_8 in
-    let chip = Reads-part w16 (must Value (λ k. nat_lt k (2 ^ n))) Fits16 number_16 in
+    let birth = Reads-checked_number w64 (must Value (λ k. nat_lt k clock)) Fits64 number_64 in
+    let proc = Reads-checked_number w8 (must Value (λ k. nat_lt k 16)) Fits8 number_8 in
+    let chip = Reads-checked_number w16 (must Value (λ k. nat_lt k (2 ^ n))) Fits16 number_16 in
     Reads-then (Fitting (2 ^ n)) (λ (p : ℕ × ℕ). Sixteenth p.0 × Born clock p.1) (number_bytes w16)
     (λ (p : ℕ × ℕ). number_bytes w8 p.0 ++ number_bytes w64 p.1)
-    (chip_number_part n) (processor_part ⨾ part w64 (must Value (λ k. nat_lt k clock))) chip
+    (chip_number_part n) (processor_part ⨾ checked_number w64 (must Value (λ k. nat_lt k clock))) chip
     (Reads-then Sixteenth (Born clock) (number_bytes w8) (number_bytes w64) processor_part
-    (part w64 (must Value (λ k. nat_lt k clock))) proc birth)
+    (checked_number w64 (must Value (λ k. nat_lt k clock))) proc birth)
 
 abbrev GoodSix : ℕ → ℕ → Six → Type 0
 GoodSix n clock p = Fitting (2 ^ n) p.0 × (Sixteenth p.1.0
@@ -85,8 +85,8 @@ six_part n clock = chip_number_part n ⨾ processor_part ⨾ number_at w32 ⨾ T
 
 reads_six : (n clock : ℕ) → Reads (GoodSix n clock) six_text (six_part n clock)
 reads_six n clock =
-    let proc = Reads-part w8 (must Value (λ k. nat_lt k 16)) Fits8 number_8 in
-    let chip = Reads-part w16 (must Value (λ k. nat_lt k (2 ^ n))) Fits16 number_16 in
+    let proc = Reads-checked_number w8 (must Value (λ k. nat_lt k 16)) Fits8 number_8 in
+    let chip = Reads-checked_number w16 (must Value (λ k. nat_lt k (2 ^ n))) Fits16 number_16 in
     Reads-then (Fitting (2 ^ n)) (λ (p : ℕ × (ℕ × (ℕ × (ℕ × ℕ)))). Sixteenth p.0
     × (Fits32 p.1.0 × (Fitting (2 ^ n) p.1.1.0 × (Sixteenth p.1.1.1.0 × Born clock p.1.1.1.1))))
     (number_bytes w16) (λ (p : ℕ × (ℕ × (ℕ × (ℕ × ℕ)))).
@@ -191,12 +191,12 @@ pub Reads-listed : (least : ℕ) → Reads (IsListed least) listed_text (listed_
 Reads-listed least =
     Reads-made (GoodListing least) (IsListed least) (λ (p : ℕ × ℕ). number_bytes w16 p.0 ++ number_bytes w16 p.1) listed_text
     (λ (p : ℕ × ℕ). record { at = p.0; plane = p.1 }) (λ (x : Listed). (x.at, x.plane))
-    (part w16 (address_fault least) ⨾ part w16 (must Order (λ plane. not (plane == 0))))
+    (checked_number w16 (address_fault least) ⨾ checked_number w16 (must Order (λ plane. not (plane == 0))))
     (Reads-then (λ k. Fits16 k × (address_fault least k ≡ None))
     (λ k. Fits16 k × (must Order (λ plane. not (plane == 0)) k ≡ None)) (number_bytes w16) (number_bytes w16)
-    (part w16 (address_fault least)) (part w16 (must Order (λ plane. not (plane == 0))))
-    (Reads-part w16 (address_fault least) Fits16 number_16)
-    (Reads-part w16 (must Order (λ plane. not (plane == 0))) Fits16 number_16))
+    (checked_number w16 (address_fault least)) (checked_number w16 (must Order (λ plane. not (plane == 0))))
+    (Reads-checked_number w16 (address_fault least) Fits16 number_16)
+    (Reads-checked_number w16 (must Order (λ plane. not (plane == 0))) Fits16 number_16))
     (λ x good. refl) (λ x good. to_listing least x good) (λ x good. refl) (λ p good. (from_listing least p good, refl))
 
 -- ---- a chip
@@ -223,7 +223,7 @@ pub record IsChipImage (n cap clock : ℕ) (image : ChipImage) : Type 0 where
 
 Reads-flags : Reads AreFlags (flat_map (number_bytes w16)) flags_part
 Reads-flags = Reads-many (λ f plane. f + 1) IsFlagPlane (number_bytes w16) flag_part
-    (λ f. Reads-part w16 (must Value (λ plane. not (f == 8) || plane == 0)) Fits16 number_16) 16 0
+    (λ f. Reads-checked_number w16 (must Value (λ plane. not (f == 8) || plane == 0)) Fits16 number_16) 16 0
 
 abbrev memory_text : List Listed → List ℕ
 memory_text memory = number_bytes w16 (length memory) ++ flat_map listed_text memory

@@ -19,7 +19,7 @@ use Rattle.cm_model.proofs.Counting.{sum_by-map, sum_by-flat_map}
 use Rattle.cm_model.proofs.Unlogged.{standing, counted_twice, none_injected, HasTagsOnce-standing}
 use Rattle.cm_model.proofs.Unlogged.{BornBefore-buffers, born_at}
 use Rattle.cm_image_format.specs.Whole.{text_of, read_image}
-use Rattle.cm_image_format.specs.Laws.{HasText, IsStored, without_logs, TextsLeaveOutLogs}
+use Rattle.cm_image_format.specs.Laws.{HasText, IsStorable, without_logs, TextsLeaveOutLogs}
 use Rattle.cm_image_format.proofs.Theorems.{texts_are_read}
 
 -- ---- tags of the account
@@ -84,9 +84,9 @@ stand_once n machine once =
 unlogged : (n : ℕ) (machine : Machine) → IsUnlogged n (without_logs n machine)
 unlogged n machine = refl
 
-IsStored-without_logs : (n cap : ℕ) (machine : Machine) → HasText n cap machine
-    → IsStored n cap (without_logs n machine)
-IsStored-without_logs n cap machine is =
+IsStorable-without_logs : (n cap : ℕ) (machine : Machine) → HasText n cap machine
+    → IsStorable n cap (without_logs n machine)
+IsStorable-without_logs n cap machine is =
     let bare : Machine = without_logs n machine in
     let none : IsUnlogged n (without_logs n machine) = unlogged n machine in
     record {
@@ -117,4 +117,4 @@ same_text n cap machine = refl
 pub texts_leave_out_logs : TextsLeaveOutLogs
 texts_leave_out_logs n cap machine is =
     ap (read_image n cap) (sym (same_text n cap machine))
-    ∙ texts_are_read n cap (without_logs n machine) (IsStored-without_logs n cap machine is)
+    ∙ texts_are_read n cap (without_logs n machine) (IsStorable-without_logs n cap machine is)

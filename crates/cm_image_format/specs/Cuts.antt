@@ -10,14 +10,14 @@ use Rattle.cm_model.specs.declared.rule.Rule.TheVariants.{First, Oldest}
 use Rattle.cm_model.specs.Wiring.{Routing, rule_number}
 use Rattle.cm_message.specs.Bytes.{number_bytes}
 use Rattle.cm_image_format.specs.declared.fault.ImageFault.TheVariants.{Order, Count, Value}
-use Rattle.cm_image_format.specs.Reading.{Read, Check, must, part, followed, made, counted}
+use Rattle.cm_image_format.specs.Reading.{Read, Check, must, checked_number, followed, made, counted}
 use Rattle.cm_image_format.specs.Header.{Head}
 
 -- ---- the wires that are cut
 
 -- a chip of the cube
 abbrev pub chip_number_part : ℕ → List ℕ → Read ℕ
-chip_number_part n = part w16 (must Value (λ k. nat_lt k (2 ^ n)))
+chip_number_part n = checked_number w16 (must Value (λ k. nat_lt k (2 ^ n)))
 
 -- the chip at its lower end, and its dimension
 abbrev pub cut_text : Wire → List ℕ
@@ -31,7 +31,7 @@ cut_fault n least chip dim =
 -- a cut wire as it is read: its chip and its dimension, which `cut_fault` judges
 abbrev pub cut_part : ℕ → ℕ → List ℕ → Read Wire
 cut_part n least = made (λ x. record { chip = x.0; dim = x.1 })
-    (followed (chip_number_part n) (λ chip. part w8 (cut_fault n least chip)))
+    (followed (chip_number_part n) (λ chip. checked_number w8 (cut_fault n least chip)))
 
 -- the least pair that may follow, as a number
 abbrev pub after_cut : ℕ → Wire → ℕ

@@ -3,7 +3,7 @@ use Rattle.std.specs.Prelude.{ℕ, ◌^◌, ◌==◌, ◌&&◌, ◌||◌, Bool, 
 use Rattle.std.specs.Int.{w8, w32, w64}
 use Rattle.cm_message.specs.Bytes.{number_bytes}
 use Rattle.cm_image_format.specs.declared.fault.ImageFault.TheVariants.{Magic, Version, Shape, Value}
-use Rattle.cm_image_format.specs.Reading.{Read, must, part, followed, ◌⨾◌, made}
+use Rattle.cm_image_format.specs.Reading.{Read, must, checked_number, followed, ◌⨾◌, made}
 
 -- the four bytes `CM1I`
 abbrev pub MAGIC : ℕ
@@ -41,13 +41,13 @@ head_text head = number_bytes w32 MAGIC
 abbrev pub shape_part : (ℕ → Bool) → (ℕ → Bool) → List ℕ → Read Head
 shape_part dimension room =
     made (λ x. record { version = x.1.0; dimension = x.1.1.0; room = x.1.1.1.0; rule = x.1.1.1.1 })
-    (part w32 (must Magic (λ k. k == MAGIC))
-    ⨾ followed (part w8 (must Version is_version)) (λ version.
-    part w8 (must Shape dimension) ⨾ part w8 (must Shape room) ⨾ part w8 (must Shape (is_rule version))))
+    (checked_number w32 (must Magic (λ k. k == MAGIC))
+    ⨾ followed (checked_number w8 (must Version is_version)) (λ version.
+    checked_number w8 (must Shape dimension) ⨾ checked_number w8 (must Shape room) ⨾ checked_number w8 (must Shape (is_rule version))))
 
 -- the counter
 abbrev pub clock_part : List ℕ → Read ℕ
-clock_part = part w64 (must Value (λ k. nat_lt k (2 ^ 63)))
+clock_part = checked_number w64 (must Value (λ k. nat_lt k (2 ^ 63)))
 
 -- the header of a machine of these sizes: its first eight bytes, then the counter
 abbrev pub header_part : ℕ → ℕ → List ℕ → Read (Head × ℕ)

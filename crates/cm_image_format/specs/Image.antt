@@ -5,7 +5,7 @@ use Rattle.std.specs.Int.{w8, w16, w32, w64}
 use Rattle.cm_model.specs.declared.message.Message.{Message}
 use Rattle.cm_message.specs.Bytes.{number_bytes, message_text}
 use Rattle.cm_image_format.specs.declared.fault.ImageFault.TheVariants.{Order, Count, Value}
-use Rattle.cm_image_format.specs.Reading.{Read, Check, must, number_at, part, ◌⨾◌, made, many, counted}
+use Rattle.cm_image_format.specs.Reading.{Read, Check, must, number_at, checked_number, ◌⨾◌, made, many, counted}
 use Rattle.cm_image_format.specs.Cuts.{chip_number_part}
 
 -- a memory plane that is listed: its address, and its bits
@@ -24,7 +24,7 @@ pub record ChipImage : Type 0 where
 
 -- the plane of flag f as it is read: that of flag 8, ZERO, must be 0
 abbrev pub flag_part : ℕ → List ℕ → Read ℕ
-flag_part f = part w16 (must Value (λ plane. not (f == 8) || plane == 0))
+flag_part f = checked_number w16 (must Value (λ plane. not (f == 8) || plane == 0))
 
 -- the address lies below 4096, and not below `least`, which is one more than the address before
 abbrev pub address_fault : ℕ → Check
@@ -37,7 +37,7 @@ listed_text x = number_bytes w16 x.at ++ number_bytes w16 x.plane
 -- a memory plane as it is read: its address, which `address_fault` judges, and bits that are not all 0
 abbrev pub listed_part : ℕ → List ℕ → Read Listed
 listed_part least = made (λ x. record { at = x.0; plane = x.1 })
-    (part w16 (address_fault least) ⨾ part w16 (must Order (λ plane. not (plane == 0))))
+    (checked_number w16 (address_fault least) ⨾ checked_number w16 (must Order (λ plane. not (plane == 0))))
 
 -- the memory planes of a chip as they are read: a count of at most 4096, and as many planes
 abbrev pub memory_part : List ℕ → Read (List Listed)
@@ -45,7 +45,7 @@ memory_part = counted w16 (must Count (λ k. nat_le k 4096)) (λ least x. x.at +
 
 -- the number of a processor as it is read: it is below 16
 abbrev pub processor_part : List ℕ → Read ℕ
-processor_part = part w8 (must Value (λ k. nat_lt k 16))
+processor_part = checked_number w8 (must Value (λ k. nat_lt k 16))
 
 -- a message as it is read: its chips are chips of the cube, and its birth lies before the counter
 abbrev pub message_part : ℕ → ℕ → List ℕ → Read Message
@@ -57,7 +57,7 @@ message_part n clock =
       tag = record { chip = x.1.1.1.0; proc = x.1.1.1.1.0; birth = x.1.1.1.1.1 };
     })
     (chip_number_part n ⨾ processor_part ⨾ number_at w32 ⨾ chip_number_part n ⨾ processor_part
-    ⨾ part w64 (must Value (λ k. nat_lt k clock)))
+    ⨾ checked_number w64 (must Value (λ k. nat_lt k clock)))
 
 -- how a chip is written: its flag planes, its memory planes behind their count, its messages behind theirs
 abbrev pub chip_text : ChipImage → List ℕ

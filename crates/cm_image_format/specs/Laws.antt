@@ -7,7 +7,7 @@ use Rattle.cm_model.specs.Unlogged.{IsUnlogged}
 use Rattle.cm_image_format.specs.Whole.{text_of, read_image, image_fault}
 
 -- a machine that an image can tell: of these sizes, whole, and without logs
-pub record IsStored (n cap : ℕ) (machine : Machine) : Type 0 where
+pub record IsStorable (n cap : ℕ) (machine : Machine) : Type 0 where
   pub dimension : n ≤ 12
   pub some_room : 1 ≤ cap
   pub most_room : cap ≤ 15
@@ -34,7 +34,7 @@ AreBytes bytes = (i : ℕ) → slice_index bytes i < 256
 -- its text is read as that machine
 abbrev pub TextsAreRead : Type 0
 TextsAreRead =
-    (n cap : ℕ) (machine : Machine) → IsStored n cap machine → read_image n cap (text_of n cap machine) ≡ Ok machine
+    (n cap : ℕ) (machine : Machine) → IsStorable n cap machine → read_image n cap (text_of n cap machine) ≡ Ok machine
 
 -- the text of a machine with logs is read as that machine without them
 abbrev pub TextsLeaveOutLogs : Type 0
@@ -46,12 +46,12 @@ TextsLeaveOutLogs =
 abbrev pub OnlyTextsAreRead : Type 0
 OnlyTextsAreRead =
     (n cap : ℕ) (bytes : List ℕ) (machine : Machine) → AreBytes bytes
-    → read_image n cap bytes ≡ Ok machine → (bytes ≡ text_of n cap machine) × IsStored n cap machine
+    → read_image n cap bytes ≡ Ok machine → (bytes ≡ text_of n cap machine) × IsStorable n cap machine
 
 -- a machine has one text, and a text is that of one machine
 abbrev pub TextsAreApart : Type 0
 TextsAreApart =
-    (n cap : ℕ) (left right : Machine) → IsStored n cap left → IsStored n cap right
+    (n cap : ℕ) (left right : Machine) → IsStorable n cap left → IsStorable n cap right
     → text_of n cap left ≡ text_of n cap right → left ≡ right
 
 -- bytes have no fault where they are the text of a machine, and nowhere else
@@ -59,4 +59,4 @@ abbrev pub TextsHaveNoFault : Type 0
 TextsHaveNoFault =
     (n cap : ℕ) (bytes : List ℕ) → AreBytes bytes
     → (image_fault n cap bytes ≡ None)
-    ↔ ((machine : Machine) × (IsStored n cap machine × (bytes ≡ text_of n cap machine)))
+    ↔ ((machine : Machine) × (IsStorable n cap machine × (bytes ≡ text_of n cap machine)))

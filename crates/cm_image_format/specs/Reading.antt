@@ -34,8 +34,8 @@ number_at w bytes =
     if nat_lt (length bytes) (byte_len w) then Err Short else Ok (from_be_bytes w bytes, drop (byte_len w) bytes)
 
 -- a part is a number; then its check is made
-abbrev pub part : Width → Check → List ℕ → Read ℕ
-part w check bytes = do
+abbrev pub checked_number : Width → Check → List ℕ → Read ℕ
+checked_number w check bytes = do
   n ← number_at w bytes
   unless (check n.0) (n.0, n.1)
 
@@ -67,7 +67,7 @@ many next one (suc count) s bytes = do
 
 -- the same behind their count, a number of this width
 abbrev pub counted : {A : Type 0} → Width → Check → (ℕ → A → ℕ) → (ℕ → List ℕ → Read A) → ℕ → List ℕ → Read (List A)
-counted w check next one s = made (λ x. x.1) (followed (part w check) (λ count. many next one count s))
+counted w check next one s = made (λ x. x.1) (followed (checked_number w check) (λ count. many next one count s))
 
 -- what a function returned, seen by view, is what reading gives
 abbrev pub Gives : {X Y : Type 0} → (X → Y) → Result X ImageFault → Result Y ImageFault → Type 0

@@ -86,8 +86,8 @@ abbrev pub text_of : ℕ → ℕ → Machine → List ℕ
 text_of n cap machine = image_text n cap (image_of n machine)
 
 -- the machine of an image, with no event
-unfoldable pub machine_from : Image → Machine
-machine_from image = record {
+unfoldable pub machine_of_image : Image → Machine
+machine_of_image image = record {
   chips = map chip_from image.chips;
   buffers = map (λ chip. chip.messages) image.chips;
   logs = map (λ chip. []) image.chips;
@@ -108,7 +108,7 @@ image_part n cap =
 
 -- what comes after the last chip: tags, and the end
 abbrev pub ended : Image → List ℕ → Result Machine ImageFault
-ended image [] = if has_tag_twice (messages_in image.chips) then Err TagTwice else Ok (machine_from image)
+ended image [] = if has_tag_twice (messages_in image.chips) then Err TagTwice else Ok (machine_of_image image)
 ended image (byte ∷ bytes) = if has_tag_twice (messages_in image.chips) then Err TagTwice else Err Extra
 
 -- the machine that bytes are the text of, or the earliest fault in reading order

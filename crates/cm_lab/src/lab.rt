@@ -2,7 +2,7 @@
 
 ghost use Rattle.std.specs.Prelude.{◌≡◌, ◌≢◌, ◌≤◌, ◌<◌, ◌*◌, [], Ok, Err, IfOk, IfErr, length};
 ghost use Rattle.cm_model.specs.Place.{rows, columns};
-ghost use Rattle.cm_figures.specs.Pictures.{seen};
+ghost use Rattle.cm_figures.specs.Pictures.{picture_seen};
 ghost use Rattle.cm_figures.specs.Looks.{look_bytes};
 ghost use Rattle.cm_figures.specs.PictureReading.{picture_in};
 ghost use Rattle.cm_lab.specs.Data.{processors};
@@ -269,7 +269,7 @@ fn pictured<const N: usize, const CAP: usize>(
 fn drawn(alloc: Global, picture: Picture, look: Look) -> Result<Vec<u8>, LabFault>
     requires some { 0 < picture.width }
     requires dots { length picture.dots.items ≡ picture.height * picture.width }
-    ensures value { IfOk result (λ text. text.items ≡ look_bytes look (seen picture)) }
+    ensures value { IfOk result (λ text. text.items ≡ look_bytes look (picture_seen picture)) }
     ensures memory { IfErr result (λ fault. fault ≡ LabFault.Memory) }
 {
     match write_look(alloc, picture, look) {
@@ -313,7 +313,7 @@ fn painted<const N: usize, const CAP: usize>(
 /// The picture of a text, which is to have a dot for each processor.
 fn read_grid<const N: usize>(alloc: Global, given: &[u8]) -> Result<Picture, LabFault>
     requires dimension { N ≤ 12 }
-    ensures value { IfOk result (λ picture. picture_in (columns N) (rows N) given.now ≡ Ok (seen picture)) }
+    ensures value { IfOk result (λ picture. picture_in (columns N) (rows N) given.now ≡ Ok (picture_seen picture)) }
     ensures count { IfOk result (λ picture. length picture.dots.items ≡ processors N) }
     ensures refused { IfErr result (λ fault. fault ≢ LabFault.Memory
         → IsNoPicture (picture_in (columns N) (rows N) given.now) fault) }

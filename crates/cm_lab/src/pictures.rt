@@ -2,7 +2,7 @@
 
 ghost use Rattle.std.specs.Prelude.{◌≡◌, ◌≢◌, ◌*◌, ◌<◌, ◌≤◌, true, false, length, IfOk, IfErr, OnOk};
 ghost use Rattle.cm_model.specs.Place.{chip_columns, columns, rows};
-ghost use Rattle.cm_figures.specs.Pictures.{seen};
+ghost use Rattle.cm_figures.specs.Pictures.{picture_seen};
 ghost use Rattle.cm_lab.specs.Data.{processors};
 ghost use Rattle.cm_lab.specs.Pictures.{chip_rows, is_narrow, greatest_of, buffered, picture_of, bits_of};
 
@@ -51,7 +51,7 @@ pub fn show<const N: usize, const CAP: usize>(
     machine: &Machine<N, CAP>,
     shown: Shown,
 ) -> Result<Picture, ShowFault>
-    ensures value { IfOk result (λ picture. seen picture ≡ picture_of N CAP shown machine.now.machine) }
+    ensures value { IfOk result (λ picture. picture_seen picture ≡ picture_of N CAP shown machine.now.machine) }
     ensures narrow { OnOk result (is_narrow shown ≡ true) }
     ensures some { IfOk result (λ picture. 0 < picture.width) }
     ensures dots { IfOk result (λ picture. length picture.dots.items ≡ picture.height * picture.width) }

@@ -20,10 +20,10 @@ use Rattle.cm_model.proofs.Each.{get_or-each_below}
 use Rattle.cm_model.proofs.Torus.{back-first, back-other, on-last, on-other, columns_some}
 use Rattle.cm_model.proofs.Torus.{chip_row-lt, chip_column-lt, chip-own}
 use Rattle.cm_model.proofs.Torus.{neighbours_lead_back}
-use Rattle.cm_news.specs.Bands.{AreRows, is_open, bits_of, bit_for, IsEntered, AreEntered}
-use Rattle.cm_news.specs.Moves.{is_entry, one_back, sender, at_edge, along, bit_of_place}
+use Rattle.cm_news.specs.Bands.{AreWholeRows, is_open, edge_bits, bit_for, IsEntered, AreEntered}
+use Rattle.cm_news.specs.Moves.{is_entry, one_back, sender_on_chip, at_edge, bit_along_edge, bit_of_place}
 use Rattle.cm_news.specs.Rounds.{IsJoined, IsTurned, AreTurned}
-use Rattle.cm_news.proofs.Joining.{along-lt}
+use Rattle.cm_news.proofs.Joining.{bit_along_edge-lt}
 use Rattle.cm_news.proofs.Rounding.{less_one, one_row_on, last_row_on, first_row_back, other_row_back, all_rows}
 use Rattle.cm_news.proofs.Sources.{chip_rows, chip_before, over_edge, steps_are_the_torus}
 use Rattle.cm_news.proofs.Stepping.{edge_north}
@@ -48,7 +48,7 @@ not_above first count c above = grind (arith, nat_tests)
 abbrev read_at : ℕ → List ℕ → List ℕ → ℕ → Place → Bool
 read_at first planes edge column place =
     if is_among first (length planes) place.chip then bit (get_or planes (place.chip - first) 0) place.proc
-    else get_or (bits_of edge) column false
+    else get_or (edge_bits edge) column false
 
 -- from within
 within_is : (n : ℕ) (dir : Dir) (first c p j q : ℕ) (planes edge : List ℕ)
@@ -63,13 +63,13 @@ within_is n dir first c p j q planes edge is below =
 outside_is : (n : ℕ) (dir : Dir) (first c p : ℕ) (planes edge : List ℕ) (place : Place)
     → source n dir (record { chip = c; proc = p }) ≡ place → is_among first (length planes) place.chip ≡ false
     → bit_for n dir first planes edge (record { chip = c; proc = p })
-    ≡ get_or (bits_of edge) (column_of n (record { chip = c; proc = p })) false
+    ≡ get_or (edge_bits edge) (column_of n (record { chip = c; proc = p })) false
 outside_is n dir first c p planes edge place is out =
     ap (read_at first planes edge (column_of n (record { chip = c; proc = p }))) is ∙ rw out refl
 
 -- a bit of an edge
 edge_bit : (edge : List ℕ) (k i : ℕ) → k < length edge → i < 4
-    → get_or (bits_of edge) (4 * k + i) false ≡ bit (get_or edge k 0) i
+    → get_or (edge_bits edge) (4 * k + i) false ≡ bit (get_or edge k 0) i
 edge_bit edge k i there h =
     let chip : (4 * k + i) / 4 ≡ k = omega arith in
     let proc : (4 * k + i) % 4 ≡ i = omega arith in
@@ -81,14 +81,14 @@ edge_bit edge k i there h =
 
 -- the low four bits of an edge come in
 pub entered : (dir : Dir) (own edge plane : ℕ)
-    → IsPlane plane (λ p. plane_bit own (sender dir p)
-    || (if is_entry dir p then bit (bit_and edge 15) (along dir p) else false))
+    → IsPlane plane (λ p. plane_bit own (sender_on_chip dir p)
+    || (if is_entry dir p then bit (bit_and edge 15) (bit_along_edge dir p) else false))
     → IsEntered dir own edge plane
 entered dir own edge plane is p h = is p h ∙ by (is_entry dir p) where
   by : (entry : Bool) → (plane_bit own (if entry then None else Some (one_back dir p))
-      || (if entry then bit (bit_and edge 15) (along dir p) else false))
-      ≡ (if entry then bit edge (along dir p) else bit own (one_back dir p))
-  by true = edge_north edge (along dir p) (along-lt dir p h) ∙ ap (bit edge) (omega arith)
+      || (if entry then bit (bit_and edge 15) (bit_along_edge dir p) else false))
+      ≡ (if entry then bit edge (bit_along_edge dir p) else bit own (one_back dir p))
+  by true = edge_north edge (bit_along_edge dir p) (bit_along_edge-lt dir p h) ∙ ap (bit edge) (omega arith)
   by false = or-false (bit own (one_back dir p))
 
 -- a chip that was joined with one of the band
@@ -99,32 +99,32 @@ joined_in_band : (n : ℕ) (dir : Dir) (first i j plane : ℕ) (planes edge : Li
 joined_in_band n dir first i j plane planes edge there here inside before is p h = is p h
     ∙ by (is_entry dir p) refl where
       by : (entry : Bool) → is_entry dir p ≡ entry
-          → (if entry then bit (get_or planes j 0) (at_edge dir (along dir p))
+          → (if entry then bit (get_or planes j 0) (at_edge dir (bit_along_edge dir p))
           else bit (get_or planes i 0) (one_back dir p))
           ≡ bit_for n dir first planes edge (record { chip = first + i; proc = p })
-      by true entry = sym (within_is n dir first (first + i) p j (at_edge dir (along dir p)) planes edge
+      by true entry = sym (within_is n dir first (first + i) p j (at_edge dir (bit_along_edge dir p)) planes edge
           (over_edge n dir (first + i) p there h entry
-          ∙ (λ t. record { chip = before t; proc = at_edge dir (along dir p) })) inside)
+          ∙ (λ t. record { chip = before t; proc = at_edge dir (bit_along_edge dir p) })) inside)
       by false entry = sym (within_is n dir first (first + i) p i (one_back dir p) planes edge
           ((steps_are_the_torus n dir (first + i) p there h).inside entry) here)
 
 -- and one that took in what stands at its place of the edge
 entered_in_band : (n : ℕ) (dir : Dir) (first i k plane : ℕ) (planes edge : List ℕ) → first + i < 2 ^ n
     → i < length planes → k < length edge → is_among first (length planes) (chip_before n dir (first + i)) ≡ false
-    → ((p : ℕ) → column_of n (record { chip = first + i; proc = p }) ≡ 4 * k + along dir p)
+    → ((p : ℕ) → column_of n (record { chip = first + i; proc = p }) ≡ 4 * k + bit_along_edge dir p)
     → IsEntered dir (get_or planes i 0) (get_or edge k 0) plane
     → IsPlane plane (λ p. bit_for n dir first planes edge (record { chip = first + i; proc = p }))
 entered_in_band n dir first i k plane planes edge there here wide out column is p h = is p h
     ∙ by (is_entry dir p) refl where
       by : (entry : Bool) → is_entry dir p ≡ entry
-          → (if entry then bit (get_or edge k 0) (along dir p) else bit (get_or planes i 0) (one_back dir p))
+          → (if entry then bit (get_or edge k 0) (bit_along_edge dir p) else bit (get_or planes i 0) (one_back dir p))
           ≡ bit_for n dir first planes edge (record { chip = first + i; proc = p })
       by true entry =
           sym (outside_is n dir first (first + i) p planes edge
-          (record { chip = chip_before n dir (first + i); proc = at_edge dir (along dir p) })
+          (record { chip = chip_before n dir (first + i); proc = at_edge dir (bit_along_edge dir p) })
           (over_edge n dir (first + i) p there h entry) out
-          ∙ ap (λ (x : ℕ). get_or (bits_of edge) x false) (column p)
-          ∙ edge_bit edge k (along dir p) wide (along-lt dir p h))
+          ∙ ap (λ (x : ℕ). get_or (edge_bits edge) x false) (column p)
+          ∙ edge_bit edge k (bit_along_edge dir p) wide (bit_along_edge-lt dir p h))
       by false entry = sym (within_is n dir first (first + i) p i (one_back dir p) planes edge
           ((steps_are_the_torus n dir (first + i) p there h).inside entry) here)
 
@@ -256,10 +256,10 @@ over_from_zero dir planes count by k j plane is l there =
     (zero_on (k - (count - by)) ∙ there) (is.over l))
 
 abbrev ComesIn : ℕ → Dir → List ℕ → List ℕ → List ℕ → Type 0
-ComesIn n dir planes edge new = (first i : ℕ) → AreRows n first → first + length planes ≤ 2 ^ n → i < length planes
+ComesIn n dir planes edge new = (first i : ℕ) → AreWholeRows n first → first + length planes ≤ 2 ^ n → i < length planes
     → IsPlane (get_or new i 0) (λ p. bit_for n dir first planes edge (record { chip = first + i; proc = p }))
 
-pub band_north : (n by : ℕ) (planes edge old mid new : List ℕ) → by ≡ chip_columns n → AreRows n (length planes)
+pub band_north : (n by : ℕ) (planes edge old mid new : List ℕ) → by ≡ chip_columns n → AreWholeRows n (length planes)
     → length planes ≢ 2 ^ n → length edge ≡ chip_columns n → AreTurned North planes 0 (length planes) by old mid
     → AreEntered North planes (length planes - by) edge mid new → ComesIn n North planes edge new
 band_north n by planes edge old mid new by_is (rows, size) part wide turned entered first i (above, begin) fit here =
@@ -286,7 +286,7 @@ band_north n by planes edge old mid new by_is (rows, size) part wide turned ente
     at (entered.each k inside)))
     (cases_lt (i + w) count)
 
-pub band_south : (n by : ℕ) (planes edge old mid new : List ℕ) → by ≡ chip_columns n → AreRows n (length planes)
+pub band_south : (n by : ℕ) (planes edge old mid new : List ℕ) → by ≡ chip_columns n → AreWholeRows n (length planes)
     → length planes ≢ 2 ^ n → length edge ≡ chip_columns n
     → AreTurned South planes 0 (length planes) (length planes - by) old mid
     → AreEntered South planes 0 edge mid new → ComesIn n South planes edge new
@@ -391,13 +391,13 @@ rows_counted : (count rows w : ℕ) → count ≡ rows * w → 0 < w → count /
 rows_counted count rows w size some = ap (λ (c : ℕ). c / w) size ∙ mul-div_cancel rows some
 
 -- whole rows are as long as all their chips
-pub rows_and_columns : (n count columns : ℕ) → columns ≡ chip_columns n → AreRows n count
+pub rows_and_columns : (n count columns : ℕ) → columns ≡ chip_columns n → AreWholeRows n count
     → count / columns * columns ≡ count
 rows_and_columns n count columns columns_is (rows, size) =
     ap (λ (w : ℕ). count / w * w) columns_is
     ∙ ap (λ (q : ℕ). q * chip_columns n) (rows_counted count rows (chip_columns n) size (columns_some n)) ∙ sym size
 
-pub band_west : (n columns : ℕ) (planes edge new : List ℕ) → columns ≡ chip_columns n → AreRows n (length planes)
+pub band_west : (n columns : ℕ) (planes edge new : List ℕ) → columns ≡ chip_columns n → AreWholeRows n (length planes)
     → ((q r : ℕ) → q < length planes / columns → r < columns
     → IsTurned West planes (q * columns) columns 1 r (get_or new (q * columns + r) 0))
     → ComesIn n West planes edge new
@@ -414,7 +414,7 @@ band_west n columns planes edge new columns_is (rows, size) turned =
     rows size (λ q r below. at q r (let e = rows_counted (length planes) rows w size (columns_some n) in
     omega (arith, e, below)))
 
-pub band_east : (n columns : ℕ) (planes edge new : List ℕ) → columns ≡ chip_columns n → AreRows n (length planes)
+pub band_east : (n columns : ℕ) (planes edge new : List ℕ) → columns ≡ chip_columns n → AreWholeRows n (length planes)
     → ((q r : ℕ) → q < length planes / columns → r < columns
     → IsTurned East planes (q * columns) columns (columns - 1) r (get_or new (q * columns + r) 0))
     → ComesIn n East planes edge new

@@ -10,7 +10,7 @@ use Rattle.cm_bits.specs.declared.plane.Dir.TheVariants.{North, East, West, Sout
 use Rattle.cm_model.specs.Place.{chip_columns, source}
 use Rattle.cm_model.proofs.Torus.{back-first, back-other, on-last, on-other, columns_some, chips_in_rows}
 use Rattle.cm_model.proofs.Torus.{chip_row-lt, chip_column-lt, chip-own}
-use Rattle.cm_news.specs.Moves.{is_entry, one_back, at_edge, along, bit_of_place}
+use Rattle.cm_news.specs.Moves.{is_entry, one_back, at_edge, bit_along_edge, bit_of_place}
 use Rattle.cm_news.specs.Rounds.{IsJoined, IsTurned, AreTurned}
 use Rattle.cm_news.proofs.Sources.{chip_rows, chip_before, over_edge, steps_are_the_torus}
 
@@ -21,11 +21,11 @@ pub joined_comes_in : (n : ℕ) (dir : Dir) (chip before plane : ℕ) (planes : 
     → (p : ℕ) → p < 16 → bit plane p ≡ bit_of_place planes (source n dir (record { chip = chip; proc = p }))
 joined_comes_in n dir chip before plane planes there before_is is p h = is p h ∙ by (is_entry dir p) refl where
   by : (entry : Bool) → is_entry dir p ≡ entry
-      → (if entry then bit (get_or planes before 0) (at_edge dir (along dir p))
+      → (if entry then bit (get_or planes before 0) (at_edge dir (bit_along_edge dir p))
       else bit (get_or planes chip 0) (one_back dir p))
       ≡ bit_of_place planes (source n dir (record { chip = chip; proc = p }))
   by true entry =
-      ap (λ (c : ℕ). bit (get_or planes c 0) (at_edge dir (along dir p))) before_is
+      ap (λ (c : ℕ). bit (get_or planes c 0) (at_edge dir (bit_along_edge dir p))) before_is
       ∙ sym (ap (bit_of_place planes) (over_edge n dir chip p there h entry))
   by false entry = sym (ap (bit_of_place planes) ((steps_are_the_torus n dir chip p there h).inside entry))
 
@@ -203,7 +203,7 @@ pub joined_there : (dir : Dir) (planes out : List ℕ) (own own2 before before2 
     → IsJoined dir (get_or planes own2 0) (get_or planes before2 0) (get_or out at2 0)
 joined_there dir planes out own own2 before before2 at at2 own_is before_is at_is is p h =
     sym (ap (λ (i : ℕ). bit (get_or out i 0) p) at_is) ∙ is p h
-    ∙ (λ j. if is_entry dir p then bit (get_or planes (before_is j) 0) (at_edge dir (along dir p))
+    ∙ (λ j. if is_entry dir p then bit (get_or planes (before_is j) 0) (at_edge dir (bit_along_edge dir p))
     else bit (get_or planes (own_is j) 0) (one_back dir p))
 
 -- one more chip has what comes in from the next

@@ -7,7 +7,7 @@ use Rattle.cm_bits.specs.declared.plane.Dir.TheVariants.{North, East, West, Sout
 use Rattle.cm_model.specs.Place.{chip_columns, rows, columns, place_at, neighbour, source}
 use Rattle.cm_model.proofs.Torus.{on_within, on_over, back_within, back_over, chip_row-lt}
 use Rattle.cm_model.proofs.Torus.{chip_column-lt, chip-own, place_at-split}
-use Rattle.cm_news.specs.Moves.{is_entry, one_back, at_edge, along, corner}
+use Rattle.cm_news.specs.Moves.{is_entry, one_back, at_edge, bit_along_edge, corner}
 use Rattle.cm_news.specs.Laws.{StepsAreTheTorus}
 
 -- rows of chips
@@ -59,7 +59,7 @@ inside n East chip p there h others =
 
 pub over_edge : (n : ℕ) (dir : Dir) (chip p : ℕ) → chip < 2 ^ n → p < 16 → is_entry dir p ≡ true
     → source n dir (record { chip = chip; proc = p })
-    ≡ record { chip = chip_before n dir chip; proc = at_edge dir (along dir p) }
+    ≡ record { chip = chip_before n dir chip; proc = at_edge dir (bit_along_edge dir p) }
 unfolding neighbour
 over_edge n North chip p there h entry =
     ap (λ (r : ℕ). place_at n ((4 * (chip / chip_columns n) + r + 1) % rows n) (4 * (chip % chip_columns n) + p % 4))
@@ -110,5 +110,5 @@ steps_are_the_torus n dir chip p there h = record {
       let before : (source n dir (record { chip = chip; proc = corner dir })).chip ≡ chip_before n dir chip =
       ap (λ (place : Place). place.chip)
       (over_edge n dir chip (corner dir) there (corner-lt dir) (corner_is_entry dir)) in
-      over_edge n dir chip p there h entry ∙ (λ i. record { chip = sym before i; proc = at_edge dir (along dir p) });
+      over_edge n dir chip p there h entry ∙ (λ i. record { chip = sym before i; proc = at_edge dir (bit_along_edge dir p) });
 }

@@ -8,7 +8,7 @@ use Rattle.cm_bits.specs.Bit.{bit}
 use Rattle.cm_bits.specs.declared.plane.Dir.TheVariants.{North, East, West, South}
 use Rattle.cm_model.specs.Chip.{IsPlane, plane_bit}
 use Rattle.cm_model.proofs.Bits.{bit-bit_and, bit-bit_or}
-use Rattle.cm_news.specs.Moves.{is_entry, one_back, sender, at_edge, along}
+use Rattle.cm_news.specs.Moves.{is_entry, one_back, sender_on_chip, at_edge, bit_along_edge}
 use Rattle.cm_news.proofs.Shifting.{and-true, bits_by_test, bit-down, bit-up_below, bit-up_above, bit-past}
 
 -- a bit that is 0 where steps come in from another chip, and else the one before's, is the sender's
@@ -25,18 +25,18 @@ by_entry false x q v first others = others refl
 
 -- ---- inside the chip
 
-pub inside_north : (x : ℕ) → x < 2 ^ 16 → (p : ℕ) → p < 16 → bit (x / 16) p ≡ plane_bit x (sender North p)
+pub inside_north : (x : ℕ) → x < 2 ^ 16 → (p : ℕ) → p < 16 → bit (x / 16) p ≡ plane_bit x (sender_on_chip North p)
 inside_north x fits p h = bit-down x 4 p ∙ by_sender (is_entry North p) x (one_back North p) (bit x (4 + p))
     (λ entry. let last : p / 4 ≡ 3 = eqb-true (p / 4) 3 entry in bit-past x 16 (4 + p) fits (omega arith))
     (λ entry. ap (bit x) (omega arith))
 
-pub inside_south : (x p : ℕ) → p < 16 → bit (x * 16 % 65536) p ≡ plane_bit x (sender South p)
+pub inside_south : (x p : ℕ) → p < 16 → bit (x * 16 % 65536) p ≡ plane_bit x (sender_on_chip South p)
 inside_south x p h = by_sender (is_entry South p) x (one_back South p) (bit (x * 16 % 65536) p)
     (λ entry. let first : p / 4 ≡ 0 = eqb-true (p / 4) 0 entry in bit-up_below x 4 p h (omega arith))
     (λ entry. let others : ¬ (p / 4 ≡ 0) = eqb-false (p / 4) 0 entry in
     bit-up_above x 4 p h (omega arith) ∙ ap (bit x) (omega arith))
 
-pub inside_west : (x p : ℕ) → p < 16 → bit (bit_and (x / 2) 30583) p ≡ plane_bit x (sender West p)
+pub inside_west : (x p : ℕ) → p < 16 → bit (bit_and (x / 2) 30583) p ≡ plane_bit x (sender_on_chip West p)
 inside_west x p h =
     bit-bit_and (x / 2) 30583 p
     ∙ ap (λ (b : Bool). bit (x / 2) p && b) (bits_by_test 30583 (λ k. not (k % 4 == 3)) refl p h)
@@ -45,7 +45,7 @@ inside_west x p h =
     (λ entry. ap (λ (b : Bool). bit (x / 2) p && not b) entry ∙ and-true (bit (x / 2) p) ∙ bit-down x 1 p
     ∙ ap (bit x) (omega arith))
 
-pub inside_east : (x p : ℕ) → p < 16 → bit (bit_and (x * 2 % 65536) 61166) p ≡ plane_bit x (sender East p)
+pub inside_east : (x p : ℕ) → p < 16 → bit (bit_and (x * 2 % 65536) 61166) p ≡ plane_bit x (sender_on_chip East p)
 inside_east x p h =
     bit-bit_and (x * 2 % 65536) 61166 p
     ∙ ap (λ (b : Bool). bit (x * 2 % 65536) p && b) (bits_by_test 61166 (λ k. not (k % 4 == 0)) refl p h)
@@ -67,22 +67,22 @@ pub edge_south : (x i : ℕ) → bit (x / 4096) i ≡ bit x (at_edge South i)
 edge_south x i = bit-down x 12 i ∙ ap (bit x) (omega arith)
 
 pub entering_north : (x p : ℕ) → p < 16
-    → bit (x * 4096 % 65536) p ≡ if is_entry North p then bit x (along North p) else false
-entering_north x p h = by_entry (is_entry North p) x (along North p) (bit (x * 4096 % 65536) p)
+    → bit (x * 4096 % 65536) p ≡ if is_entry North p then bit x (bit_along_edge North p) else false
+entering_north x p h = by_entry (is_entry North p) x (bit_along_edge North p) (bit (x * 4096 % 65536) p)
     (λ entry. let last : p / 4 ≡ 3 = eqb-true (p / 4) 3 entry in
     bit-up_above x 12 p h (omega arith) ∙ ap (bit x) (omega arith))
     (λ entry. let others : ¬ (p / 4 ≡ 3) = eqb-false (p / 4) 3 entry in bit-up_below x 12 p h (omega arith))
 
 pub entering_south : (x : ℕ) → x < 16 → (p : ℕ) → p < 16
-    → bit x p ≡ if is_entry South p then bit x (along South p) else false
-entering_south x small p h = by_entry (is_entry South p) x (along South p) (bit x p)
+    → bit x p ≡ if is_entry South p then bit x (bit_along_edge South p) else false
+entering_south x small p h = by_entry (is_entry South p) x (bit_along_edge South p) (bit x p)
     (λ entry. let first : p / 4 ≡ 0 = eqb-true (p / 4) 0 entry in ap (bit x) (omega arith))
     (λ entry. let others : ¬ (p / 4 ≡ 0) = eqb-false (p / 4) 0 entry in bit-past x 4 p small (omega arith))
 
 -- the bits of a first column, three columns on
 pub entering_west : (x t : ℕ) → IsPlane t (λ p. if p % 4 == 0 then bit x (p / 4) else false)
-    → (p : ℕ) → p < 16 → bit (t * 8 % 65536) p ≡ if is_entry West p then bit x (along West p) else false
-entering_west x t column p h = by_entry (is_entry West p) x (along West p) (bit (t * 8 % 65536) p)
+    → (p : ℕ) → p < 16 → bit (t * 8 % 65536) p ≡ if is_entry West p then bit x (bit_along_edge West p) else false
+entering_west x t column p h = by_entry (is_entry West p) x (bit_along_edge West p) (bit (t * 8 % 65536) p)
     (λ entry. let last : p % 4 ≡ 3 = eqb-true (p % 4) 3 entry in
     bit-up_above t 3 p h (omega arith) ∙ column (p - 3) (omega arith)
     ∙ ap (λ (b : Bool). if b then bit x ((p - 3) / 4) else false) (eq-eqb ((p - 3) % 4) 0 (omega arith))
@@ -105,10 +105,10 @@ by_entry_of_both false x y q r v w none there own nothing = (λ j. own refl j ||
 
 pub joined_north : (x y : ℕ) → x < 2 ^ 16 → (p : ℕ) → p < 16
     → bit (bit_or (x / 16) (y * 4096 % 65536)) p
-    ≡ (if is_entry North p then bit y (at_edge North (along North p)) else bit x (one_back North p))
+    ≡ (if is_entry North p then bit y (at_edge North (bit_along_edge North p)) else bit x (one_back North p))
 joined_north x y fits p h =
     bit-bit_or (x / 16) (y * 4096 % 65536) p
-    ∙ by_entry_of_both (is_entry North p) x y (one_back North p) (at_edge North (along North p)) (bit (x / 16) p)
+    ∙ by_entry_of_both (is_entry North p) x y (one_back North p) (at_edge North (bit_along_edge North p)) (bit (x / 16) p)
     (bit (y * 4096 % 65536) p)
     (λ entry. let last : p / 4 ≡ 3 = eqb-true (p / 4) 3 entry in
     bit-down x 4 p ∙ bit-past x 16 (4 + p) fits (omega arith))
@@ -119,10 +119,10 @@ joined_north x y fits p h =
 
 pub joined_south : (x y : ℕ) → y < 2 ^ 16 → (p : ℕ) → p < 16
     → bit (bit_or (x * 16 % 65536) (y / 4096)) p
-    ≡ (if is_entry South p then bit y (at_edge South (along South p)) else bit x (one_back South p))
+    ≡ (if is_entry South p then bit y (at_edge South (bit_along_edge South p)) else bit x (one_back South p))
 joined_south x y fits p h =
     bit-bit_or (x * 16 % 65536) (y / 4096) p
-    ∙ by_entry_of_both (is_entry South p) x y (one_back South p) (at_edge South (along South p))
+    ∙ by_entry_of_both (is_entry South p) x y (one_back South p) (at_edge South (bit_along_edge South p))
     (bit (x * 16 % 65536) p) (bit (y / 4096) p)
     (λ entry. let first : p / 4 ≡ 0 = eqb-true (p / 4) 0 entry in bit-up_below x 4 p h (omega arith))
     (λ entry. let first : p / 4 ≡ 0 = eqb-true (p / 4) 0 entry in bit-down y 12 p ∙ ap (bit y) (omega arith))
@@ -138,12 +138,12 @@ kept_bit x mask p test b is b_is = bit-bit_and x mask p ∙ ap (λ (v : Bool). b
 
 pub joined_west : (x y p : ℕ) → p < 16
     → bit (bit_or (bit_and (x / 2) 30583) (bit_and (y * 8 % 65536) 34952)) p
-    ≡ (if is_entry West p then bit y (at_edge West (along West p)) else bit x (one_back West p))
+    ≡ (if is_entry West p then bit y (at_edge West (bit_along_edge West p)) else bit x (one_back West p))
 joined_west x y p h =
     let own = bits_by_test 30583 (λ k. not (k % 4 == 3)) refl p h in
     let there = bits_by_test 34952 (λ k. k % 4 == 3) refl p h in
     bit-bit_or (bit_and (x / 2) 30583) (bit_and (y * 8 % 65536) 34952) p
-    ∙ by_entry_of_both (is_entry West p) x y (one_back West p) (at_edge West (along West p))
+    ∙ by_entry_of_both (is_entry West p) x y (one_back West p) (at_edge West (bit_along_edge West p))
     (bit (bit_and (x / 2) 30583) p) (bit (bit_and (y * 8 % 65536) 34952) p)
     (λ entry. kept_bit (x / 2) 30583 p (λ k. not (k % 4 == 3)) false own (ap not entry) ∙ and-false (bit (x / 2) p))
     (λ entry. let last : p % 4 ≡ 3 = eqb-true (p % 4) 3 entry in
@@ -155,12 +155,12 @@ joined_west x y p h =
 
 pub joined_east : (x y p : ℕ) → p < 16
     → bit (bit_or (bit_and (x * 2 % 65536) 61166) (bit_and (y / 8) 4369)) p
-    ≡ (if is_entry East p then bit y (at_edge East (along East p)) else bit x (one_back East p))
+    ≡ (if is_entry East p then bit y (at_edge East (bit_along_edge East p)) else bit x (one_back East p))
 joined_east x y p h =
     let own = bits_by_test 61166 (λ k. not (k % 4 == 0)) refl p h in
     let there = bits_by_test 4369 (λ k. k % 4 == 0) refl p h in
     bit-bit_or (bit_and (x * 2 % 65536) 61166) (bit_and (y / 8) 4369) p
-    ∙ by_entry_of_both (is_entry East p) x y (one_back East p) (at_edge East (along East p))
+    ∙ by_entry_of_both (is_entry East p) x y (one_back East p) (at_edge East (bit_along_edge East p))
     (bit (bit_and (x * 2 % 65536) 61166) p) (bit (bit_and (y / 8) 4369) p)
     (λ entry. kept_bit (x * 2 % 65536) 61166 p (λ k. not (k % 4 == 0)) false own (ap not entry)
     ∙ and-false (bit (x * 2 % 65536) p))

@@ -10,11 +10,11 @@ use Rattle.cm_bits.specs.declared.plane.Dir.TheVariants.{North, East, West, Sout
 use Rattle.cm_model.specs.Chip.{IsPlane}
 use Rattle.cm_model.specs.Each.{each_from}
 use Rattle.cm_model.specs.Place.{chip_columns, column_of, source}
-use Rattle.cm_news.specs.Moves.{is_entry, one_back, along}
+use Rattle.cm_news.specs.Moves.{is_entry, one_back, bit_along_edge}
 
 -- so many chips are whole rows of chips of a cube of n dimensions
-abbrev pub AreRows : ℕ → ℕ → Type 0
-AreRows n count = (rows : ℕ) × (count ≡ rows * chip_columns n)
+abbrev pub AreWholeRows : ℕ → ℕ → Type 0
+AreWholeRows n count = (rows : ℕ) × (count ≡ rows * chip_columns n)
 
 -- over its edge something comes in at a band of so many chips: northward or southward, unless these are all
 abbrev pub is_open : ℕ → Dir → ℕ → Bool
@@ -24,8 +24,8 @@ is_open n East count = false
 is_open n West count = false
 
 -- the bits of an edge, four of each column of chips
-abbrev pub bits_of : List ℕ → List Bool
-bits_of edge = each_from 0 (4 * length edge) (λ column. bit (slice_index edge (column / 4)) (column % 4))
+abbrev pub edge_bits : List ℕ → List Bool
+edge_bits edge = each_from 0 (4 * length edge) (λ column. bit (slice_index edge (column / 4)) (column % 4))
 
 -- the bit that comes in at a place of a band that begins with this chip: of a plane for each chip where it comes from
 -- within, else the edge's of that column
@@ -33,14 +33,14 @@ abbrev pub bit_for : ℕ → Dir → ℕ → List ℕ → List ℕ → Place →
 bit_for n dir first planes edge place =
     if nat_le first (source n dir place).chip && nat_lt (source n dir place).chip (first + length planes)
     then bit (slice_index planes ((source n dir place).chip - first)) (source n dir place).proc
-    else slice_index_or (bits_of edge) (column_of n place) false
+    else slice_index_or (edge_bits edge) (column_of n place) false
 
 -- ---- a row of chips at the edge
 
 -- the plane has what comes in at a chip from its own plane and from the edge
 abbrev pub IsEntered : Dir → ℕ → ℕ → ℕ → Type 0
 IsEntered dir own edge plane =
-    IsPlane plane (λ p. if is_entry dir p then bit edge (along dir p) else bit own (one_back dir p))
+    IsPlane plane (λ p. if is_entry dir p then bit edge (bit_along_edge dir p) else bit own (one_back dir p))
 
 -- so at each chip from a place on, and the others are as they were
 pub record AreEntered (dir : Dir) (planes : List ℕ) (from : ℕ) (edge old new : List ℕ) : Type 0 where

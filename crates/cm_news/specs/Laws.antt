@@ -2,12 +2,12 @@
 use Rattle.std.specs.Prelude.{◌≡◌, ℕ, ◌<◌, ◌^◌, true, false, ◌⊎◌, Some}
 use Rattle.cm_bits.specs.declared.plane.Dir.{Dir}
 use Rattle.cm_model.specs.Place.{source}
-use Rattle.cm_news.specs.Moves.{sender, at_edge, is_entry, one_back, along, corner}
+use Rattle.cm_news.specs.Moves.{sender_on_chip, at_edge, is_entry, one_back, bit_along_edge, corner}
 
 -- the bit of processor p comes to processor q of the same chip
 pub record MovesTo (dir : Dir) (p q : ℕ) : Type 0 where
   pub there : q < 16
-  pub from : sender dir q ≡ Some p
+  pub from : sender_on_chip dir q ≡ Some p
 
 -- the bit of processor p is bit i of the edge
 pub record LeavesAs (dir : Dir) (p i : ℕ) : Type 0 where
@@ -33,7 +33,7 @@ pub record ComesFrom (n : ℕ) (dir : Dir) (chip p : ℕ) : Type 0 where
   pub edge : is_entry dir p ≡ true → source n dir (record { chip = chip; proc = p })
       ≡ record {
         chip = (source n dir (record { chip = chip; proc = corner dir })).chip;
-        proc = at_edge dir (along dir p);
+        proc = at_edge dir (bit_along_edge dir p);
       }
 
 -- in each direction, at every size of the machine

@@ -15,8 +15,8 @@ abbrev pub column : ℕ → ℕ
 column p = p % 4
 
 -- the number of the processor in a row and a column of its chip
-abbrev pub number_in : ℕ → ℕ → ℕ
-number_in row column = 4 * row + column
+abbrev pub proc_number : ℕ → ℕ → ℕ
+proc_number row column = 4 * row + column
 
 -- a step in this direction that leads to the processor comes from another chip
 abbrev pub is_entry : Dir → ℕ → Bool
@@ -27,29 +27,29 @@ is_entry East p = column p == 0
 
 -- where a step in this direction that leads to the processor comes from, on the same chip
 abbrev pub one_back : Dir → ℕ → ℕ
-one_back North p = number_in (row p + 1) (column p)
-one_back South p = number_in (row p - 1) (column p)
-one_back West p = number_in (row p) (column p + 1)
-one_back East p = number_in (row p) (column p - 1)
+one_back North p = proc_number (row p + 1) (column p)
+one_back South p = proc_number (row p - 1) (column p)
+one_back West p = proc_number (row p) (column p + 1)
+one_back East p = proc_number (row p) (column p - 1)
 
 -- the processor of the same chip from which a step in this direction leads here: none where it comes from another chip
-abbrev pub sender : Dir → ℕ → Option ℕ
-sender dir p = if is_entry dir p then None else Some (one_back dir p)
+abbrev pub sender_on_chip : Dir → ℕ → Option ℕ
+sender_on_chip dir p = if is_entry dir p then None else Some (one_back dir p)
 
 -- the processor from which bit i of the edge in this direction is: the edge goes from west to east,
 -- or from north to south
 abbrev pub at_edge : Dir → ℕ → ℕ
-at_edge North i = number_in 0 i
-at_edge South i = number_in 3 i
-at_edge West i = number_in i 0
-at_edge East i = number_in i 3
+at_edge North i = proc_number 0 i
+at_edge South i = proc_number 3 i
+at_edge West i = proc_number i 0
+at_edge East i = proc_number i 3
 
 -- which bit of that edge comes in at the processor, from the next chip
-abbrev pub along : Dir → ℕ → ℕ
-along North p = column p
-along South p = column p
-along West p = row p
-along East p = row p
+abbrev pub bit_along_edge : Dir → ℕ → ℕ
+bit_along_edge North p = column p
+bit_along_edge South p = column p
+bit_along_edge West p = row p
+bit_along_edge East p = row p
 
 -- a corner of the chip at which steps in this direction come in
 abbrev pub corner : Dir → ℕ

@@ -3,12 +3,12 @@ use Rattle.std.specs.Prelude.{◌≡◌, ℕ, ◌+◌, ◌-◌, ◌<◌, ◌≤�
 use Rattle.cm_bits.specs.Bit.{bit}
 use Rattle.cm_bits.specs.declared.plane.Dir.{Dir}
 use Rattle.cm_model.specs.Chip.{IsPlane}
-use Rattle.cm_news.specs.Moves.{is_entry, one_back, at_edge, along}
+use Rattle.cm_news.specs.Moves.{is_entry, one_back, at_edge, bit_along_edge}
 
 -- the plane has what comes in at a chip from its own plane and from that of the chip whose edge leads to it
 abbrev pub IsJoined : Dir → ℕ → ℕ → ℕ → Type 0
 IsJoined dir own before plane =
-    IsPlane plane (λ p. if is_entry dir p then bit before (at_edge dir (along dir p)) else bit own (one_back dir p))
+    IsPlane plane (λ p. if is_entry dir p then bit before (at_edge dir (bit_along_edge dir p)) else bit own (one_back dir p))
 
 -- of so many chips from a place on: what comes in at the one at k from the one so many places on, round their end
 pub record IsTurned (dir : Dir) (planes : List ℕ) (from count by k plane : ℕ) : Type 0 where

@@ -5,7 +5,7 @@ ghost use Rattle.std.specs.Prelude.{if◌then◌else◌};
 ghost use Rattle.cm_bits.specs.Bit.{bit};
 ghost use Rattle.cm_model.specs.Chip.{IsPlane, plane_bit};
 ghost use Rattle.cm_model.specs.Place.{neighbour, source};
-ghost use Rattle.cm_news.specs.Moves.{is_entry, sender, at_edge, along, corner, bit_of_place};
+ghost use Rattle.cm_news.specs.Moves.{is_entry, sender_on_chip, at_edge, bit_along_edge, corner, bit_of_place};
 
 use crate::row::incoming_row;
 use cm_bits::{Dir, Place, Plane, Proc};
@@ -29,7 +29,7 @@ impl<const N: usize> Grid<N> {
     /// Where the bits of a chip's processors go that stay on the chip: a processor to which none
     /// comes from the same chip gets 0.
     pub fn inside(plane: Plane, dir: Dir) -> Plane
-        ensures value { IsPlane result (λ p. plane_bit plane (sender dir p)) }
+        ensures value { IsPlane result (λ p. plane_bit plane (sender_on_chip dir p)) }
     {
         match dir {
             Dir::North => plane >> 4,
@@ -72,7 +72,8 @@ impl<const N: usize> Grid<N> {
     pub fn over_edge(own: Plane, edge: u8, dir: Dir) -> Plane
         requires within { edge < 16 }
         ensures value { IsPlane result
-            (λ p. plane_bit own (sender dir p) || (if is_entry dir p then bit edge (along dir p) else false)) }
+            (λ p. plane_bit own (sender_on_chip dir p)
+            || (if is_entry dir p then bit edge (bit_along_edge dir p) else false)) }
     {
         Self::inside(own, dir) | entering(edge, dir)
     }
@@ -122,7 +123,7 @@ fn first_column(plane: Plane) -> u16
 /// Where the four bits go that leave another chip in a direction.
 fn entering(edge: u8, dir: Dir) -> Plane
     requires within { edge < 16 }
-    ensures value { IsPlane result (λ p. if is_entry dir p then bit edge (along dir p) else false) }
+    ensures value { IsPlane result (λ p. if is_entry dir p then bit edge (bit_along_edge dir p) else false) }
 {
     let edge = u16::from(edge);
     match dir {

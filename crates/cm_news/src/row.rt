@@ -3,7 +3,7 @@
 ghost use Rattle.std.specs.Prelude.{◌≡◌, ◌≢◌, ℕ, ◌+◌, ◌-◌, ◌*◌, ◌^◌, ◌<◌, ◌≤◌, IsTrue, length, slice_index};
 ghost use Rattle.cm_model.specs.Chip.{IsPlane};
 ghost use Rattle.cm_model.specs.Place.{chip_columns, source};
-ghost use Rattle.cm_news.specs.Bands.{AreRows, is_open, bit_for, AreEntered};
+ghost use Rattle.cm_news.specs.Bands.{AreWholeRows, is_open, bit_for, AreEntered};
 ghost use Rattle.cm_news.specs.Moves.{bit_of_place};
 ghost use Rattle.cm_news.specs.Rounds.{IsJoined, IsTurned, AreTurned};
 
@@ -42,11 +42,12 @@ pub fn incoming_row(dims: u8, planes: &[Plane], dir: Dir, out: &mut [Plane])
 /// lowest; upper bits are not read.
 pub fn incoming_band(dims: u8, planes: &[Plane], dir: Dir, edge: &[u8], out: &mut [Plane])
     requires dimension { dims ≤ 12 }
-    requires rows { AreRows dims (length planes.now) }
+    requires rows { AreWholeRows dims (length planes.now) }
     requires some { 0 < length planes.now }
     requires edge { IsTrue (is_open dims dir (length planes.now)) → length edge.now ≡ chip_columns dims }
     requires out { length out.old ≡ length planes.now }
-    ensures value { (first i : ℕ) → AreRows dims first → first + length planes.now ≤ 2 ^ dims → i < length planes.now
+    ensures value { (first i : ℕ) → AreWholeRows dims first → first + length planes.now ≤ 2 ^ dims → i
+        < length planes.now
         → IsPlane (slice_index out.new i)
         (λ p. bit_for dims dir first planes.now edge.now (record { chip = first + i; proc = p })) }
 {
@@ -60,12 +61,13 @@ pub fn incoming_band(dims: u8, planes: &[Plane], dir: Dir, edge: &[u8], out: &mu
 /// The same, where the band is not all chips.
 fn incoming_part(dims: u8, planes: &[Plane], dir: Dir, edge: &[u8], out: &mut [Plane])
     requires dimension { dims ≤ 12 }
-    requires rows { AreRows dims (length planes.now) }
+    requires rows { AreWholeRows dims (length planes.now) }
     requires some { 0 < length planes.now }
     requires part { length planes.now ≢ 2 ^ dims }
     requires edge { IsTrue (is_open dims dir (length planes.now)) → length edge.now ≡ chip_columns dims }
     requires out { length out.old ≡ length planes.now }
-    ensures value { (first i : ℕ) → AreRows dims first → first + length planes.now ≤ 2 ^ dims → i < length planes.now
+    ensures value { (first i : ℕ) → AreWholeRows dims first → first + length planes.now ≤ 2 ^ dims → i
+        < length planes.now
         → IsPlane (slice_index out.new i)
         (λ p. bit_for dims dir first planes.now edge.now (record { chip = first + i; proc = p })) }
 {

@@ -7,7 +7,7 @@ use Rattle.std.proofs.Math.Nat.{mul-suc}
 use Rattle.cm_bits.specs.Bit.{bit}
 use Rattle.cm_model.specs.Chip.{IsPlane}
 use Rattle.cm_rows.specs.declared.places.Places.{Places}
-use Rattle.cm_rows.specs.Rows.{stores, output, IsKept, IsComputed, IsApart}
+use Rattle.cm_rows.specs.Rows.{stores, plane_output, IsChosenOrOld, IsComputed, IsApart}
 
 -- the words that the parts from mid on read are as they were
 pub record AreUnread (at : Places) (mid to : ℕ) (memory memory_mid flags flags_mid : List ℕ) : Type 0 where
@@ -41,12 +41,12 @@ unread at from mid to memory memory_mid flags flags_mid m f b_apart read_apart c
 
 pub kept_moved : (table : ℕ) (chained always sense : Bool) (a a2 b b2 f f2 c c2 old old2 new new2 : ℕ)
     → a ≡ a2 → b ≡ b2 → f ≡ f2 → c ≡ c2 → old ≡ old2 → new2 ≡ new
-    → IsKept table chained (λ p. stores always sense (bit c p)) a b f old new
-    → IsKept table chained (λ p. stores always sense (bit c2 p)) a2 b2 f2 old2 new2
+    → IsChosenOrOld table chained (λ p. stores always sense (bit c p)) a b f old new
+    → IsChosenOrOld table chained (λ p. stores always sense (bit c2 p)) a2 b2 f2 old2 new2
 kept_moved table chained always sense a a2 b b2 f f2 c c2 old old2 new new2 a_is b_is f_is c_is old_is new_is kept p h =
     ap (λ (w : ℕ). bit w p) new_is ∙ kept p h
     ∙ (λ j. cond (stores always sense (bit (c_is j) p))
-    (output table chained (a_is j) (b_is j) (f_is j) p) (bit (old_is j) p))
+    (plane_output table chained (a_is j) (b_is j) (f_is j) p) (bit (old_is j) p))
 
 -- a row ends before another also at fewer words
 pub apart_sooner : (written read few many : ℕ) → few ≤ many → IsApart written read many → IsApart written read few
@@ -123,15 +123,15 @@ to_there table chained always sense at row from to there memory flags old new is
 }
 
 kept_chosen : (table : ℕ) (chained : Bool) (choice : ℕ) (stored : ℕ → Bool) (a b f old word : ℕ) → IsPlane choice stored
-    → IsKept table chained (bit choice) a b f old word → IsKept table chained stored a b f old word
+    → IsChosenOrOld table chained (bit choice) a b f old word → IsChosenOrOld table chained stored a b f old word
 kept_chosen table chained choice stored a b f old word is kept p h = kept p h
-    ∙ ap (λ v. cond v (output table chained a b f p) (bit old p)) (is p h)
+    ∙ ap (λ v. cond v (plane_output table chained a b f p) (bit old p)) (is p h)
 
 -- one word
 pub one_word : (table : ℕ) (chained always sense : Bool) (at : Places) (row k choice word : ℕ)
     (memory flags old : List ℕ) → row + k < length old
     → IsPlane choice (λ p. stores always sense (bit (get_or flags (at.cond + k) 0) p))
-    → IsKept table chained (bit choice) (get_or memory (at.a + k) 0) (get_or memory (at.b + k) 0)
+    → IsChosenOrOld table chained (bit choice) (get_or memory (at.a + k) 0) (get_or memory (at.b + k) 0)
     (get_or flags (at.read + k) 0) (get_or old (row + k) 0) word
     → IsComputed table chained always sense at row k (k + 1) memory flags old (set old (row + k) word)
 one_word table chained always sense at row k choice word memory flags old inside chosen kept = record {
@@ -160,7 +160,7 @@ pub one_block : (many table : ℕ) (chained always sense : Bool) (at : Places) (
     → AreLanes many a memory (at.a + from) → AreLanes many b memory (at.b + from) → AreLanes many f flags (at.read + from)
     → AreLanes many here old (row + from) → AreLanes many condition flags (at.cond + from)
     → ((k : ℕ) → k < many → IsPlane (get_or choice k 0) (λ p. stores always sense (bit (get_or condition k 0) p)))
-    → ((k : ℕ) → k < many → IsKept table chained (bit (get_or choice k 0)) (get_or a k 0) (get_or b k 0) (get_or f k 0)
+    → ((k : ℕ) → k < many → IsChosenOrOld table chained (bit (get_or choice k 0)) (get_or a k 0) (get_or b k 0) (get_or f k 0)
     (get_or here k 0) (get_or outputs k 0))
     → ((k : ℕ) → k < many → get_or new (row + from + k) 0 ≡ get_or outputs k 0)
     → ((i : ℕ) → i < row + from → get_or new i 0 ≡ get_or old i 0)
@@ -190,7 +190,7 @@ pub one_tile : (many table : ℕ) (chained always sense : Bool) (at : Places) (r
     (choice outputs : List ℕ)
     → ((k : ℕ) → k < many
     → IsPlane (get_or choice k 0) (λ p. stores always sense (bit (get_or flags (at.cond + from + k) 0) p)))
-    → ((k : ℕ) → k < many → IsPlane (get_or outputs k 0) (output table chained (get_or memory (at.a + from + k) 0)
+    → ((k : ℕ) → k < many → IsPlane (get_or outputs k 0) (plane_output table chained (get_or memory (at.a + from + k) 0)
     (get_or memory (at.b + from + k) 0) (get_or flags (at.read + from + k) 0)))
     → ((k : ℕ) → k < many → (p : ℕ) → bit (get_or new (row + from + k) 0) p
     ≡ cond (bit (get_or choice k 0) p) (bit (get_or outputs k 0) p) (bit (get_or old (row + from + k) 0) p))
@@ -206,7 +206,7 @@ one_tile many table chained always sense at row from memory flags old new choice
           sym (ap (λ (i : ℕ). bit (get_or new i 0) p) (there row)) ∙ put k few p
           ∙ (λ i. cond (chosen k few p h i) (found k few p h i) (bit (get_or old (row + from + k) 0) p))
           ∙ (λ i. cond (stores always sense (bit (get_or flags (there at.cond i) 0) p))
-          (output table chained (get_or memory (there at.a i) 0) (get_or memory (there at.b i) 0)
+          (plane_output table chained (get_or memory (there at.a i) 0) (get_or memory (there at.b i) 0)
           (get_or flags (there at.read i) 0) p) (bit (get_or old (there row i) 0) p));
       below = below;
       above = λ i h. above i (omega arith);

@@ -23,20 +23,20 @@ bit_before bits (Some p) = bits p
 
 -- what a processor is to store: what the table gives it, or where the outputs go along the chain
 -- what it gives the one before
-abbrev pub output : ℕ → Bool → ℕ → ℕ → ℕ → ℕ → Bool
-output table false a b f p = looked_up table a b f p
-output table true a b f p = bit_before (looked_up table a b f) (predecessor p)
+abbrev pub plane_output : ℕ → Bool → ℕ → ℕ → ℕ → ℕ → Bool
+plane_output table false a b f p = looked_up table a b f p
+plane_output table true a b f p = bit_before (looked_up table a b f) (predecessor p)
 
 -- the plane has the output where it is chosen, else what was there
-abbrev pub IsKept : ℕ → Bool → (ℕ → Bool) → ℕ → ℕ → ℕ → ℕ → ℕ → Type 0
-IsKept table chained choice a b f old plane =
-    IsPlane plane (λ p. cond (choice p) (output table chained a b f p) (bit old p))
+abbrev pub IsChosenOrOld : ℕ → Bool → (ℕ → Bool) → ℕ → ℕ → ℕ → ℕ → ℕ → Type 0
+IsChosenOrOld table chained choice a b f old plane =
+    IsPlane plane (λ p. cond (choice p) (plane_output table chained a b f p) (bit old p))
 
 -- in the row at a place the words of these numbers are computed from memory and flags; the list is else as it was
 pub record IsComputed (table : ℕ) (chained always sense : Bool) (at : Places) (row from to : ℕ)
     (memory flags old new : List ℕ) : Type 0 where
   pub each : (k : ℕ) → from ≤ k → k < to
-      → IsKept table chained (λ p. stores always sense (bit (slice_index flags (at.cond + k)) p))
+      → IsChosenOrOld table chained (λ p. stores always sense (bit (slice_index flags (at.cond + k)) p))
       (slice_index memory (at.a + k)) (slice_index memory (at.b + k)) (slice_index flags (at.read + k))
       (slice_index old (row + k)) (slice_index new (row + k))
   pub below : (i : ℕ) → i < row + from → slice_index new i ≡ slice_index old i

@@ -5,7 +5,7 @@
 ghost use Rattle.std.specs.Prelude.{◌≡◌, ℕ, ◌+◌, ◌<◌, ◌≤◌, Bool, cond, length, slice_index};
 ghost use Rattle.cm_bits.specs.Bit.{bit};
 ghost use Rattle.cm_model.specs.Chip.{IsPlane};
-ghost use Rattle.cm_rows.specs.Rows.{stores, output, IsKept};
+ghost use Rattle.cm_rows.specs.Rows.{stores, plane_output, IsChosenOrOld};
 
 use cm_bits::Plane;
 use cm_daisy::{previous, previous_lanes};
@@ -52,7 +52,7 @@ pub(crate) fn kept_lanes<const L: usize>(
     requires old { length old ≡ L }
     ensures count { length result ≡ L }
     ensures value { (k : ℕ) → k < L
-        → IsKept table chained (bit (slice_index choice.entry k)) (slice_index a.entry k) (slice_index b.entry k)
+        → IsChosenOrOld table chained (bit (slice_index choice.entry k)) (slice_index a.entry k) (slice_index b.entry k)
         (slice_index f.entry k) (slice_index old.entry k) (slice_index result k) }
 {
     let output = output_lanes(table, chained, a, b, f);
@@ -74,7 +74,7 @@ fn output_lanes<const L: usize>(
     requires f { length f ≡ L }
     ensures count { length result ≡ L }
     ensures value { (k : ℕ) → k < L → IsPlane (slice_index result k)
-        (output table chained (slice_index a.entry k) (slice_index b.entry k) (slice_index f.entry k)) }
+        (plane_output table chained (slice_index a.entry k) (slice_index b.entry k) (slice_index f.entry k)) }
 {
     let own = apply_lanes(table, a, b, f);
     if chained { previous_lanes(own) } else { own }
@@ -130,7 +130,7 @@ pub(crate) fn kept(
     f: Plane,
     old: Plane,
 ) -> Plane
-    ensures value { IsKept table chained (bit choice) a b f old result }
+    ensures value { IsChosenOrOld table chained (bit choice) a b f old result }
 {
     old ^ (choice & (old ^ output(table, chained, a, b, f)))
 }
@@ -138,7 +138,7 @@ pub(crate) fn kept(
 /// What the processors of one word are to store.
 #[inline(always)]
 fn output(table: u8, chained: bool, a: Plane, b: Plane, f: Plane) -> Plane
-    ensures value { IsPlane result (output table chained a b f) }
+    ensures value { IsPlane result (plane_output table chained a b f) }
 {
     let own = apply_alone(table, a, b, f);
     if chained { previous(own) } else { own }

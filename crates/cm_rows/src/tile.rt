@@ -4,7 +4,7 @@ ghost use Rattle.std.specs.Prelude.{◌≡◌, ℕ, ◌+◌, ◌<◌, ◌≤◌,
 ghost use Rattle.cm_bits.specs.Bit.{bit};
 ghost use Rattle.cm_model.specs.Chip.{IsPlane, plane_bit};
 ghost use Rattle.cm_model.specs.Place.{predecessor};
-ghost use Rattle.cm_rows.specs.Rows.{stores, looked_up, output};
+ghost use Rattle.cm_rows.specs.Rows.{stores, looked_up, plane_output};
 
 use crate::block::choice_of;
 use crate::places::Places;
@@ -26,7 +26,8 @@ pub(crate) fn find_outputs(
     requires b { at.b + from + length found.old ≤ length memory.now }
     requires read { at.read + from + length found.old ≤ length flags.now }
     ensures value { (k : ℕ) → k < length found.old → IsPlane (slice_index found.new k)
-        (output table chained (slice_index memory.now (at.a + from + k)) (slice_index memory.now (at.b + from + k))
+        (plane_output table chained (slice_index memory.now (at.a + from + k))
+        (slice_index memory.now (at.b + from + k))
         (slice_index flags.now (at.read + from + k))) }
 {
     if chained {

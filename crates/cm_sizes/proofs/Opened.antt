@@ -5,7 +5,7 @@ use Rattle.std.specs.Int.{Width, w8, w32, w64, byte_len}
 use Rattle.cm_model.specs.Machine.{Machine}
 use Rattle.cm_image_format.specs.declared.fault.ImageFault.{ImageFault}
 use Rattle.cm_image_format.specs.declared.fault.ImageFault.TheVariants as image
-use Rattle.cm_image_format.specs.Reading.{Read, ◌>>=◌, must, unless, number_at, part, followed, ◌⨾◌, made, fault_in}
+use Rattle.cm_image_format.specs.Reading.{Read, ◌>>=◌, must, unless, number_at, checked_number, followed, ◌⨾◌, made, fault_in}
 use Rattle.cm_image_format.specs.Header.{is_dimension, is_room, shape_part, clock_part}
 use Rattle.cm_image_format.specs.Whole.{read_shape, read_image, header_fault}
 use Rattle.cm_sizes.specs.declared.opening.OpenFault.TheVariants.{Image, Room}
@@ -79,7 +79,7 @@ check_never fault true x other = none_never
 check_never fault false x other = fault_never fault other
 
 part_never : (w : Width) (fault : ImageFault) (test : ℕ → Bool) (bytes : List ℕ) → fault ≢ image.Memory
-    → NeverMemory (part w (must fault test) bytes)
+    → NeverMemory (checked_number w (must fault test) bytes)
 part_never w fault test bytes other =
     both_never (number_at w bytes) (λ n. unless (must fault test n.0) (n.0, n.1)) (number_never w bytes)
     (λ n. check_never fault (test n.0) (n.0, n.1) other)

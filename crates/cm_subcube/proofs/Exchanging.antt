@@ -15,7 +15,7 @@ use Rattle.cm_model.specs.Steps.{Instruct, Cross}
 use Rattle.cm_model.specs.Each.{each_from}
 use Rattle.cm_model.specs.Place.{chip_columns, columns}
 use Rattle.cm_model.proofs.Each.{is_each, length-each_from, same_each_below}
-use Rattle.cm_news.specs.Bands.{bits_of}
+use Rattle.cm_news.specs.Bands.{edge_bits}
 use Rattle.cm_blocks.specs.Parts.{Part, size}
 use Rattle.cm_blocks.specs.Parcels.{Parcel, Blank, Mail, Edge}
 use Rattle.cm_blocks.specs.Steps.{part_after, less, absorbed}
@@ -84,12 +84,12 @@ unfolding absorbed
 absorbed-instruct k nano parcel new old is = is
 
 -- an edge has a byte for each column of chips
-as_wide : (n : ℕ) (edge : List ℕ) → length (bits_of edge) ≡ columns n → length edge ≡ chip_columns n
+as_wide : (n : ℕ) (edge : List ℕ) → length (edge_bits edge) ≡ columns n → length edge ≡ chip_columns n
 as_wide n edge long =
     let bits = length-each_from 0 (4 * length edge) (λ column. bit (get_or edge (column / 4) 0) (column % 4)) in
     omega (arith, bits, long)
 
-pub edge_as_wide : (n k : ℕ) (one : Kind) (edge : List ℕ) → IsOfKind n k one (Edge (bits_of edge))
+pub edge_as_wide : (n k : ℕ) (one : Kind) (edge : List ℕ) → IsOfKind n k one (Edge (edge_bits edge))
     → length edge ≡ chip_columns n
 edge_as_wide n k kind.North edge long = as_wide n edge long
 edge_as_wide n k kind.South edge long = as_wide n edge long
@@ -101,13 +101,13 @@ row_of Blank = []
 row_of (Mail lane) = []
 row_of (Edge row) = row
 
-blank_as_wide : (n : ℕ) (edge : List ℕ) → Edge (bits_of edge) ≡ Edge (each_from 0 (columns n) (λ column. false))
+blank_as_wide : (n : ℕ) (edge : List ℕ) → Edge (edge_bits edge) ≡ Edge (each_from 0 (columns n) (λ column. false))
     → length edge ≡ chip_columns n
 unfolding row_of
 blank_as_wide n edge is =
     as_wide n edge (ap (λ (p : Parcel). length (row_of p)) is ∙ length-each_from 0 (columns n) (λ column. false))
 
-pub edge_of_blank : (n k : ℕ) (one : Kind) (edge : List ℕ) → Edge (bits_of edge) ≡ blank_parcel n k one
+pub edge_of_blank : (n k : ℕ) (one : Kind) (edge : List ℕ) → Edge (edge_bits edge) ≡ blank_parcel n k one
     → length edge ≡ chip_columns n
 edge_of_blank n k kind.North edge is = blank_as_wide n edge is
 edge_of_blank n k kind.South edge is = blank_as_wide n edge is
@@ -115,7 +115,7 @@ edge_of_blank n k (kind.Dim d) edge is = cc
 
 -- where each byte is 0, no bit is left in it
 no_bits : (n : ℕ) (edge : List ℕ) → length edge ≡ chip_columns n → All (λ four. four ≡ 0) edge
-    → bits_of edge ≡ each_from 0 (columns n) (λ column. false)
+    → edge_bits edge ≡ each_from 0 (columns n) (λ column. false)
 no_bits n edge wide none =
     ap (λ (k : ℕ). each_from 0 (4 * k) (λ column. bit (get_or edge (column / 4) 0) (column % 4))) wide
     ∙ same_each_below false (columns n) (λ column. bit (get_or edge (column / 4) 0) (column % 4)) (λ column. false)
@@ -123,8 +123,8 @@ no_bits n edge wide none =
     ap (λ (four : ℕ). bit four (column % 4)) (none (column / 4) 0 (omega (arith, inside, wide)))
     ∙ ap (λ (v : ℕ). v == 1) (bit_at-zero (column % 4)))
 
-pub blank_edge : (n k : ℕ) (one : Kind) (before now : List ℕ) → IsOfKind n k one (Edge (bits_of before))
-    → length now ≡ length before → All (λ four. four ≡ 0) now → Edge (bits_of now) ≡ blank_parcel n k one
+pub blank_edge : (n k : ℕ) (one : Kind) (before now : List ℕ) → IsOfKind n k one (Edge (edge_bits before))
+    → length now ≡ length before → All (λ four. four ≡ 0) now → Edge (edge_bits now) ≡ blank_parcel n k one
 blank_edge n k kind.North before now was same none = ap Edge (no_bits n now (same ∙ as_wide n before was) none)
 blank_edge n k kind.South before now was same none = ap Edge (no_bits n now (same ∙ as_wide n before was) none)
 blank_edge n k (kind.Dim d) before now was same none = absurd was

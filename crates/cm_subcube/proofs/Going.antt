@@ -9,7 +9,7 @@ use Rattle.cm_blocks.specs.Counts.{is_injection, is_delivery, deliveries, events
 use Rattle.cm_blocks.specs.Parts.{Part}
 use Rattle.cm_blocks.specs.Parcels.{Parcel, Blank, Edge}
 use Rattle.cm_blocks.specs.Steps.{part_after, part_after_all, incoming_in}
-use Rattle.cm_news.specs.Bands.{bits_of}
+use Rattle.cm_news.specs.Bands.{edge_bits}
 use Rattle.cm_router.specs.Logs.{LoseAtMost}
 use Rattle.cm_router.proofs.Rooms.{lost_nothing}
 use Rattle.cm_array.specs.Cuts.{KeptPart}
@@ -80,7 +80,7 @@ HasGone-one k step rooms gathered old new seen view is lost =
 
 -- an instruction with an edge that is not there is one at which no parcel comes
 pub no_edge : (n cap : ℕ) (nano : Nano) (s : Part)
-    → part_after n cap (Instruct nano) (Edge (bits_of [])) s ≡ part_after n cap (Instruct nano) Blank s
+    → part_after n cap (Instruct nano) (Edge (edge_bits [])) s ≡ part_after n cap (Instruct nano) Blank s
 unfolding part_after incoming_in each_from
 no_edge n cap nano s = refl
 

@@ -13,7 +13,7 @@ use Rattle.cm_model.specs.Array.{list_at}
 use Rattle.cm_model.specs.Wiring.{is_cut}
 use Rattle.cm_blocks.specs.Parts.{Part, size}
 use Rattle.cm_blocks.specs.Parcels.{Parcel, Blank, Mail, Edge, mail_in}
-use Rattle.cm_news.specs.Bands.{bits_of}
+use Rattle.cm_news.specs.Bands.{edge_bits}
 use Rattle.cm_subcube.specs.declared.parcel.Load.{Load}
 use Rattle.cm_subcube.specs.declared.parcel.Load.TheVariants as load
 use Rattle.cm_subcube.specs.declared.round.Kind.{Kind}
@@ -23,7 +23,7 @@ use Rattle.cm_subcube.specs.declared.round.Round.{Round}
 -- what a parcel has
 abbrev pub parcel_of : Load → Parcel
 parcel_of (load.Mail lane) = Mail lane.items
-parcel_of (load.Edge row) = Edge (bits_of row.items)
+parcel_of (load.Edge row) = Edge (edge_bits row.items)
 
 -- a parcel of a kind, with no message and no bit in it
 abbrev pub blank_parcel : ℕ → ℕ → Kind → Parcel

@@ -5,7 +5,7 @@ ghost use Rattle.std.specs.List.{All};
 ghost use Rattle.cm_model.specs.Array.{list_at};
 ghost use Rattle.cm_model.specs.Place.{chip_columns};
 ghost use Rattle.cm_model.specs.Steps.{Instruct, Cross};
-ghost use Rattle.cm_news.specs.Bands.{bits_of};
+ghost use Rattle.cm_news.specs.Bands.{edge_bits};
 ghost use Rattle.cm_blocks.specs.Parts.{size};
 ghost use Rattle.cm_blocks.specs.Parcels.{Edge, Mail, due};
 ghost use Rattle.cm_blocks.specs.Rounds.{is_vertical};
@@ -108,7 +108,7 @@ impl Block {
         requires vertical { IsTrue (is_vertical nano.now.dir) }
         requires lanes { length edge.old ≡ chip_columns self.old.kept.dims }
         ensures others { self.new ≡ self.old }
-        ensures sent { Edge (bits_of edge.new)
+        ensures sent { Edge (edge_bits edge.new)
             ≡ due self.old.kept.dims self.old.kept.room (Instruct nano.now) self.old.kept.part }
     {
         self.part.edge(nano, edge);
@@ -119,7 +119,7 @@ impl Block {
         requires lanes { length edge.old ≡ chip_columns self.old.kept.dims }
         ensures kept { self.new.kept ≡ record self.old.kept {
           part = absorbed self.old.kept.dims self.old.kept.room (Instruct nano.now)
-              (Edge (bits_of edge.old)) self.old.kept.part;
+              (Edge (edge_bits edge.old)) self.old.kept.part;
         } }
         ensures blocks { self.new.k ≡ self.old.k }
         ensures blank { All (λ four. four ≡ 0) edge.new }

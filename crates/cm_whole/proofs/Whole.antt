@@ -7,7 +7,7 @@ use Rattle.cm_model.specs.Machine.{Machine}
 use Rattle.cm_model.specs.Unlogged.{IsUnlogged}
 use Rattle.cm_model.proofs.Each.{get_or-each_below}
 use Rattle.cm_language.specs.Places.{MacrosStandInTheirProgram}
-use Rattle.cm_image_format.specs.Laws.{IsStored, OnlyTextsAreRead}
+use Rattle.cm_image_format.specs.Laws.{IsStorable, OnlyTextsAreRead}
 use Rattle.cm_session.specs.Laws.{LinesCanBeParted}
 use Rattle.cm_session.specs.Whole.{SessionsKeepMachines, LinesRunTheirActs, SessionsDoMacros}
 use Rattle.cm_session.specs.Whole.{SessionsKeepMessages, SessionsDeliver}
@@ -25,7 +25,7 @@ no_events n c i machine none inside =
 pub as_written : OnlyTextsAreRead → MacrosStandInTheirProgram → LinesCanBeParted → LinesRunTheirActs
     → SessionsKeepMachines → SessionsDoMacros → SessionsKeepMessages → SessionsDeliver → SessionsAreAsWritten
 as_written only stand parted run keep do_macros keep_messages deliver inputs setup accepted =
-    let stored : IsStored setup.n setup.cap setup.machine =
+    let stored : IsStorable setup.n setup.cap setup.machine =
     (only setup.n setup.cap inputs.image setup.machine accepted.bytes accepted.image).1 in
     record {
       lines = λ before line next. is_done parted setup before line

@@ -7,7 +7,7 @@ use Rattle.cm_language.specs.declared.macros.Macro.TheVariants.{Add}
 use Rattle.cm_language.specs.declared.macros.Context.TheVariants.{Always}
 use Rattle.cm_language.specs.Acts.{acts_of}
 use Rattle.cm_language.specs.Program.{Reading, ProgramText}
-use Rattle.cm_image_format.specs.Whole.{Image, machine_from}
+use Rattle.cm_image_format.specs.Whole.{Image, machine_of_image}
 use Rattle.cm_whole.specs.Inputs.{Inputs, Setup}
 
 -- one chip, room for seven messages, all 0: 51 bytes
@@ -53,4 +53,4 @@ poked_sum = record whole_sum { commands = codes "step\npokeflag 0 0 7 1\nrun\n" 
 
 -- what is set up from these inputs: one chip, whose router has room for seven messages, and the program
 abbrev pub sum_setup : Setup
-sum_setup = record { n = 0; cap = 7; machine = machine_from blank_image; program = sum_program }
+sum_setup = record { n = 0; cap = 7; machine = machine_of_image blank_image; program = sum_program }

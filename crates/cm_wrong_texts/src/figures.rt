@@ -4,7 +4,7 @@ ghost use Rattle.std.specs.Prelude.{◌≡◌, ◌≢◌, ◌*◌, ◌<◌, ◌�
 ghost use Rattle.std.specs.List.{All};
 ghost use Rattle.cm_figures.specs.Numbers.{numbers_in};
 ghost use Rattle.cm_figures.specs.PictureReading.{picture_in};
-ghost use Rattle.cm_figures.specs.Pictures.{seen, picture_text};
+ghost use Rattle.cm_figures.specs.Pictures.{picture_seen, picture_text};
 ghost use Rattle.cm_figures.specs.Png.{png_of};
 
 use cm_bits::NoMemory;
@@ -34,7 +34,7 @@ pub fn read_picture(
     height: u16,
 ) -> Result<Picture, PictureFault>
     requires some { 0 < width }
-    ensures value { IfOk result (λ picture. picture_in width height text.now ≡ Ok (seen picture)) }
+    ensures value { IfOk result (λ picture. picture_in width height text.now ≡ Ok (picture_seen picture)) }
     ensures count { IfOk result (λ picture. length picture.dots.items ≡ height * width) }
     ensures within { IfOk result (λ picture. All (λ dot. dot ≤ picture.greatest) picture.dots.items) }
     ensures refused { IfErr result (λ fault. fault ≢ PictureFault.Memory
@@ -47,7 +47,7 @@ pub fn read_picture(
 pub fn write_picture(alloc: Global, picture: &Picture, form: Form) -> Result<Vec<u8>, NoMemory>
     requires some { 0 < picture.now.width }
     requires dots { length picture.now.dots.items ≡ picture.now.height * picture.now.width }
-    ensures value { IfOk result (λ text. text.items ≡ picture_text form (seen picture.now)) }
+    ensures value { IfOk result (λ text. text.items ≡ picture_text form (picture_seen picture.now)) }
 {
     cm_figures::write_picture(alloc, picture, form)
 }
@@ -55,7 +55,7 @@ pub fn write_picture(alloc: Global, picture: &Picture, form: Form) -> Result<Vec
 /// What `cm_figures::write_png` promises, word for word.
 pub fn write_png(alloc: Global, picture: &Picture) -> Result<Vec<u8>, NoMemory>
     requires dots { length picture.now.dots.items ≡ picture.now.height * picture.now.width }
-    ensures value { IfOk result (λ text. text.items ≡ png_of (seen picture.now)) }
+    ensures value { IfOk result (λ text. text.items ≡ png_of (picture_seen picture.now)) }
 {
     match cm_figures::write_png(alloc, picture) {
         Ok(text) => Ok(text),

@@ -5,7 +5,7 @@ ghost use Rattle.std.specs.Prelude.{IfOk, replicate, vec_capacity};
 ghost use Rattle.cm_model.specs.Array.{chip_at};
 ghost use Rattle.cm_element.specs.Laid.{AreLaidRows, AreTurnedRows, IsRowLaid, IsRowTurned};
 ghost use Rattle.cm_element.specs.Runs.{chips_of, AreRows};
-ghost use Rattle.cm_element.specs.Sparse.{spread, AreSlots};
+ghost use Rattle.cm_element.specs.Sparse.{spread, AreMemorySlots};
 ghost use Rattle.cm_element.specs.Steps.{ArePlaces, IsStored};
 ghost use Rattle.cm_element.specs.Wide.{with_memory_field};
 ghost use Rattle.cm_rows.specs.Rows.{IsComputed};
@@ -39,14 +39,14 @@ pub(crate) struct MemoryRows {
 
 impl Model for MemoryRows {
     ghost use Rattle.std.specs.Prelude.{ℕ, List, vec_capacity};
-    ghost use Rattle.cm_element.specs.Sparse.{spread, AreSlots};
+    ghost use Rattle.cm_element.specs.Sparse.{spread, AreMemorySlots};
 
     ghost Value = { List ℕ };
 
     ghost view = { λ rows. spread rows.words.items rows.slots.items rows.stride };
 
     ghost invariant = { λ rows.
-        AreSlots rows.words.items (vec_capacity rows.words) rows.slots.items rows.used rows.stride };
+        AreMemorySlots rows.words.items (vec_capacity rows.words) rows.slots.items rows.used rows.stride };
 }
 
 impl MemoryRows {
@@ -375,7 +375,7 @@ impl MemoryRows {
 
 /// Where the row of an address begins, or that of zeros, which it shares.
 fn start(words: &Vec<Plane>, slots: &Vec<u16>, used: usize, stride: usize, at: usize) -> usize
-    requires slots { AreSlots words.now.items (vec_capacity words.now) slots.now.items used stride }
+    requires slots { AreMemorySlots words.now.items (vec_capacity words.now) slots.now.items used stride }
     requires at { at < 4096 }
     ensures value { result ≡ slice_index slots.now.items at * stride }
     ensures within { result + stride ≤ length words.now.items }
@@ -428,9 +428,9 @@ fn passed(slots: &[u16], others: &[u16], at: usize) -> usize
 
 /// Gives an address a row of its own, unless it has one. How many rows are in use then.
 fn own(words: &mut Vec<Plane>, slots: &mut Vec<u16>, used: usize, stride: usize, at: usize) -> usize
-    requires slots { AreSlots words.old.items (vec_capacity words.old) slots.old.items used stride }
+    requires slots { AreMemorySlots words.old.items (vec_capacity words.old) slots.old.items used stride }
     requires at { at < 4096 }
-    ensures slots { AreSlots words.new.items (vec_capacity words.new) slots.new.items result stride }
+    ensures slots { AreMemorySlots words.new.items (vec_capacity words.new) slots.new.items result stride }
     ensures own { 0 < slice_index slots.new.items at }
     ensures value { spread words.new.items slots.new.items stride ≡ spread words.old.items slots.old.items stride }
 {
@@ -457,9 +457,9 @@ fn put_bits(
     requires few { stride < 2 ^ 20 }
     requires rows { (i : ℕ) → i < 4096 → slice_index slots.now i * stride + stride ≤ length words.old }
     requires place { place < stride }
-    ensures kept { (capacity used : ℕ) → AreSlots words.old capacity slots.now used stride
-        → AreSlots words.new capacity slots.now used stride }
-    ensures value { (capacity used : ℕ) → AreSlots words.old capacity slots.now used stride
+    ensures kept { (capacity used : ℕ) → AreMemorySlots words.old capacity slots.now used stride
+        → AreMemorySlots words.new capacity slots.now used stride }
+    ensures value { (capacity used : ℕ) → AreMemorySlots words.old capacity slots.now used stride
         → (flags : List ℕ) → (chips : ℕ) → AreRows (spread words.old slots.now stride) flags stride chips
         → place < chips
         → chips_of (spread words.new slots.now stride) flags stride chips

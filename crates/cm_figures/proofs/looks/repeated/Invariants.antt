@@ -1,12 +1,12 @@
 use Rattle.std.proofs.Common.{◌≡◌, ◌*◌, length}
 use Rattle.std.specs.List.{flat_map, range_with_len}
-use Rattle.cm_figures.specs.Pictures.{seen}
+use Rattle.cm_figures.specs.Pictures.{picture_seen}
 use Rattle.cm_figures.specs.Looks.{wider_row}
 use Rattle.cm_figures.proofs.looks.repeated.Given as goal
 
 -- so many rows
 abbrev pub invariant-loop-y : goal.invariant-loop-y
 invariant-loop-y l = record {
-  value : l.dots.items ≡ flat_map (wider_row l.k (seen l.picture)) (range_with_len 0 l.y);
+  value : l.dots.items ≡ flat_map (wider_row l.k (picture_seen l.picture)) (range_with_len 0 l.y);
   count : length l.dots.items ≡ l.y * (l.k * l.picture.width);
 }

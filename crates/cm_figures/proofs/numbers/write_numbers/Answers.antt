@@ -1,5 +1,5 @@
 use Rattle.std.proofs.Common.{ℕ, [], ◌∷◌, ◌++◌, get_or, decimal, ap, sym, ◌∙◌, append_assoc, arith}
-use Rattle.cm_figures.specs.Numbers.{behind}
+use Rattle.cm_figures.specs.Numbers.{separator_behind}
 use Rattle.cm_figures.proofs.Texts.{one_more_written, all_written}
 use Rattle.cm_figures.proofs.numbers.write_numbers.Goals as goal
 
@@ -10,7 +10,7 @@ loop-index-preserved c =
     one_more_written c.args.width c.args.numbers.now before c.push_number.new.text.items c.loop-index.index
     c.loop-index-test.true c.loop-index.invariant
     (c.in_ok-push_number.ensures.ok ∙ ap (λ (b : ℕ). before ++ (number ++ b ∷ [])) c.behind.ensures.value
-    ∙ sym (append_assoc before number (behind c.args.width c.loop-index.index ∷ [])))
+    ∙ sym (append_assoc before number (separator_behind c.args.width c.loop-index.index ∷ [])))
 
 pub returns : goal.returns
 returns c = record {

@@ -1,12 +1,12 @@
 use Rattle.std.proofs.Common.{◌≡◌, ℕ, ◌*◌, ◌/◌, ◌%◌, ◌++◌, map, ap, ◌∙◌, arith}
 use Rattle.std.specs.List.{range_with_len}
-use Rattle.cm_figures.specs.Pictures.{seen, row_bytes, eight_dots, packed_byte, packed_text}
+use Rattle.cm_figures.specs.Pictures.{picture_seen, row_bytes, eight_dots, packed_byte, packed_text}
 use Rattle.cm_figures.proofs.Growing.{each_more}
 use Rattle.cm_figures.proofs.picture.push_packed.Goals as goal
 
 pub loop-b-preserved : goal.loop-b-preserved
 loop-b-preserved c =
-    let picture = seen c.args.picture.now in
+    let picture = picture_seen c.args.picture.now in
     let in_row : c.div_ceil-in_row.result ≡ row_bytes c.args.picture.now.width =
     omega (arith, c.div_ceil-in_row.ensures, c.from.ensures) in
     each_more (packed_byte picture) c.args.text.now.items c.loop-b.text.items c.push.new.self.items c.loop-b.b
@@ -17,7 +17,7 @@ loop-b-preserved c =
 pub returns : goal.returns
 unfolding packed_text
 returns c =
-    let picture = seen c.args.picture.now in
+    let picture = picture_seen c.args.picture.now in
     let in_row : c.div_ceil-in_row.result ≡ row_bytes c.args.picture.now.width =
     omega (arith, c.div_ceil-in_row.ensures, c.from.ensures) in
     let all : c.loop-b.b ≡ c.from-2.result * c.div_ceil-in_row.result =

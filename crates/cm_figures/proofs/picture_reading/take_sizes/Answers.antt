@@ -1,7 +1,7 @@
 use Rattle.std.proofs.Common.{◌≡◌, ℕ, ◌==◌, ◌&&◌, Bool, true, List, Result, Err, sym, ap, ◌∙◌, subst, eq-eqb, if◌then◌else◌}
 use Rattle.cm_figures.specs.declared.picture_reading.PictureFault.{PictureFault}
 use Rattle.cm_figures.specs.declared.picture_reading.PictureFault.TheVariants.{Size}
-use Rattle.cm_figures.specs.PictureReading.{Gives, ◌>>=◌, number_part, greatest_part, sized_part, sizes_part}
+use Rattle.cm_figures.specs.PictureReading.{GivesPicture, ◌>>=◌, number_part, greatest_part, sized_part, sizes_part}
 use Rattle.cm_figures.proofs.picture_reading.take_sizes.Goals as goal
 
 pub returns-then-h-from : goal.returns-then-h-from
@@ -23,5 +23,5 @@ returns-then-h-from c =
     ∙ ap (λ (b : Bool). if b then greatest_part text is_bits c.in_ok-h.rest.now else Err (Size w h width height)) both in
     record {
       value = subst (λ (given : Result (ℕ × List ℕ) PictureFault).
-          Gives (λ read. (read.0, read.1.now)) c.take_greatest.result given) (sym same) c.take_greatest.ensures.value;
+          GivesPicture (λ read. (read.0, read.1.now)) c.take_greatest.result given) (sym same) c.take_greatest.ensures.value;
     }

@@ -1,5 +1,5 @@
 use Rattle.std.proofs.Common.{◌*◌, ◌++◌, [], ℕ, List, take, get_or, ap, ◌∙◌, arith}
-use Rattle.cm_image.specs.Planes.{listing_of}
+use Rattle.cm_image.specs.Planes.{plane_listing}
 use Rattle.cm_image.proofs.Listing.{listings_none, listed_more}
 use Rattle.cm_image.proofs.dense.list_all.Goals as goal
 
@@ -16,5 +16,5 @@ loop-at-preserved c = record {
       (omega (arith, c.from-i.ensures))
       (ap (λ (k : ℕ). take (4 * k) c.loop-at.listed) c.from-i.ensures ∙ c.loop-at.invariant.listed (omega (arith, none)))
       (c.put_listing-zeros.ensures.value (omega (arith, none))
-      ∙ ap (λ (k : ℕ). take (4 * c.from-i.result) c.loop-at.listed ++ listing_of at (get_or planes k 0)) c.from-i.ensures);
+      ∙ ap (λ (k : ℕ). take (4 * c.from-i.result) c.loop-at.listed ++ plane_listing at (get_or planes k 0)) c.from-i.ensures);
 }

@@ -1,5 +1,5 @@
 use Rattle.std.proofs.Common.{◌++◌, ℕ, List, get_or, sym, ap, ◌∙◌, arith}
-use Rattle.cm_image.specs.Planes.{listings, listing_of}
+use Rattle.cm_image.specs.Planes.{listings, plane_listing}
 use Rattle.cm_image.proofs.Dumping.{grown}
 use Rattle.cm_image.proofs.Listing.{listings_none, listings_step}
 use Rattle.cm_image.proofs.dense.push_some.Goals as goal
@@ -16,10 +16,10 @@ loop-at-preserved c =
     let planes : List ℕ = c.args.planes.now in
     let at : ℕ = c.loop-at.at in
     record {
-      text = grown c.args.text.now.items (listings planes at) (listing_of at (get_or planes c.from.result 0)) _ _
+      text = grown c.args.text.now.items (listings planes at) (plane_listing at (get_or planes c.from.result 0)) _ _
           c.loop-at.invariant.text c.in_ok-push_plane.ensures.ok
           ∙ ap (λ (xs : List ℕ). c.args.text.now.items ++ xs)
-          (ap (λ (k : ℕ). listings planes at ++ listing_of at (get_or planes k 0)) c.from.ensures
+          (ap (λ (k : ℕ). listings planes at ++ plane_listing at (get_or planes k 0)) c.from.ensures
           ∙ sym (listings_step planes at));
       capacity = omega (arith, c.loop-at.invariant.capacity, c.push_plane.ensures.capacity);
       grows = omega (arith, c.loop-at.invariant.grows, c.in_ok-push_plane.ensures.grows);

@@ -1,6 +1,6 @@
 use Rattle.std.proofs.Common.{ℕ, ◌++◌, get_or, refl, sym, ap, ◌∙◌, arith}
 use Rattle.std.proofs.lemmas.List.{append-nil}
-use Rattle.cm_image.specs.Planes.{listing_of, listing_at}
+use Rattle.cm_image.specs.Planes.{plane_listing, listing_at}
 use Rattle.cm_image.proofs.Dumping.{items_more}
 use Rattle.cm_image.proofs.dumps.push_planes.Goals as goal
 
@@ -21,7 +21,7 @@ loop-at-preserved c =
       text = items_more (listing_at c.args.chip.now) c.args.addresses.now c.args.text.now.items _ _ c.loop-at.at-index
           at 0 c.loop-at-test.true refl c.loop-at.invariant.text
           (c.in_ok-push_plane.ensures.ok
-          ∙ ap (λ (n : ℕ). c.loop-at.text.items ++ listing_of at n) c.memory_plane.ensures.value);
+          ∙ ap (λ (n : ℕ). c.loop-at.text.items ++ plane_listing at n) c.memory_plane.ensures.value);
       capacity = omega (arith, c.loop-at.invariant.capacity, c.push_plane.ensures.capacity);
       grows = omega (arith, c.loop-at.invariant.grows, c.in_ok-push_plane.ensures.grows);
     }

@@ -2,7 +2,7 @@ use Rattle.std.proofs.Common.{◌≡◌, ℕ, List, length, refl, sym, ap, ◌�
 use Rattle.cm_model.specs.Place.{chip_columns}
 use Rattle.cm_model.specs.Steps.{Instruct}
 use Rattle.cm_blocks.specs.Parcels.{Edge, due}
-use Rattle.cm_news.specs.Bands.{bits_of}
+use Rattle.cm_news.specs.Bands.{edge_bits}
 use Rattle.cm_array.specs.Bands.{IsBand, IsEdgeOf}
 use Rattle.cm_array.specs.Cuts.{KeptPart, kept_part}
 use Rattle.cm_array.proofs.Banding.{edge_due, edge_inside}
@@ -19,7 +19,7 @@ returns-clause-value c =
     let band : IsBand inside.sizes.dims before.part =
     subst (λ (k : KeptPart). IsBand k.dims k.part) (sym c.self.view_is) c.requires.band in
     let as_many = c.send.auto.sent ∙ ap length c.deref_mut.ensures.value in
-    subst (λ (k : KeptPart). Edge (bits_of out) ≡ due k.dims k.room (Instruct nano) k.part) c.self.view_is
+    subst (λ (k : KeptPart). Edge (edge_bits out) ≡ due k.dims k.room (Instruct nano) k.part) c.self.view_is
     (edge_due inside.sizes.dims inside.sizes.room nano before.part sent out c.requires.vertical band refl
     (as_many ∙ c.self.invariant.sized.sent_count)
     (c.write_edge.auto.out ∙ c.requires.lanes ∙ ap (λ (k : KeptPart). chip_columns k.dims) (sym c.self.view_is))

@@ -1,9 +1,9 @@
 use Rattle.std.proofs.Common.{◌≡◌, ℕ, ◌+◌, ◌-◌, ◌*◌, ◌<◌, ◌≤◌, length, get_or, sym, ap, ◌∙◌, arith}
 use Rattle.cm_bits.specs.Bit.{bit}
-use Rattle.cm_element.specs.Runs.{column, chips_of}
+use Rattle.cm_element.specs.Runs.{chip_column, chips_of}
 use Rattle.cm_model.specs.Processor.{flag}
 use Rattle.cm_model.specs.Chip.{processor_at}
-use Rattle.cm_element.proofs.Columns.{length-chips_of, chip_at-chips_of, get_or-column, chip_is_whole}
+use Rattle.cm_element.proofs.Columns.{length-chips_of, chip_at-chips_of, get_or-chip_column, chip_is_whole}
 use Rattle.cm_element.proofs.Laying.{get_or-part, length-part}
 use Rattle.cm_element.proofs.Planes.{flag-chip_of}
 use Rattle.cm_element.proofs.run.Run.flag_row.Goals as goal
@@ -26,9 +26,9 @@ returns c =
       value = λ k h p below. let here : k < run.chips = omega (arith, h, count) in
           ap (λ (w : ℕ). bit w p) (get_or-part f first (first + run.chips) run.chips k few here
           ∙ ap (λ (i : ℕ). get_or f (i + k) 0) place
-          ∙ sym (get_or-column f run.stride 16 k c.args.number
+          ∙ sym (get_or-chip_column f run.stride 16 k c.args.number
           (omega (arith, c.get.ensures.value, c.get.ensures.in_range))))
-          ∙ sym (flag-chip_of (column m run.stride 4096 k) (column f run.stride 16 k) p c.args.number below)
+          ∙ sym (flag-chip_of (chip_column m run.stride 4096 k) (chip_column f run.stride 16 k) p c.args.number below)
           ∙ sym (ap (λ v. flag (processor_at v p) c.args.number) (chip_at-chips_of m f run.stride run.chips k here));
       whole = λ k h. chip_is_whole m f run.stride run.chips k c.self.invariant h;
     })

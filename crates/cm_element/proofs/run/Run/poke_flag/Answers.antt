@@ -3,8 +3,8 @@ use Rattle.std.proofs.lemmas.Bool.{eqb-false}
 use Rattle.std.proofs.lemmas.List.{get_or_read}
 use Rattle.cm_bits.specs.Bit.{bit}
 use Rattle.cm_model.specs.Chip.{with_flag}
-use Rattle.cm_element.specs.Runs.{column, chips_of}
-use Rattle.cm_element.proofs.Columns.{length-chips_of, get_or-column, chip_at-chips_of, has_word}
+use Rattle.cm_element.specs.Runs.{chip_column, chips_of}
+use Rattle.cm_element.proofs.Columns.{length-chips_of, get_or-chip_column, chip_at-chips_of, has_word}
 use Rattle.cm_element.proofs.Poking.{put_flag}
 use Rattle.cm_element.proofs.Replacing.{flags_set, flags_set_rows}
 use Rattle.cm_element.proofs.run.Run.poke_flag.Goals as goal
@@ -38,13 +38,13 @@ returns-clause-ok c =
     ∙ ap (λ (i : ℕ). i * run.stride + chip) number in
     let inside : c.word_at-here.result < length f =
     omega (arith, c.word_at-here.ensures.within, c.self.invariant.flag_words) in
-    let old : c.index.result.now ≡ get_or (column f run.stride 16 chip) c.args.number 0 =
+    let old : c.index.result.now ≡ get_or (chip_column f run.stride 16 chip) c.args.number 0 =
     get_or_read f c.word_at-here.result c.index.result.now inside c.index.ensures 0 ∙ ap (λ (i : ℕ). get_or f i 0) place
-    ∙ sym (get_or-column f run.stride 16 chip c.args.number below) in
+    ∙ sym (get_or-chip_column f run.stride 16 chip c.args.number below) in
     rw (← c.self.view_is, place)
     (flags_set m f run.stride run.chips chip c.args.number c.with_bit.result (with_flag (get_or (chips_of m f run.stride
     run.chips) chip []) c.args.proc c.args.number c.args.bit) c.self.invariant here below
-    (put_flag (column m run.stride 4096 chip) (column f run.stride 16 chip)
+    (put_flag (chip_column m run.stride 4096 chip) (chip_column f run.stride 16 chip)
     c.args.proc c.args.number c.with_bit.result c.args.bit c.with_bit.ensures.in_range
     (λ q h. c.with_bit.ensures.value q h ∙ ap (λ (w : ℕ). if q == c.args.proc then c.args.bit else bit w q) old)
     ∙ ap (λ v. with_flag v c.args.proc c.args.number c.args.bit)

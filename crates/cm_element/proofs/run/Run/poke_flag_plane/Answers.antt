@@ -1,6 +1,6 @@
 use Rattle.std.proofs.Common.{◌≡◌, ℕ, ◌+◌, ◌*◌, [], get_or, sym, ap, ◌∙◌, arith}
 use Rattle.cm_bits.specs.Bit.{bit}
-use Rattle.cm_element.specs.Runs.{column, chips_of}
+use Rattle.cm_element.specs.Runs.{chip_column, chips_of}
 use Rattle.cm_element.specs.Wide.{with_flag_plane}
 use Rattle.cm_element.proofs.Columns.{length-chips_of, chip_at-chips_of, has_word}
 use Rattle.cm_element.proofs.Replacing.{flags_set, flags_set_rows}
@@ -37,7 +37,7 @@ returns c =
           (flags_set m f run.stride run.chips chip c.args.number c.args.plane (with_flag_plane (get_or (chips_of m f
           run.stride run.chips) chip []) c.args.number (bit c.args.plane)) c.self.invariant here
           (omega (arith, c.get.ensures.value, c.get.ensures.in_range))
-          (put_flag_plane (column m run.stride 4096 chip) (column f run.stride 16 chip) c.args.number c.args.plane
+          (put_flag_plane (chip_column m run.stride 4096 chip) (chip_column f run.stride 16 chip) c.args.number c.args.plane
           ∙ ap (λ v. with_flag_plane v c.args.number (bit c.args.plane))
           (sym (chip_at-chips_of m f run.stride run.chips chip here))));
     }

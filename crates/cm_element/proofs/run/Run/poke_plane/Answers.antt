@@ -1,6 +1,6 @@
 use Rattle.std.proofs.Common.{◌≡◌, ℕ, ◌+◌, ◌*◌, [], get_or, set, sym, ap, ◌∙◌, arith}
 use Rattle.cm_bits.specs.Bit.{bit}
-use Rattle.cm_element.specs.Runs.{column, chips_of}
+use Rattle.cm_element.specs.Runs.{chip_column, chips_of}
 use Rattle.cm_element.specs.Wide.{with_memory_plane}
 use Rattle.cm_element.proofs.Columns.{length-chips_of, chip_at-chips_of, has_word}
 use Rattle.cm_element.proofs.Replacing.{memory_set}
@@ -27,7 +27,7 @@ returns c =
           ∙ memory_set m f run.stride run.chips chip c.args.at c.args.plane
           (with_memory_plane (get_or (chips_of m f run.stride run.chips) chip []) c.args.at (bit c.args.plane))
           c.self.invariant here (omega (arith, c.get.ensures.value, c.get.ensures.in_range))
-          (put_memory_plane (column m run.stride 4096 chip) (column f run.stride 16 chip) c.args.at c.args.plane
+          (put_memory_plane (chip_column m run.stride 4096 chip) (chip_column f run.stride 16 chip) c.args.at c.args.plane
           ∙ ap (λ v. with_memory_plane v c.args.at (bit c.args.plane))
           (sym (chip_at-chips_of m f run.stride run.chips chip here))));
     }

@@ -1,9 +1,9 @@
 use Rattle.std.proofs.Common.{◌≡◌, ℕ, ◌+◌, ◌*◌, ◌<◌, ◌≤◌, length, get_or, sym, ap, ◌∙◌, arith}
 use Rattle.cm_bits.specs.Bit.{bit}
-use Rattle.cm_element.specs.Runs.{column, chips_of}
+use Rattle.cm_element.specs.Runs.{chip_column, chips_of}
 use Rattle.cm_model.specs.Processor.{memory_bit}
 use Rattle.cm_model.specs.Chip.{processor_at}
-use Rattle.cm_element.proofs.Columns.{length-chips_of, chip_at-chips_of, get_or-column}
+use Rattle.cm_element.proofs.Columns.{length-chips_of, chip_at-chips_of, get_or-chip_column}
 use Rattle.cm_element.proofs.Planes.{memory_bit-chip_of}
 use Rattle.cm_element.proofs.run.Run.write_planes.Goals as goal
 
@@ -26,9 +26,9 @@ returns c =
           let column_is : c.from.result + k ≡ c.args.first + k = ap (λ (i : ℕ). i + k) c.from.ensures in
           ap (λ (w : ℕ). bit w p) (c.write.ensures.value a k inside (omega (arith, h, c.from-2.ensures))
           ∙ ap (λ (i : ℕ). get_or m (a * run.stride + i) 0) column_is
-          ∙ sym (get_or-column m run.stride 4096 (c.args.first + k) a inside))
-          ∙ sym (memory_bit-chip_of (column m run.stride 4096 (c.args.first + k))
-          (column f run.stride 16 (c.args.first + k)) p a below)
+          ∙ sym (get_or-chip_column m run.stride 4096 (c.args.first + k) a inside))
+          ∙ sym (memory_bit-chip_of (chip_column m run.stride 4096 (c.args.first + k))
+          (chip_column f run.stride 16 (c.args.first + k)) p a below)
           ∙ sym (ap (λ v. memory_bit (processor_at v p) a)
           (chip_at-chips_of m f run.stride run.chips (c.args.first + k) here));
     })

@@ -1,7 +1,7 @@
 use Rattle.std.proofs.Common.{◌≡◌, ◌≢◌, true, false, sym, ◌∙◌, arith, ◌==◌}
 use Rattle.std.proofs.lemmas.Bool.{eqb-false, ne_eqb}
 use Rattle.cm_model.specs.Instruction.{takes_incoming}
-use Rattle.cm_element.specs.Runs.{chip_in}
+use Rattle.cm_element.specs.Runs.{chip_of_rows}
 use Rattle.cm_element.specs.Steps.{along_chain}
 use Rattle.cm_element.proofs.Stepping.{rows_stepped_along, chip_stepped, chip_stepped_alone, row_changed, zero_kept}
 use Rattle.cm_element.proofs.run.rows.step_rows.Goals as goal
@@ -15,7 +15,7 @@ returns-then-eq-clause-value c =
     rows_stepped_along nano memory flags c.compute_memory.new.self flags c.args.stride c.args.chips
     (λ chip h. chip_stepped_alone nano c.is_always-always.result memory flags c.compute_memory.new.self c.args.stride
     c.args.chips chip c.places-at.result
-    (along_chain nano (chip_in memory flags c.args.stride chip))
+    (along_chain nano (chip_of_rows memory flags c.args.stride chip))
     (record {
       rows = c.requires.rows;
       places = c.places-at.ensures.value;

@@ -9,7 +9,7 @@ use Rattle.cm_element.specs.Planes.{chip_of}
 use Rattle.cm_element.specs.Runs.{chips_beside}
 use Rattle.cm_image_format.specs.Image.{memory_part}
 use Rattle.cm_image_format.specs.Whole.{planes_of}
-use Rattle.cm_image.specs.Tile.{IsTile}
+use Rattle.cm_image.specs.Tile.{IsPlaneTile}
 use Rattle.cm_image.proofs.Loading.{made_of}
 use Rattle.cm_image.proofs.Waiting.{length-chips_beside, chips_kept, chips_pushed, tile_pushed}
 use Rattle.cm_image.proofs.tile.Tile.push.Goals as goal
@@ -89,7 +89,7 @@ invariant_of-self-2 c =
     let few = rw (← c.self.view_is, length-chips_beside run.memory.items run.flags.items run.count) at c.requires.room in
     let room : ℕ = vec_capacity c.lengthen.new.words in
     let flag_room : ℕ = vec_capacity c.lengthen-2.new.words in
-    let tile : IsTile memory room flags flag_room (run.count + 1) =
+    let tile : IsPlaneTile memory room flags flag_room (run.count + 1) =
     tile_pushed run.memory.items memory run.flags.items flags (vec_capacity run.memory) room (vec_capacity run.flags)
     flag_room run.count c.self.invariant few
     (omega (
@@ -109,9 +109,9 @@ invariant_of-self-2 c =
     ))
     c.lengthen-2.ensures.capacity (flags_below c)
     (flags_here c 8 (omega arith) ∙ c.requires.zero) in
-    subst (λ (ms : List ℕ). IsTile ms room (with_items c.lengthen-2.new.words flags).items flag_room (run.count + 1))
+    subst (λ (ms : List ℕ). IsPlaneTile ms room (with_items c.lengthen-2.new.words flags).items flag_room (run.count + 1))
     (sym (memory_is c))
-    (subst (λ (fs : List ℕ). IsTile memory room fs flag_room (run.count + 1)) (sym (flags_are c)) tile)
+    (subst (λ (fs : List ℕ). IsPlaneTile memory room fs flag_room (run.count + 1)) (sym (flags_are c)) tile)
 
 pub returns-clause-full : goal.returns-clause-full
 returns-clause-full c = λ all.

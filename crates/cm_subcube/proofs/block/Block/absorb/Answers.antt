@@ -3,7 +3,7 @@ use Rattle.std.specs.Prelude.{Option}
 use Rattle.std.proofs.lemmas.List.{with_items_is}
 use Rattle.cm_model.specs.declared.message.Message.{Message}
 use Rattle.cm_blocks.specs.Parcels.{Parcel, Mail, Edge}
-use Rattle.cm_news.specs.Bands.{bits_of}
+use Rattle.cm_news.specs.Bands.{edge_bits}
 use Rattle.cm_subcube.specs.declared.parcel.Load.{Load}
 use Rattle.cm_subcube.specs.declared.parcel.Load.TheVariants as load
 use Rattle.cm_subcube.specs.declared.round.Kind.{Kind}
@@ -44,7 +44,7 @@ returns-clause-blank c =
           let now = w.receive_edge.new.edge in
           let same = w.receive_edge.auto.edge ∙ ap length w.deref_mut-in-Edge.ensures.value in
           let lent = with_items_is before now (same ∙ sym before.ok.0) in
-          rw w.parcel-inside-is (subst (λ (row : List ℕ). Edge (bits_of row) ≡ blank_parcel n k one) (sym lent)
+          rw w.parcel-inside-is (subst (λ (row : List ℕ). Edge (edge_bits row) ≡ blank_parcel n k one) (sym lent)
           (blank_edge n k one before.items now (of_kind (load.Edge before) w.in-Edge.is)
           same w.receive_edge.ensures.blank))
     ]

@@ -1,6 +1,6 @@
 use Rattle.std.proofs.Common.{◌≡◌, length, ap, sym, ◌∙◌, subst}
 use Rattle.cm_blocks.specs.Steps.{less}
-use Rattle.cm_news.specs.Bands.{bits_of}
+use Rattle.cm_news.specs.Bands.{edge_bits}
 use Rattle.cm_array.specs.Cuts.{KeptPart}
 use Rattle.cm_subcube.specs.declared.round.Kind.{Kind}
 use Rattle.cm_subcube.specs.declared.round.Round.{Round}
@@ -45,7 +45,7 @@ returns-clause-rest c =
           let blank = ap parcel_of (sym w.in-Edge.is) ∙ c.parcel.view_is ∙ c.requires.blank in
           subst rest (sym (w.self-is ∙ w.send_edge.ensures.others)) (λ t. record old {
             part = sym (less-edge old.dims now.k old.room round.kind round.act w.in-Nano.nano
-                (bits_of w.in-Edge.edge.items) old.part
+                (edge_bits w.in-Edge.edge.items) old.part
                 blank w.in-Nano.is) t;
           })
     ]

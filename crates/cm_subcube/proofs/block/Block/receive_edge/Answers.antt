@@ -2,7 +2,7 @@ use Rattle.std.proofs.Common.{◌≡◌, ap, subst}
 use Rattle.cm_model.specs.Steps.{Instruct}
 use Rattle.cm_blocks.specs.Parcels.{Edge}
 use Rattle.cm_blocks.specs.Steps.{absorbed}
-use Rattle.cm_news.specs.Bands.{bits_of}
+use Rattle.cm_news.specs.Bands.{edge_bits}
 use Rattle.cm_array.specs.Cuts.{KeptPart}
 use Rattle.cm_subcube.specs.Blocks.{KeptBlock}
 use Rattle.cm_subcube.proofs.Exchanging.{IsBand-block, IsBlock-instructed, absorbed-instruct}
@@ -17,7 +17,7 @@ invariant_of-self c = rw c.instruct.ensures.value (IsBlock-instructed _ _ _ _ c.
 pub returns-clause-kept : goal.returns-clause-kept
 returns-clause-kept c =
     let nano = c.args.nano.now in
-    let parcel = Edge (bits_of c.args.edge.now) in
+    let parcel = Edge (edge_bits c.args.edge.now) in
     subst (λ (kept : KeptPart). c.instruct.new.self
     ≡ record kept { part = absorbed kept.dims kept.room (Instruct nano) parcel kept.part })
     (ap (λ (block : KeptBlock). block.kept) c.self.view_is)

@@ -3,7 +3,7 @@ use Rattle.std.specs.Vec.{with_items}
 use Rattle.std.proofs.lemmas.List.{with_items_is}
 use Rattle.cm_model.specs.declared.act.Nano.{Nano}
 use Rattle.cm_rows.specs.Rows.{IsComputed}
-use Rattle.cm_element.specs.Sparse.{AreSlots}
+use Rattle.cm_element.specs.Sparse.{AreMemorySlots}
 use Rattle.cm_element.proofs.Columns.{apart_at}
 use Rattle.cm_element.proofs.Spreading.{same_stride, length-spread, slots_kept}
 use Rattle.cm_element.proofs.Filling.{IsInSlots, memory_changed, memory_computed, flags_computed, retold}
@@ -81,7 +81,7 @@ invariant_of-self c =
     let is = with_items_is words new (omega (arith, c.compute.auto.memory, ap length lent.value, lent.len)) in
     let computed = rw lent.value at c.compute.ensures.memory in
     let there = in_slots c in
-    subst (λ (ms : List ℕ). AreSlots ms words.cap slots.items c.own-self-inside.result rows.stride) (sym is)
+    subst (λ (ms : List ℕ). AreMemorySlots ms words.cap slots.items c.own-self-inside.result rows.stride) (sym is)
     (slots_kept words.items slots.items _ c.own-self-inside.result rows.stride c.args.nano.now.a 0 c.args.count
     new _ there.are there.few there.places.a_below there.own
     (memory_changed _ _ _ _ _ _ _ _ _ _ _ _ _ _ _ there computed)

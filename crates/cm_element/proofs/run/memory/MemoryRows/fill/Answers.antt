@@ -2,7 +2,7 @@ use Rattle.std.proofs.Common.{◌≡◌, ℕ, ◌+◌, ◌*◌, List, length, ge
 use Rattle.std.specs.Vec.{with_items}
 use Rattle.std.proofs.lemmas.List.{with_items_is}
 use Rattle.cm_element.specs.Laid.{IsRowLaid}
-use Rattle.cm_element.specs.Sparse.{spread, AreSlots}
+use Rattle.cm_element.specs.Sparse.{spread, AreMemorySlots}
 use Rattle.cm_element.proofs.Spreading.{same_stride, length-spread, slots_kept, IsChangedAt}
 use Rattle.cm_element.proofs.Filling.{row_filled, retold}
 use Rattle.cm_element.proofs.run.memory.MemoryRows.fill.Goals as goal
@@ -54,7 +54,7 @@ invariant_of-self c =
     same_stride rows.words.items rows.slots.items rows.stride c.args.here.stride (rw c.self.view_is c.requires.to) in
     let lent = c.deref_mut.ensures in
     let is = with_items_is words new (omega (arith, c.put_row.auto.rows, ap length lent.value, lent.len)) in
-    subst (λ (ms : List ℕ). AreSlots ms words.cap slots.items c.own-self-inside.result rows.stride) (sym is)
+    subst (λ (ms : List ℕ). AreMemorySlots ms words.cap slots.items c.own-self-inside.result rows.stride) (sym is)
     (slots_kept words.items slots.items _ c.own-self-inside.result rows.stride c.args.row c.args.here.first
     (c.args.here.first + length c.args.words.now) new _ c.own-self-inside.ensures.slots
     (omega (arith, same, c.requires.here)) c.requires.row c.own-self-inside.ensures.own (changed c)

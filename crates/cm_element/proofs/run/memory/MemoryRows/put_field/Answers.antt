@@ -1,7 +1,7 @@
 use Rattle.std.proofs.Common.{◌≡◌, ℕ, ◌*◌, List, length, ap, sym, subst, ◌∙◌, arith}
 use Rattle.std.specs.Vec.{with_items}
 use Rattle.std.proofs.lemmas.List.{with_items_is}
-use Rattle.cm_element.specs.Sparse.{spread, AreSlots}
+use Rattle.cm_element.specs.Sparse.{spread, AreMemorySlots}
 use Rattle.cm_element.proofs.Filling.{retold}
 use Rattle.cm_element.proofs.Putting.{IsFieldPut}
 use Rattle.cm_element.proofs.Spreading.{same_stride, length-spread}
@@ -20,7 +20,7 @@ invariant_of-self c =
     let new : List ℕ = c.put_bits.new.words in
     let lent = c.deref_mut.ensures in
     let is = with_items_is rows.words new (omega (arith, c.put_bits.ensures.words, ap length lent.value, lent.len)) in
-    subst (λ (ms : List ℕ). AreSlots ms rows.words.cap rows.slots.items rows.used rows.stride) (sym is)
+    subst (λ (ms : List ℕ). AreMemorySlots ms rows.words.cap rows.slots.items rows.used rows.stride) (sym is)
     ((rw (c.deref_mut.ensures.value, c.deref.ensures.value) at c.put_bits.ensures.kept) _ _ c.self.invariant)
 
 pub returns-clause-value : goal.returns-clause-value

@@ -1,7 +1,7 @@
 use Rattle.std.proofs.Common.{◌≡◌, ℕ, ◌*◌, List, length, ap, sym, subst, ◌∙◌, arith}
 use Rattle.std.specs.Vec.{with_items}
 use Rattle.std.proofs.lemmas.List.{with_items_is}
-use Rattle.cm_element.specs.Sparse.{spread, AreSlots}
+use Rattle.cm_element.specs.Sparse.{spread, AreMemorySlots}
 use Rattle.cm_element.specs.Steps.{IsStored}
 use Rattle.cm_element.proofs.Spreading.{same_stride, length-spread, slots_kept}
 use Rattle.cm_element.proofs.Filling.{row_stored, stored_changed, retold}
@@ -25,7 +25,7 @@ invariant_of-self c =
     let lent = c.deref_mut.ensures in
     let is = with_items_is words new (omega (arith, c.store_row.auto.rows, ap length lent.value, lent.len)) in
     let stored = rw (lent.value, c.start-here.ensures.value) at c.store_row.ensures.value in
-    subst (λ (ms : List ℕ). AreSlots ms words.cap slots.items c.own-self-inside.result rows.stride) (sym is)
+    subst (λ (ms : List ℕ). AreMemorySlots ms words.cap slots.items c.own-self-inside.result rows.stride) (sym is)
     (slots_kept words.items slots.items _ c.own-self-inside.result rows.stride c.args.at 0 (length c.args.planes.now)
     new _ c.own-self-inside.ensures.slots (omega (arith, same, c.requires.count)) c.requires.at
     c.own-self-inside.ensures.own (stored_changed _ _ _ _ _ stored)
