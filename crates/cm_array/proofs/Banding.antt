@@ -28,13 +28,13 @@ use Rattle.cm_blocks.specs.Parts.{Part, is_within, chip_in}
 use Rattle.cm_blocks.specs.Parcels.{Parcel, Edge, bit_in, edge_row, due}
 use Rattle.cm_blocks.specs.Rounds.{is_vertical}
 use Rattle.cm_blocks.specs.Steps.{part_after, incoming_in, news_in}
-use Rattle.cm_blocks.proofs.Bands.{band as rows_in, size-band}
+use Rattle.cm_blocks.proofs.Bands.{band as rows_in, block_size-band}
 use Rattle.cm_blocks.proofs.Cutting.{within-part, within-from, within-below}
 use Rattle.cm_news.specs.Bands.{AreWholeRows, edge_bits, bit_for}
 use Rattle.cm_news.specs.Moves.{at_edge}
 use Rattle.cm_router.specs.Logs.{Log}
 use Rattle.cm_router.specs.Routes.{routing_of}
-use Rattle.cm_petit.specs.Routers.{part_of}
+use Rattle.cm_petit.specs.Routers.{part_from_logs}
 use Rattle.cm_array.specs.declared.parts.Parts.{Parts}
 use Rattle.cm_array.specs.Cuts.{KeptPart, kept_part, IsKeptPart}
 use Rattle.cm_array.specs.Bands.{IsBand, IsStepped, edge_from, IsEdgeOf}
@@ -56,12 +56,12 @@ stepped : (routing : Routing) (n cap first clock : ℕ) (nano : Nano) (parcel : 
     (buffers : List (List Message)) (logs : List Log) (coming : ℕ → ℕ → Bool)
     → new ≡ each_from 0 (length old) (λ i. chip_after nano (coming i) (chip_at old i))
     → ((i p : ℕ) → i < length old → p < 16
-    → coming i p ≡ incoming_in n nano parcel (part_of routing first (length old) old buffers logs clock) (first + i) p)
-    → part_of routing first (length old) new buffers logs clock
-    ≡ part_after n cap (Instruct nano) parcel (part_of routing first (length old) old buffers logs clock)
+    → coming i p ≡ incoming_in n nano parcel (part_from_logs routing first (length old) old buffers logs clock) (first + i) p)
+    → part_from_logs routing first (length old) new buffers logs clock
+    ≡ part_after n cap (Instruct nano) parcel (part_from_logs routing first (length old) old buffers logs clock)
 unfolding part_after
 stepped routing n cap first clock nano parcel old new buffers logs coming is same =
-    let s : Part = part_of routing first (length old) old buffers logs clock in
+    let s : Part = part_from_logs routing first (length old) old buffers logs clock in
     let own : (i : ℕ) → chip_at old i ≡ chip_in s (first + i) =
     λ i. ap (chip_at old) (let e : i ≡ first + i - first = omega arith in e) in
     let chips : new ≡ each_from first (length old) (λ c.
@@ -71,7 +71,7 @@ stepped routing n cap first clock nano parcel old new buffers logs coming is sam
     (λ i l. same_chip nano (coming i) (incoming_in n nano parcel s (first + i)) (chip_at old i)
     (λ p h takes. same i p l h)
     ∙ ap (chip_after nano (incoming_in n nano parcel s (first + i))) (own i)) in
-    λ t. part_of routing first (length old) (chips t) buffers logs clock
+    λ t. part_from_logs routing first (length old) (chips t) buffers logs clock
 
 -- over NEWS: the bit that comes in at a place of the band
 over_news : (n first : ℕ) (nano : Nano) (s : Part) (sent edge : List ℕ) (c p : ℕ) → s.first ≡ first
@@ -112,7 +112,7 @@ pub stepped_over_grid : (n : ℕ) (nano : Nano) (old new : Chips) (sent planes e
     → new ≡ each_from 0 (length old) (λ c. chip_after nano (bit (get_or planes c 0)) (chip_at old c))
     → IsStepped n nano edge old new
 stepped_over_grid n nano old new sent planes edge news long are came is routing cap first clock buffers logs rows fit =
-    let s : Part = part_of routing first (length old) old buffers logs clock in
+    let s : Part = part_from_logs routing first (length old) old buffers logs clock in
     stepped routing n cap first clock nano (Edge (edge_bits edge)) old new buffers logs (λ i. bit (get_or planes i 0)) is
     (λ i p l h. came first i rows (omega (arith, long, fit)) (omega (arith, long, l)) p h
     ∙ over_news n first nano s sent edge (first + i) p refl long (omega (arith, fit, l)) h
@@ -124,7 +124,7 @@ pub stepped_apart : (n : ℕ) (nano : Nano) (old new : Chips) (edge : List ℕ) 
     → new ≡ each_from 0 (length old) (λ c. chip_after nano (along_chain nano (chip_at old c)) (chip_at old c))
     → IsStepped n nano edge old new
 stepped_apart n nano old new edge apart is routing cap first clock buffers logs rows fit =
-    let s : Part = part_of routing first (length old) old buffers logs clock in
+    let s : Part = part_from_logs routing first (length old) old buffers logs clock in
     stepped routing n cap first clock nano (Edge (edge_bits edge)) old new buffers logs
     (λ i. along_chain nano (chip_at old i)) is
     (λ i p l h. ap (λ (k : ℕ). along_chain nano (chip_at old k) p) (let e : i ≡ first + i - first = omega arith in e)
@@ -136,16 +136,16 @@ stepped_apart n nano old new edge apart is routing cap first clock buffers logs 
 pub all_rows : (n count : ℕ) → count ≡ 2 ^ n → AreWholeRows n count
 all_rows n count all = (
   rows_in n 0,
-  all ∙ ap (λ (k : ℕ). 2 ^ k) (let e : n ≡ n - 0 = omega arith in e) ∙ size-band n 0 (omega arith),
+  all ∙ ap (λ (k : ℕ). 2 ^ k) (let e : n ≡ n - 0 = omega arith in e) ∙ block_size-band n 0 (omega arith),
 )
 
 -- what comes in at a place is what comes in there in all chips
 incoming_in_all : (n count : ℕ) (nano : Nano) (parcel : Parcel) (chips : Chips) (c p : ℕ) → count ≡ 2 ^ n → c < 2 ^ n
     → p < 16
-    → incoming_in n nano parcel (part_of plain_routing 0 count chips [] [] 0) c p ≡ incoming n nano chips c p
+    → incoming_in n nano parcel (part_from_logs plain_routing 0 count chips [] [] 0) c p ≡ incoming n nano chips c p
 unfolding incoming_in incoming
 incoming_in_all n count nano parcel chips c p all there h =
-    let s : Part = part_of plain_routing 0 count chips [] [] 0 in
+    let s : Part = part_from_logs plain_routing 0 count chips [] [] 0 in
     let place : Place = record { chip = c; proc = p } in
     let from : Place = source n nano.dir place in
     let within : IsPlace n from =
@@ -160,7 +160,7 @@ pub all_stepped : (n : ℕ) (nano : Nano) (edge : List ℕ) (old new : Chips) �
     → IsStepped n nano edge old new → new ≡ after_nano n nano old
 unfolding part_after after_nano
 all_stepped n nano edge old new all is =
-    let s : Part = part_of plain_routing 0 (length old) old [] [] 0 in
+    let s : Part = part_from_logs plain_routing 0 (length old) old [] [] 0 in
     let parcel : Parcel = Edge (edge_bits edge) in
     ap (λ (after : Part). after.chips) (is plain_routing 0 0 0 [] [] (0, omega arith) (omega (arith, all)))
     ∙ ap (λ (k : ℕ). each_from 0 k (λ c. chip_after nano (incoming_in n nano parcel s c) (chip_in s c))) all
@@ -177,7 +177,7 @@ pub chips_stay : (n : ℕ) (nano : Nano) (edge : List ℕ) (old new : Chips) (fi
     → AreWholeRows n first → first + length old ≤ 2 ^ n → length new ≡ length old
 unfolding part_after
 chips_stay n nano edge old new first is rows fit =
-    let s : Part = part_of plain_routing first (length old) old [] [] 0 in
+    let s : Part = part_from_logs plain_routing first (length old) old [] [] 0 in
     ap (λ (after : Part). length after.chips) (is plain_routing 0 first 0 [] [] rows fit)
     ∙ length-each_from first (length old)
     (λ c. chip_after nano (incoming_in n nano (Edge (edge_bits edge)) s c) (chip_in s c))
@@ -200,7 +200,7 @@ module _ (dims room first : ℕ) (parts : Parts) (old : KeptPart) (nano : Nano) 
       (λ t. record {
         dims = dims;
         room = room;
-        part = (ap (λ (n : ℕ). part_of (routing_of parts.routing) first n run parts.crossing.buffers parts.logs.items
+        part = (ap (λ (n : ℕ). part_from_logs (routing_of parts.routing) first n run parts.crossing.buffers parts.logs.items
             parts.clock) as_many
             ∙ is (routing_of parts.routing) room first parts.clock parts.crossing.buffers parts.logs.items here.first
             was.there) t;

@@ -33,7 +33,7 @@ use Rattle.cm_model.proofs.Runs.{run_of-acted}
 use Rattle.cm_model.proofs.Unlogged.{tags_counted, BornBefore-buffers, born_at, none_injected}
 use Rattle.cm_array.specs.Acts.{is_cycle, cycles_in}
 use Rattle.cm_router.specs.Logs.{Log, log_room, log_rooms_of}
-use Rattle.cm_router.specs.Rows.{told_by, with_row}
+use Rattle.cm_router.specs.Rows.{events_of_chip, with_row}
 use Rattle.cm_router.proofs.Telling.{length-with_row, with_row_at}
 use Rattle.cm_petit.specs.Routers.{events_of}
 use Rattle.cm_array.specs.Behind.{unlogged, behind, TakeIn}
@@ -309,7 +309,7 @@ take_in_dealt rooms logs row takes c l =
       arith,
       takes c l,
       ap length (with_row_at logs row c here),
-      length-append (list_at logs c) (told_by c row),
+      length-append (list_at logs c) (events_of_chip c row),
     ))
     (λ (past : length logs ≤ c). omega (arith, ap length (get_or_past logs c [] past)))
     (cases_lt c (length logs))
@@ -324,9 +324,9 @@ row_behind n earlier logs now row long is =
     is_each [] (2 ^ n) (λ c. list_at earlier c ++ list_at (with_row logs row) c) (with_row now row)
     (length-with_row now row ∙ many)
     (λ c l. with_row_at now row c (omega (arith, l, many))
-    ∙ ap (λ z. z ++ told_by c row)
+    ∙ ap (λ z. z ++ events_of_chip c row)
     (ap (λ lists. list_at lists c) is ∙ get_or-each_below (2 ^ n) both c [] l)
-    ∙ append_assoc (list_at earlier c) (list_at logs c) (told_by c row)
+    ∙ append_assoc (list_at earlier c) (list_at logs c) (events_of_chip c row)
     ∙ ap (λ z. list_at earlier c ++ z) (sym (with_row_at logs row c (omega (arith, l, long)))))
 
 -- the logs of a machine that were set aside, with its own behind them

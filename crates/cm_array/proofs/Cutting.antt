@@ -11,7 +11,7 @@ use Rattle.cm_blocks.proofs.Cutting.{length-cut, read-cut_at}
 use Rattle.cm_router.specs.declared.routing.Routing.{Routing}
 use Rattle.cm_router.specs.Routes.{routing_of}
 use Rattle.cm_router.specs.Logs.{Log}
-use Rattle.cm_petit.specs.Routers.{events_of, part_of}
+use Rattle.cm_petit.specs.Routers.{events_of, part_from_logs}
 use Rattle.cm_array.specs.declared.parts.Parts.{Parts}
 use Rattle.cm_array.specs.Parts.{machine_of, AreParts}
 use Rattle.cm_array.specs.Cuts.{IsKeptPart}
@@ -86,7 +86,7 @@ module _ (n cap first count : ℕ) (old new : Parts) (were : AreParts n cap old)
     within = within_cut;
   }
 
-  pub part_of-cut : part_of (routing_of new.routing) first (length new.run) new.run new.crossing.buffers
+  pub part_of-cut : part_from_logs (routing_of new.routing) first (length new.run) new.run new.crossing.buffers
       new.logs.items new.clock ≡ part first count (machine_of old)
   unfolding part
   part_of-cut = λ i. record {

@@ -15,25 +15,25 @@ use Rattle.cm_model.proofs.Each.{length-each_from, get_or-each_below, same_each_
 use Rattle.cm_blocks.specs.Parts.{cut}
 use Rattle.cm_blocks.proofs.Cutting.{length-cut, read-cut_at}
 use Rattle.cm_router.specs.Logs.{Log}
-use Rattle.cm_router.specs.Rows.{teller, told_by, with_row}
-use Rattle.cm_router.proofs.Telling.{told_by-append, length-with_row, with_row_at}
+use Rattle.cm_router.specs.Rows.{teller, events_of_chip, with_row}
+use Rattle.cm_router.proofs.Telling.{events_of_chip-append, length-with_row, with_row_at}
 use Rattle.cm_petit.specs.Routers.{events_of}
 use Rattle.cm_array.specs.Rows.{dealt}
 use Rattle.cm_array.proofs.Laying.{log_left, log_here}
 
 -- ---- one event
 
-told_here : (c : ℕ) (e : Event) → teller e ≡ c → told_by c (e ∷ []) ≡ e ∷ []
+told_here : (c : ℕ) (e : Event) → teller e ≡ c → events_of_chip c (e ∷ []) ≡ e ∷ []
 told_here c e is = let yes : (teller e == c) ≡ true = grind (arith, nat_tests, is) in rw yes refl
 
-told_elsewhere : (c : ℕ) (e : Event) → teller e ≢ c → told_by c (e ∷ []) ≡ []
+told_elsewhere : (c : ℕ) (e : Event) → teller e ≢ c → events_of_chip c (e ∷ []) ≡ []
 told_elsewhere c e other = let no : (teller e == c) ≡ false = grind (arith, nat_tests, other) in rw no refl
 
 -- told by a chip whose log is not there
 pub dealt_elsewhere : (first : ℕ) (logs : List (List Event)) (e : Event)
     → ((c : ℕ) → c < length logs → teller e ≢ first + c) → logs ≡ dealt first logs (e ∷ [])
 dealt_elsewhere first logs e other =
-    is_each [] (length logs) (λ c. list_at logs c ++ told_by (first + c) (e ∷ [])) logs refl
+    is_each [] (length logs) (λ c. list_at logs c ++ events_of_chip (first + c) (e ∷ [])) logs refl
     (λ c l. sym (ap (λ z. list_at logs c ++ z) (told_elsewhere (first + c) e (other c l))
     ∙ append-nil (list_at logs c)))
 
@@ -42,12 +42,12 @@ pub dealt_here : (first i : ℕ) (logs : List Log) (was log : Log) (e : Event) �
     → log.items ≡ (get_or logs i was).items ++ e ∷ [] → events_of (set logs i log) ≡ dealt first (events_of logs) (e ∷ [])
 dealt_here first i logs was log e inside told is =
     let long = length-map logs (λ (x : Log). x.items) in
-    is_each [] (length (events_of logs)) (λ c. list_at (events_of logs) c ++ told_by (first + c) (e ∷ []))
+    is_each [] (length (events_of logs)) (λ c. list_at (events_of logs) c ++ events_of_chip (first + c) (e ∷ []))
     (events_of (set logs i log))
     (length-map (set logs i log) (λ (x : Log). x.items) ∙ length-set logs i log ∙ sym long)
     (λ c l. ⊎_elim
     (λ (h : c ≡ i). subst (λ (k : ℕ). list_at (events_of (set logs i log)) k
-    ≡ list_at (events_of logs) k ++ told_by (first + k) (e ∷ [])) (sym h)
+    ≡ list_at (events_of logs) k ++ events_of_chip (first + k) (e ∷ [])) (sym h)
     (log_here logs i log inside ∙ is
     ∙ (λ j. sym (get_or-map (λ (x : Log). x.items) logs i was [] inside) j ++ sym (told_here (first + i) e told) j)))
     (λ (h : c ≢ i). log_left logs i c log h
@@ -62,20 +62,20 @@ dealt-nil first logs = sym (is_each [] (length logs) (λ c. list_at logs c ++ []
     (λ c l. sym (append-nil (list_at logs c))))
 
 pub length-dealt : (first : ℕ) (logs : List (List Event)) (row : List Event) → length (dealt first logs row) ≡ length logs
-length-dealt first logs row = length-each_from 0 (length logs) (λ c. list_at logs c ++ told_by (first + c) row)
+length-dealt first logs row = length-each_from 0 (length logs) (λ c. list_at logs c ++ events_of_chip (first + c) row)
 
 -- one behind the other
 pub dealt-append : (first : ℕ) (logs : List (List Event)) (row more : List Event)
     → dealt first (dealt first logs row) more ≡ dealt first logs (row ++ more)
 dealt-append first logs row more =
-    let told = λ (c : ℕ). list_at logs c ++ told_by (first + c) row in
-    ap (λ (k : ℕ). each_from 0 k (λ c. list_at (dealt first logs row) c ++ told_by (first + c) more))
+    let told = λ (c : ℕ). list_at logs c ++ events_of_chip (first + c) row in
+    ap (λ (k : ℕ). each_from 0 k (λ c. list_at (dealt first logs row) c ++ events_of_chip (first + c) more))
     (length-dealt first logs row)
-    ∙ same_each_below [] (length logs) (λ c. list_at (dealt first logs row) c ++ told_by (first + c) more)
-    (λ c. list_at logs c ++ told_by (first + c) (row ++ more))
-    (λ c l. ap (λ z. z ++ told_by (first + c) more) (get_or-each_below (length logs) told c [] l)
-    ∙ append_assoc (list_at logs c) (told_by (first + c) row) (told_by (first + c) more)
-    ∙ ap (λ z. list_at logs c ++ z) (sym (told_by-append (first + c) row more)))
+    ∙ same_each_below [] (length logs) (λ c. list_at (dealt first logs row) c ++ events_of_chip (first + c) more)
+    (λ c. list_at logs c ++ events_of_chip (first + c) (row ++ more))
+    (λ c l. ap (λ z. z ++ events_of_chip (first + c) more) (get_or-each_below (length logs) told c [] l)
+    ∙ append_assoc (list_at logs c) (events_of_chip (first + c) row) (events_of_chip (first + c) more)
+    ∙ ap (λ z. list_at logs c ++ z) (sym (events_of_chip-append (first + c) row more)))
 
 -- one event more of a row
 pub one_more_dealt : (first i : ℕ) (row : List Event) (e : Event) (before now new : List (List Event)) → i < length row
@@ -88,8 +88,8 @@ one_more_dealt first i row e before now new inside is was told =
 -- the logs of all chips
 pub with_row-dealt : (logs : List (List Event)) (row : List Event) → with_row logs row ≡ dealt 0 logs row
 with_row-dealt logs row =
-    same_each_below [] (length logs) (λ c. list_at logs c ++ told_by c row) (λ c. list_at logs c ++ told_by (0 + c) row)
-    (λ c l. ap (λ (k : ℕ). list_at logs c ++ told_by k row) (sym (zero-add c)))
+    same_each_below [] (length logs) (λ c. list_at logs c ++ events_of_chip c row) (λ c. list_at logs c ++ events_of_chip (0 + c) row)
+    (λ c l. ap (λ (k : ℕ). list_at logs c ++ events_of_chip k row) (sym (zero-add c)))
 
 -- some of a row is dealt out, the rest is left in it
 pub some_dealt : (logs now : List (List Event)) (row left : List Event) (count : ℕ)
@@ -105,22 +105,22 @@ dealt-cut first count logs row fits =
     let some : List (List Event) = cut first count logs in
     let wide : length some ≡ count = length-cut first count logs fits in
     let long = length-with_row logs row in
-    sym (is_each [] (length some) (λ c. list_at some c ++ told_by (first + c) row) (cut first count (with_row logs row))
+    sym (is_each [] (length some) (λ c. list_at some c ++ events_of_chip (first + c) row) (cut first count (with_row logs row))
     (length-cut first count (with_row logs row) (omega (arith, fits, long)) ∙ sym wide)
     (λ c l. let below : c < count = omega (arith, l, wide) in
     read-cut_at first count (with_row logs row) c [] below
     ∙ with_row_at logs row (first + c) (omega (arith, fits, below))
-    ∙ ap (λ z. z ++ told_by (first + c) row) (sym (read-cut_at first count logs c [] below))))
+    ∙ ap (λ z. z ++ events_of_chip (first + c) row) (sym (read-cut_at first count logs c [] below))))
 
 -- ---- whether a row tells of a chip
 
-pub told_none : (c : ℕ) (row : List Event) → list_any (λ e. teller e == c) row ≡ false → told_by c row ≡ []
+pub told_none : (c : ℕ) (row : List Event) → list_any (λ e. teller e == c) row ≡ false → events_of_chip c row ≡ []
 told_none c [] none = refl
 told_none c (e ∷ row) none =
     let parts = or_parts (teller e == c) (list_any (λ x. teller x == c) row) none in
     rw parts.0 (told_none c row parts.1)
 
-pub told_some : (c : ℕ) (row : List Event) → list_any (λ e. teller e == c) row ≡ true → 0 < length (told_by c row)
+pub told_some : (c : ℕ) (row : List Event) → list_any (λ e. teller e == c) row ≡ true → 0 < length (events_of_chip c row)
 told_some c [] some = absurd cc
 told_some c (e ∷ row) some =
     ⊎_elim
@@ -131,16 +131,16 @@ told_some c (e ∷ row) some =
 
 -- where nothing is dealt out, there is nothing exactly where the row does not tell of the chip
 pub none_where_untold : (c : ℕ) (dealt row : List Event) (told : Bool) → length dealt ≡ 0
-    → told ≡ list_any (λ e. teller e == c) row → not told ≡ (length (dealt ++ told_by c row) == 0)
+    → told ≡ list_any (λ e. teller e == c) row → not told ≡ (length (dealt ++ events_of_chip c row) == 0)
 none_where_untold c dealt row true none is =
     let some = told_some c row (sym is) in
-    let no : (length (dealt ++ told_by c row) == 0) ≡ false =
-    grind (arith, nat_tests, length-append dealt (told_by c row), some) in
+    let no : (length (dealt ++ events_of_chip c row) == 0) ≡ false =
+    grind (arith, nat_tests, length-append dealt (events_of_chip c row), some) in
     sym no
 none_where_untold c dealt row false none is =
     let untold = ap length (told_none c row (sym is)) in
-    let yes : (length (dealt ++ told_by c row) == 0) ≡ true =
-    grind (arith, nat_tests, length-append dealt (told_by c row), untold, none) in
+    let yes : (length (dealt ++ events_of_chip c row) == 0) ≡ true =
+    grind (arith, nat_tests, length-append dealt (events_of_chip c row), untold, none) in
     sym yes
 
 -- where no log has an event, nor the row, nobody has told any
@@ -149,7 +149,7 @@ pub nothing_told : (logs : List (List Event)) (row : List Event) → row ≡ []
 nothing_told logs row none each =
     All-from_get_or (λ (log : List Event). log ≡ []) (with_row logs row) []
     (λ c l. let inside : c < length logs = omega (arith, l, length-with_row logs row) in
-    with_row_at logs row c inside ∙ (λ i. each c inside i ++ told_by c (none i)))
+    with_row_at logs row c inside ∙ (λ i. each c inside i ++ events_of_chip c (none i)))
 
 no_events : (events : List Event) → length events ≡ 0 → events ≡ []
 no_events [] none = refl

@@ -22,7 +22,7 @@ use Rattle.cm_model.specs.Machine.{Machine}
 use Rattle.cm_model.specs.Found.{same_tag, router_of, delivery_place, delivery_places, found_from, found_in}
 use Rattle.cm_model.proofs.Counting.{sum_by-flat_map, sum_by-same}
 use Rattle.cm_router.specs.Logs.{Log}
-use Rattle.cm_router.specs.Rows.{teller, told_by, with_row}
+use Rattle.cm_router.specs.Rows.{teller, events_of_chip, with_row}
 use Rattle.cm_router.proofs.Telling.{with_row_at}
 use Rattle.cm_petit.specs.Routers.{events_of}
 use Rattle.cm_array.specs.Finding.{TellOf, TellNone, IsToldIn}
@@ -156,7 +156,7 @@ any_in_range {X} P f c a (suc k) from below there =
 
 -- what a row tells of a chip
 any_told : (P : Event → Type 0) (c : ℕ) → ((e : Event) → P e → teller e ≡ c) → (row : List Event) → Any P row
-    → Any P (told_by c row)
+    → Any P (events_of_chip c row)
 any_told P c says [] there = absurd (omega (arith, there.2))
 any_told P c says (e ∷ row) (zero, x, inside, read, holds) =
     let here : P e = subst P (sym read) holds in
@@ -164,7 +164,7 @@ any_told P c says (e ∷ row) (zero, x, inside, read, holds) =
     rw yes (0, e, omega arith, refl, here)
 any_told P c says (e ∷ row) (suc k, x, inside, read, holds) =
     let rest = any_told P c says row (k, x, omega (arith, inside), read, holds) in
-    ⊎_elim (λ (h : (teller e == c) ≡ true). rw h (any_later P e (told_by c row) rest))
+    ⊎_elim (λ (h : (teller e == c) ≡ true). rw h (any_later P e (events_of_chip c row) rest))
     (λ (h : (teller e == c) ≡ false). rw h rest) (cases_Bool (teller e == c))
 
 -- the places of events
@@ -203,7 +203,7 @@ only_place p (q ∷ r ∷ ps) few there = absurd (omega (arith, few))
 -- ---- no place is told
 
 none_told : (c count : ℕ) (tag : Tag) (row : List Event) → c < count
-    → All (λ e. teller e < count → delivery_place tag e ≡ None) row → TellNone tag (told_by c row)
+    → All (λ e. teller e < count → delivery_place tag e ≡ None) row → TellNone tag (events_of_chip c row)
 none_told c count tag [] l none = All-nil (λ e. delivery_place tag e ≡ None)
 none_told c count tag (e ∷ row) l none =
     let here = All-head (λ x. teller x < count → delivery_place tag x ≡ None) e row none in
@@ -212,7 +212,7 @@ none_told c count tag (e ∷ row) l none =
     ⊎_elim
     (λ (h : (teller e == c) ≡ true).
     let of : teller e ≡ c = eqb-true (teller e) c h in
-    rw h (All-cons (λ x. delivery_place tag x ≡ None) e (told_by c row) (here (omega (arith, of, l))) rest))
+    rw h (All-cons (λ x. delivery_place tag x ≡ None) e (events_of_chip c row) (here (omega (arith, of, l))) rest))
     (λ (h : (teller e == c) ≡ false). rw h rest) (cases_Bool (teller e == c))
 
 no_place : (tag : Tag) (events : List Event) → TellNone tag events → filter_map (delivery_place tag) events ≡ []
@@ -235,7 +235,7 @@ module _ (n : ℕ) (machine : Machine) (tag : Tag) (buffers : List (List Message
   here : ℕ → List Place
   here c = filter_map (delivery_place tag) (list_at machine.logs c)
 
-  log_is : (c : ℕ) → c < 2 ^ n → list_at machine.logs c ≡ list_at (events_of logs) c ++ told_by c row
+  log_is : (c : ℕ) → c < 2 ^ n → list_at machine.logs c ≡ list_at (events_of logs) c ++ events_of_chip c row
   log_is c l =
       ap (λ lists. list_at lists c) (sym are.events)
       ∙ with_row_at (events_of logs) row c (omega (arith, l, are.log_count, length-map logs (λ (x : Log). x.items)))
@@ -273,7 +273,7 @@ module _ (n : ℕ) (machine : Machine) (tag : Tag) (buffers : List (List Message
       let P : Event → Type 0 = λ e. delivery_place tag e ≡ Some place in
       delivered_at told.chip place below
       (subst (Any P) (sym (log_is told.chip below))
-      (any_in_front P (list_at (events_of logs) told.chip) (told_by told.chip row) told.tells)) none
+      (any_in_front P (list_at (events_of logs) told.chip) (events_of_chip told.chip row) told.tells)) none
 
   -- delivered, as the row tells
   pub found_in-told : (place : Place) → place.chip < length logs → TellOf tag place row
@@ -284,7 +284,7 @@ module _ (n : ℕ) (machine : Machine) (tag : Tag) (buffers : List (List Message
       let P : Event → Type 0 = λ e. delivery_place tag e ≡ Some place in
       delivered_at place.chip place below
       (subst (Any P) (sym (log_is place.chip below))
-      (any_in_back P (list_at (events_of logs) place.chip) (told_by place.chip row)
+      (any_in_back P (list_at (events_of logs) place.chip) (events_of_chip place.chip row)
       (any_told P place.chip (λ e is. place_of_teller tag place e is) row tells))) none
 
   -- nowhere
@@ -301,7 +301,7 @@ module _ (n : ℕ) (machine : Machine) (tag : Tag) (buffers : List (List Message
       let inside : c < length logs = omega (arith, l, are.log_count) in
       no_place tag (list_at machine.logs c)
       (subst (All P) (sym (log_is c l))
-      (All-append P (list_at (events_of logs) c) (told_by c row) (dealt c inside)
+      (All-append P (list_at (events_of logs) c) (events_of_chip c row) (dealt c inside)
       (none_told c (length logs) tag row inside told)))) in
       sym (found_at_none (delivery_places n machine tag) (ap (λ (ps : List Place). slice_get ps 0) (sym nowhere)))
       ∙ ap (λ (o : Option ℕ). found_from o (delivery_places n machine tag)) (none ∙ stands_in)

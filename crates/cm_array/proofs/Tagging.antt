@@ -22,7 +22,7 @@ use Rattle.cm_model.specs.Unlogged.{has_tag_twice}
 use Rattle.cm_model.proofs.Counting.{sum_by-map}
 use Rattle.cm_model.proofs.Unlogged.{same_tag-true, same_tag-self, counted_more, counted_yes}
 use Rattle.cm_model.proofs.Unlogged.{counted_no, counted_once, counted_twice}
-use Rattle.cm_array.specs.Tags.{Key, key_of, no_key, HasEqualNeighbours, AreNeighboursApart}
+use Rattle.cm_array.specs.Tags.{Key, tag_key, no_key, HasEqualNeighbours, AreNeighboursApart}
 
 -- ---- the order of keys
 
@@ -134,11 +134,11 @@ twice_at p (x ∷ y ∷ keys) (suc k) inside first second =
 
 -- ---- tags of messages, and their sorted keys
 
-sorted_count : (ms : List Message) (keys : List Key) → IsPermutation (map key_of ms) keys → (tag : Tag)
+sorted_count : (ms : List Message) (keys : List Key) → IsPermutation (map tag_key ms) keys → (tag : Tag)
     → count_by (is_of tag) keys ≡ count_by (λ m. same_tag m.tag tag) ms
 sorted_count ms keys moved tag =
-    sum_by-IsPermutation (λ (k : Key). cond (is_of tag k) 1 0) (map key_of ms) keys moved
-    ∙ sum_by-map (λ (k : Key). cond (is_of tag k) 1 0) key_of ms
+    sum_by-IsPermutation (λ (k : Key). cond (is_of tag k) 1 0) (map tag_key ms) keys moved
+    ∙ sum_by-map (λ (k : Key). cond (is_of tag k) 1 0) tag_key ms
 
 rise_of : (keys : List Key) → IsSorted key_cmp keys → AreNeighboursApart keys → Rise keys
 rise_of keys sorted apart k h =
@@ -147,7 +147,7 @@ rise_of keys sorted apart k h =
     (above_neighbour (get_or keys k no_key) (get_or keys (k + 1) no_key) (sorted k no_key (omega arith) (omega arith))
     (apart k (omega arith)))
 
-twice : (ms : List Message) (keys : List Key) → IsPermutation (map key_of ms) keys → HasEqualNeighbours keys
+twice : (ms : List Message) (keys : List Key) → IsPermutation (map tag_key ms) keys → HasEqualNeighbours keys
     → has_tag_twice ms ≡ true
 twice ms keys moved found =
     let x : Key = get_or keys found.place no_key in
@@ -163,7 +163,7 @@ twice ms keys moved found =
     absurd (omega (arith, both, sorted_count ms keys moved (tag_of x), counted_once ms h (tag_of x))))
     (cases_Bool (has_tag_twice ms))
 
-once : (ms : List Message) (keys : List Key) → IsPermutation (map key_of ms) keys → IsSorted key_cmp keys
+once : (ms : List Message) (keys : List Key) → IsPermutation (map tag_key ms) keys → IsSorted key_cmp keys
     → AreNeighboursApart keys → has_tag_twice ms ≡ false
 once ms keys moved sorted apart =
     ⊎_elim
@@ -174,7 +174,7 @@ once ms keys moved sorted apart =
     (λ (h : has_tag_twice ms ≡ false). h) (cases_Bool (has_tag_twice ms))
 
 -- whether sorted keys have equal neighbours is whether a tag stands twice
-pub found_by_sorting : (b : Bool) (ms : List Message) (keys : List Key) → IsPermutation (map key_of ms) keys
+pub found_by_sorting : (b : Bool) (ms : List Message) (keys : List Key) → IsPermutation (map tag_key ms) keys
     → IsSorted key_cmp keys
     → MatchBool b (HasEqualNeighbours keys) (AreNeighboursApart keys) → b ≡ has_tag_twice ms
 found_by_sorting true ms keys moved sorted found = sym (twice ms keys moved found)
@@ -210,9 +210,9 @@ equal_neighbours keys i some inside e =
 -- the keys of a chip more
 pub keys_more : (buffers : List (List Message)) (i : ℕ) (ms : List Message) (before after : List Key)
     → i < length buffers → ms ≡ get_or buffers i []
-    → before ≡ map key_of (flat_map (λ buffer. buffer) (take i buffers))
-    → after ≡ before ++ map key_of ms
-    → after ≡ map key_of (flat_map (λ buffer. buffer) (take (i + 1) buffers))
+    → before ≡ map tag_key (flat_map (λ buffer. buffer) (take i buffers))
+    → after ≡ before ++ map tag_key ms
+    → after ≡ map tag_key (flat_map (λ buffer. buffer) (take (i + 1) buffers))
 keys_more buffers i ms before after inside read is more =
     let so_far : List (List Message) = take i buffers in
     let here : ms ≡ get_or buffers i ms = read ∙ get_or_default buffers i [] ms inside in
@@ -224,13 +224,13 @@ keys_more buffers i ms before after inside read is more =
     ∙ (flat_map-append (λ (buffer : List Message). buffer) so_far (ms ∷ [])
     ∙ ap (λ (tail : List Message). flat_map (λ (buffer : List Message). buffer) so_far ++ tail) (append-nil ms)) in
     more
-    ∙ (ap (λ (ks : List Key). ks ++ map key_of ms) is
-    ∙ (sym (map-append key_of (flat_map (λ buffer. buffer) so_far) ms) ∙ sym (ap (map key_of) gathered)))
+    ∙ (ap (λ (ks : List Key). ks ++ map tag_key ms) is
+    ∙ (sym (map-append tag_key (flat_map (λ buffer. buffer) so_far) ms) ∙ sym (ap (map tag_key) gathered)))
 
 -- of all chips
 pub keys_all : (buffers : List (List Message)) (i : ℕ) (keys : List Key) → length buffers ≤ i
-    → keys ≡ map key_of (flat_map (λ buffer. buffer) (take i buffers))
-    → keys ≡ map key_of (flat_map (λ buffer. buffer) buffers)
+    → keys ≡ map tag_key (flat_map (λ buffer. buffer) (take i buffers))
+    → keys ≡ map tag_key (flat_map (λ buffer. buffer) buffers)
 keys_all buffers i keys done is = is
-    ∙ ap (λ (bs : List (List Message)). map key_of (flat_map (λ (buffer : List Message). buffer) bs))
+    ∙ ap (λ (bs : List (List Message)). map tag_key (flat_map (λ (buffer : List Message). buffer) bs))
     (take_all i buffers done)

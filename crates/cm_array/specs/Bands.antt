@@ -16,7 +16,7 @@ use Rattle.cm_blocks.specs.Steps.{part_after}
 use Rattle.cm_news.specs.Bands.{AreWholeRows, edge_bits}
 use Rattle.cm_news.specs.Moves.{at_edge}
 use Rattle.cm_router.specs.Logs.{Log}
-use Rattle.cm_petit.specs.Routers.{part_of}
+use Rattle.cm_petit.specs.Routers.{part_from_logs}
 
 -- a part is whole rows of chips of a cube of n dimensions, and at least one
 pub record IsBand (n : ℕ) (s : Part) : Type 0 where
@@ -37,8 +37,8 @@ IsStepped n nano edge old new =
     (routing : Routing) (cap first clock : ℕ) (buffers : List (List Message)) (logs : List Log)
     → AreWholeRows n first
     → first + length old ≤ 2 ^ n
-    → part_of routing first (length old) new buffers logs clock
-    ≡ part_after n cap (Instruct nano) (Edge (edge_bits edge)) (part_of routing first (length old) old buffers logs clock)
+    → part_from_logs routing first (length old) new buffers logs clock
+    ≡ part_after n cap (Instruct nano) (Edge (edge_bits edge)) (part_from_logs routing first (length old) old buffers logs clock)
 
 -- of the planes of a band's chips, where the row of chips at an edge begins
 abbrev pub edge_from : Dir → ℕ → ℕ → ℕ

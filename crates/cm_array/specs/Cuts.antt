@@ -6,7 +6,7 @@ use Rattle.cm_model.specs.Wiring.{Routing, plain_routing}
 use Rattle.cm_model.specs.Machine.{Machine}
 use Rattle.cm_model.specs.Keeping.{IsMachine}
 use Rattle.cm_blocks.specs.Parts.{Part}
-use Rattle.cm_petit.specs.Routers.{part_of}
+use Rattle.cm_petit.specs.Routers.{part_from_logs}
 use Rattle.cm_array.specs.declared.parts.Parts.{Parts}
 use Rattle.cm_array.specs.Parts.{AreSized}
 use Rattle.cm_router.specs.Logs.{log_rooms_of}
@@ -28,7 +28,7 @@ abbrev pub kept_part : ℕ → ℕ → ℕ → Parts → KeptPart
 kept_part dims room first parts = record {
   dims = dims;
   room = room;
-  part = part_of (routing_of parts.routing) first (length parts.run) parts.run parts.crossing.buffers parts.logs.items
+  part = part_from_logs (routing_of parts.routing) first (length parts.run) parts.run parts.crossing.buffers parts.logs.items
       parts.clock;
   log_rooms = log_rooms_of parts.logs.items;
   gathered = parts.crossing.gathered;

@@ -7,8 +7,8 @@ abbrev pub Key : Type 0
 Key = ℕ × ℕ × ℕ
 
 -- that of a message
-abbrev pub key_of : Message → Key
-key_of m = (m.tag.birth, m.tag.chip, m.tag.proc)
+abbrev pub tag_key : Message → Key
+tag_key m = (m.tag.birth, m.tag.chip, m.tag.proc)
 
 -- what is read where no key stands
 abbrev pub no_key : Key

@@ -1,7 +1,7 @@
 //! What a chip has told, to be read.
 
 ghost use Rattle.std.specs.Prelude.{◌≡◌, ◌≤◌, ◌++◌, ◌==◌, IfSome, OnOk, length};
-ghost use Rattle.cm_router.specs.Rows.{told_by};
+ghost use Rattle.cm_router.specs.Rows.{events_of_chip};
 
 use crate::row::{push_told, teller, tells_of};
 use cm_bits::NoMemory;
@@ -22,17 +22,17 @@ pub struct Log<'a> {
 impl<'a> Model for Log<'a> {
     ghost use Rattle.std.specs.Prelude.{List, ◌++◌};
     ghost use Rattle.cm_model.specs.declared.message.Event.{Event as Told};
-    ghost use Rattle.cm_router.specs.Rows.{told_by};
+    ghost use Rattle.cm_router.specs.Rows.{events_of_chip};
 
     ghost Value = { List Told };
 
-    ghost view = { λ log. log.dealt.now ++ told_by log.chip log.row.now };
+    ghost view = { λ log. log.dealt.now ++ events_of_chip log.chip log.row.now };
 }
 
 impl<'a> Log<'a> {
     /// The log of this chip.
     pub(crate) fn of(chip: u16, dealt: &'a [Event], row: &'a [Event]) -> Log<'a>
-        ensures value { result ≡ dealt.now ++ told_by chip row.now }
+        ensures value { result ≡ dealt.now ++ events_of_chip chip row.now }
     {
         Log { chip, dealt, row }
     }
@@ -73,7 +73,7 @@ impl<'a> Log<'a> {
 
 /// How many events a row tells of a chip.
 fn count_told(row: &[Event], chip: u16) -> usize
-    ensures value { result ≡ length (told_by chip row.now) }
+    ensures value { result ≡ length (events_of_chip chip row.now) }
     ensures within { result ≤ length row.now }
 {
     row.iter().filter(|event| teller(event) == chip).count()

@@ -4,7 +4,7 @@ ghost use Rattle.std.specs.Prelude.{◌≡◌, ℕ, ◌<◌, ◌≤◌, ◌++◌
 ghost use Rattle.std.specs.Prelude.{vec_len};
 ghost use Rattle.std.specs.List.{list_any};
 ghost use Rattle.cm_model.specs.Array.{list_at};
-ghost use Rattle.cm_router.specs.Rows.{teller, told_by, with_row};
+ghost use Rattle.cm_router.specs.Rows.{teller, events_of_chip, with_row};
 ghost use Rattle.cm_petit.specs.Routers.{events_of};
 ghost use Rattle.cm_array.specs.Rows.{dealt};
 
@@ -107,7 +107,7 @@ pub(crate) fn tells_of(row: &[Event], chip: u16) -> bool
 
 /// Puts what a row tells of a chip behind events.
 pub(crate) fn push_told(to: &mut Vec<Event>, chip: u16, row: &[Event]) -> Result<(), NoMemory>
-    ensures ok { OnOk result (to.new.items ≡ to.old.items ++ told_by chip row.now) }
+    ensures ok { OnOk result (to.new.items ≡ to.old.items ++ events_of_chip chip row.now) }
 {
     for event in row {
         if teller(event) == chip {

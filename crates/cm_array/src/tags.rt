@@ -4,7 +4,7 @@ ghost use Rattle.std.specs.Prelude.{◌≡◌, ◌++◌, IfOk, IsTrue, OnOk, map
 ghost use Rattle.std.specs.Bool.{MatchBool};
 ghost use Rattle.std.specs.List.{flat_map};
 ghost use Rattle.cm_model.specs.Unlogged.{has_tag_twice};
-ghost use Rattle.cm_array.specs.Tags.{key_of, HasEqualNeighbours, AreNeighboursApart};
+ghost use Rattle.cm_array.specs.Tags.{tag_key, HasEqualNeighbours, AreNeighboursApart};
 
 use cm_bits::NoMemory;
 use cm_crossing::Crossing;
@@ -29,7 +29,7 @@ pub(crate) fn has_tag_twice(alloc: Global, crossing: &Crossing) -> Result<bool, 
 fn keys_in(alloc: Global, crossing: &Crossing) -> Result<Vec<Key>, NoMemory>
     requires gathered { IsTrue crossing.now.gathered }
     ensures value { IfOk result (λ keys.
-        keys.items ≡ map key_of (flat_map (λ buffer. buffer) crossing.now.buffers)) }
+        keys.items ≡ map tag_key (flat_map (λ buffer. buffer) crossing.now.buffers)) }
 {
     let mut keys = Vec::with_capacity(alloc, count(crossing))?;
     for c in 0..crossing.chips() {
@@ -48,7 +48,7 @@ fn count(crossing: &Crossing) -> usize {
 }
 
 fn push_keys(keys: &mut Vec<Key>, messages: &[Message]) -> Result<(), NoMemory>
-    ensures ok { OnOk result (keys.new.items ≡ keys.old.items ++ map key_of messages.now) }
+    ensures ok { OnOk result (keys.new.items ≡ keys.old.items ++ map tag_key messages.now) }
 {
     for message in messages {
         let Ok(()) = keys.push(key_of(message)) else {
@@ -59,7 +59,7 @@ fn push_keys(keys: &mut Vec<Key>, messages: &[Message]) -> Result<(), NoMemory>
 }
 
 fn key_of(message: &Message) -> Key
-    ensures value { result ≡ key_of message.now }
+    ensures value { result ≡ tag_key message.now }
 {
     let tag = message.tag;
     (tag.birth, tag.chip, tag.proc.get())

@@ -6,14 +6,14 @@ use Rattle.std.proofs.Math.Nat.{mod_self}
 use Rattle.std.proofs.lemmas.Bool.{cases_lt}
 use Rattle.cm_model.specs.Place.{chip_columns, rows}
 use Rattle.cm_model.proofs.Torus.{back-first, back-other, on-other}
-use Rattle.cm_blocks.specs.Parts.{size}
+use Rattle.cm_blocks.specs.Parts.{block_size}
 
 -- rows of chips of one of 2 ^ k blocks
 abbrev pub band : ℕ → ℕ → ℕ
 band n k = 2 ^ (n - k - n / 2)
 
-pub size-band : (n k : ℕ) → k ≤ n - n / 2 → size n k ≡ band n k * chip_columns n
-size-band n k h =
+pub block_size-band : (n k : ℕ) → k ≤ n - n / 2 → block_size n k ≡ band n k * chip_columns n
+block_size-band n k h =
     ap (λ (z : ℕ). 2 ^ z) (let e : n - k ≡ (n - k - n / 2) + n / 2 = omega arith in e)
     ∙ pow-add 2 (n - k - n / 2) (n / 2)
 
@@ -24,9 +24,9 @@ rows-band n k h =
     ∙ pow-add 2 k (n - k - n / 2))
 
 -- where a block begins, in rows of chips
-pub block-row : (n k b : ℕ) → k ≤ n - n / 2 → b * size n k ≡ b * band n k * chip_columns n
+pub block-row : (n k b : ℕ) → k ≤ n - n / 2 → b * block_size n k ≡ b * band n k * chip_columns n
 block-row n k b h =
-    ap (λ (z : ℕ). b * z) (size-band n k h) ∙ (let e : b * (band n k * chip_columns n) ≡ b * band n k * chip_columns n =
+    ap (λ (z : ℕ). b * z) (block_size-band n k h) ∙ (let e : b * (band n k * chip_columns n) ≡ b * band n k * chip_columns n =
     grind arith in e)
 
 -- a chip in one of these rows of chips, so many chips a row

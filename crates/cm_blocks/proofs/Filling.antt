@@ -18,7 +18,7 @@ use Rattle.cm_model.specs.Array.{list_at}
 use Rattle.cm_model.proofs.Flips.{xor_twice}
 use Rattle.cm_model.proofs.Rooms.{leaving_makes_room as makes_room}
 use Rattle.cm_blocks.specs.Rounds.{is_round}
-use Rattle.cm_blocks.specs.Parts.{Part, part, block, size, is_within, buffer_in}
+use Rattle.cm_blocks.specs.Parts.{Part, part, block, block_size, is_within, buffer_in}
 use Rattle.cm_blocks.specs.Parcels.{Parcel, mail_in, due, sender}
 use Rattle.cm_blocks.specs.Steps.{mail_for, part_after, less, absorbed}
 use Rattle.cm_blocks.proofs.Cutting.{within-from, within-below}
@@ -46,17 +46,17 @@ apart a b width i inside from below = by_order (cases_lt a b) (cases_lt b a) whe
   by_order (inr least) (inr most) = omega arith
 
 -- across one of the upper dimensions stands another block
-leads_out : (n k b d : ℕ) (machine : Machine) (i : ℕ) → n - k ≤ d → i < size n k
-    → is_within (block n k b machine) (bit_xor (b * size n k + i) (2 ^ d)) ≡ false
+leads_out : (n k b d : ℕ) (machine : Machine) (i : ℕ) → n - k ≤ d → i < block_size n k
+    → is_within (block n k b machine) (bit_xor (b * block_size n k + i) (2 ^ d)) ≡ false
 unfolding part
 leads_out n k b d machine i high inside =
     let s : Part = block n k b machine in
-    let other : ℕ = bit_xor (b * size n k + i) (2 ^ d) in
-    let there : other ≡ bit_xor b (2 ^ (d - (n - k))) * size n k + i = high_across (n - k) b i d high inside in
+    let other : ℕ = bit_xor (b * block_size n k + i) (2 ^ d) in
+    let there : other ≡ bit_xor b (2 ^ (d - (n - k))) * block_size n k + i = high_across (n - k) b i d high inside in
     ⊎_elim
     (λ (e : is_within s other ≡ true).
     absurd (flip_differs b (2 ^ (d - (n - k))) (pow_pos (d - (n - k)))
-    (apart (bit_xor b (2 ^ (d - (n - k)))) b (size n k) i inside (omega (arith, there, within-from s other e))
+    (apart (bit_xor b (2 ^ (d - (n - k)))) b (block_size n k) i inside (omega (arith, there, within-from s other e))
     (omega (arith, there, within-below s other e)))))
     (λ (e : is_within s other ≡ false). e)
     (cases_Bool (is_within s other))
@@ -67,17 +67,17 @@ dimension : (n cap k b d : ℕ) (machine : Machine) (parcel : Parcel) → n - k 
 unfolding part less absorbed part_after buffer_after_dimension
 dimension n cap k b d machine parcel high =
     let s : Part = block n k b machine in
-    let first : ℕ = b * size n k in
+    let first : ℕ = b * block_size n k in
     let stays : ℕ → List Message = λ c. without (buffer_in s c)
     (leaving_place (way_of machine.routing c d) cap d (buffer_in s c)) in
-    let buffers = same_each [] first (size n k)
+    let buffers = same_each [] first (block_size n k)
     (λ c. buffer_in (less cap (Cross d) s) c ++ option_to_list (mail_in parcel (c - first)))
     (λ c. stays c ++ option_to_list (mail_for cap d parcel s c))
     (λ i inside.
     let e : first + i - first ≡ i = omega arith in
     let kept : buffer_in (less cap (Cross d) s) (first + i) ≡ stays (first + i) =
     ap (λ (z : ℕ). get_or (less cap (Cross d) s).buffers z []) e
-    ∙ get_or-each_from first (size n k) stays i [] inside in
+    ∙ get_or-each_from first (block_size n k) stays i [] inside in
     let out : is_within s (bit_xor (first + i) (2 ^ d)) ≡ false = leads_out n k b d machine i high inside in
     ap (λ z. z ++ option_to_list (mail_in parcel (first + i - first))) kept ∙ rw out refl) in
     λ j. record s { buffers = buffers j }
@@ -97,19 +97,19 @@ leaving_then_taking_in n cap k b machine Deliver h l s round = absurd (let wrong
 
 -- a chip whose leaver is gone has room
 pub leaving_makes_room : (n cap k b d c : ℕ) (machine : Machine) → k ≤ n → b < 2 ^ k → 0 < cap → HasRoom n cap machine
-    → b * size n k ≤ c → c < b * size n k + size n k → is_cut machine.routing c d ≡ false →
+    → b * block_size n k ≤ c → c < b * block_size n k + block_size n k → is_cut machine.routing c d ≡ false →
     length (buffer_in (less cap (Cross d) (block n k b machine)) c) < cap
 unfolding part less
 leaving_makes_room n cap k b d c machine h l some room from below joined =
     let s : Part = block n k b machine in
-    let first : ℕ = b * size n k in
-    let fits : first + size n k ≤ 2 ^ n = block-fits n k b h l in
+    let first : ℕ = b * block_size n k in
+    let fits : first + block_size n k ≤ 2 ^ n = block-fits n k b h l in
     let stays : ℕ → List Message = λ e. without (buffer_in s e)
     (leaving_place (way_of machine.routing e d) cap d (buffer_in s e)) in
     let number : first + (c - first) ≡ c = omega arith in
-    let here : buffer_in s c ≡ list_at machine.buffers c = read-buffer first (size n k) machine c from below in
+    let here : buffer_in s c ≡ list_at machine.buffers c = read-buffer first (block_size n k) machine c from below in
     let kept : buffer_in (less cap (Cross d) s) c ≡ stays c =
-    get_or-each_from first (size n k) stays (c - first) [] (omega arith) ∙ ap stays number in
+    get_or-each_from first (block_size n k) stays (c - first) [] (omega arith) ∙ ap stays number in
     let within : length (buffer_in s c) ≤ cap =
     subst (λ (ms : List Message). length ms ≤ cap) (sym here) (room c (omega arith)) in
     subst (λ (ms : List Message). length ms < cap) (sym kept)

@@ -6,7 +6,7 @@ use Rattle.std.proofs.lemmas.List.{take_all, drop-drop}
 use Rattle.std.proofs.Math.Seq.{take-add}
 use Rattle.std.specs.List.{flat_map, range_with_len}
 use Rattle.cm_model.specs.Machine.{Machine}
-use Rattle.cm_blocks.specs.Parts.{cut, part, size}
+use Rattle.cm_blocks.specs.Parts.{cut, part, block_size}
 use Rattle.cm_blocks.specs.Laws.{AreJoined}
 
 -- so many cuts of one size, one after another, are one cut
@@ -24,14 +24,14 @@ cuts xs width a (suc j) =
     ∙ (sym (take-add width (j * width) (drop (a * width) xs)) ∙ ap (λ (k : ℕ). take k (drop (a * width) xs)) (sym more))
 
 all_cuts : {X : Type 0} (n k : ℕ) (xs : List X) → k ≤ n → length xs ≡ 2 ^ n
-    → flat_map (λ b. cut (b * size n k) (size n k) xs) (range_with_len 0 (2 ^ k)) ≡ xs
+    → flat_map (λ b. cut (b * block_size n k) (block_size n k) xs) (range_with_len 0 (2 ^ k)) ≡ xs
 all_cuts n k xs h long =
     let whole : 2 ^ n ≡ 2 ^ k * 2 ^ (n - k) =
     ap (λ (z : ℕ). 2 ^ z) (let e : n ≡ k + (n - k) = omega arith in e) ∙ pow-add 2 k (n - k) in
-    let from : 0 * size n k ≡ 0 = omega arith in
-    cuts xs (size n k) 0 (2 ^ k)
-    ∙ (ap (λ (z : ℕ). take (2 ^ k * size n k) (drop z xs)) from
-    ∙ take_all (2 ^ k * size n k) xs (omega (arith, whole, long)))
+    let from : 0 * block_size n k ≡ 0 = omega arith in
+    cuts xs (block_size n k) 0 (2 ^ k)
+    ∙ (ap (λ (z : ℕ). take (2 ^ k * block_size n k) (drop z xs)) from
+    ∙ take_all (2 ^ k * block_size n k) xs (omega (arith, whole, long)))
 
 pub blocks_are_the_whole : (n k : ℕ) (machine : Machine) → k ≤ n → length machine.chips ≡ 2 ^ n
     → length machine.buffers ≡ 2 ^ n → length machine.logs ≡ 2 ^ n → AreJoined n k machine

@@ -12,14 +12,14 @@ use Rattle.cm_model.specs.Steps.{Cross}
 use Rattle.cm_model.specs.Wiring.{way_of}
 use Rattle.cm_model.specs.Buffers.{outgoing, sent_across, buffer_after_dimension, machine_after_dimension}
 use Rattle.cm_model.proofs.Each.{get_or-each_from}
-use Rattle.cm_blocks.specs.Parts.{Part, part, block, size, is_within, buffer_in}
+use Rattle.cm_blocks.specs.Parts.{Part, part, block, block_size, is_within, buffer_in}
 use Rattle.cm_blocks.specs.Parcels.{Parcel, due, sender}
 use Rattle.cm_blocks.specs.Steps.{mail_for, part_after}
 use Rattle.cm_blocks.proofs.Cutting.{cut-same, within-part, within-from, within-below}
 use Rattle.cm_blocks.proofs.Local.{read-buffer}
 
 -- block b ends within the machine
-pub block-fits : (n k b : ℕ) → k ≤ n → b < 2 ^ k → b * size n k + size n k ≤ 2 ^ n
+pub block-fits : (n k b : ℕ) → k ≤ n → b < 2 ^ k → b * block_size n k + block_size n k ≤ 2 ^ n
 block-fits n k b h l =
     let whole : 2 ^ n ≡ 2 ^ k * 2 ^ (n - k) = ap (λ (z : ℕ). 2 ^ z) (let e : n ≡ k + (n - k) = omega arith in e)
     ∙ pow-add 2 k (n - k) in
@@ -36,13 +36,13 @@ low_across m b i d h l =
     ∙ ap (λ (z : ℕ). z * 2 ^ m + bit_xor i (2 ^ d)) (xor_zero_r b))
 
 -- so the chip across is in the block
-pub stays_within : (n k b d : ℕ) (machine : Machine) (i : ℕ) → d < n - k → i < size n k
-    → is_within (block n k b machine) (bit_xor (b * size n k + i) (2 ^ d)) ≡ true
+pub stays_within : (n k b d : ℕ) (machine : Machine) (i : ℕ) → d < n - k → i < block_size n k
+    → is_within (block n k b machine) (bit_xor (b * block_size n k + i) (2 ^ d)) ≡ true
 unfolding part
 stays_within n k b d machine i low inside =
-    let other : ℕ = bit_xor (b * size n k + i) (2 ^ d) in
-    let small : bit_xor i (2 ^ d) < size n k = xor_lt (n - k) i (2 ^ d) inside (pow_below d (n - k) low) in
-    let there : other ≡ b * size n k + bit_xor i (2 ^ d) = low_across (n - k) b i d low inside in
+    let other : ℕ = bit_xor (b * block_size n k + i) (2 ^ d) in
+    let small : bit_xor i (2 ^ d) < block_size n k = xor_lt (n - k) i (2 ^ d) inside (pow_below d (n - k) low) in
+    let there : other ≡ b * block_size n k + bit_xor i (2 ^ d) = low_across (n - k) b i d low inside in
     within-part (block n k b machine) other (omega (arith, there)) (omega (arith, there, small))
 
 -- across one of the upper it has the same place in another
@@ -56,34 +56,34 @@ high_across m b i d h l =
     ∙ ap (λ (z : ℕ). bit_xor b (2 ^ (d - m)) * 2 ^ m + z) (xor_zero_r i))
 
 -- what comes to chip number i of a block
-mail_is : (n cap k b d : ℕ) (machine : Machine) (i : ℕ) → k ≤ n → b < 2 ^ k → d < n → i < size n k →
+mail_is : (n cap k b d : ℕ) (machine : Machine) (i : ℕ) → k ≤ n → b < 2 ^ k → d < n → i < block_size n k →
     mail_for cap d (due n cap (Cross d) (block n k (sender n k (Cross d) b) machine)) (block n k b machine)
-    (b * size n k + i)
-    ≡ sent_across machine.routing cap d machine.buffers (bit_xor (b * size n k + i) (2 ^ d))
+    (b * block_size n k + i)
+    ≡ sent_across machine.routing cap d machine.buffers (bit_xor (b * block_size n k + i) (2 ^ d))
 unfolding part due
 mail_is n cap k b d machine i h l below inside =
     let m : ℕ = n - k in
     let s : Part = block n k b machine in
     let from : ℕ = sender n k (Cross d) b in
     let sent : Part = block n k from machine in
-    let other : ℕ = bit_xor (b * size n k + i) (2 ^ d) in
+    let other : ℕ = bit_xor (b * block_size n k + i) (2 ^ d) in
     ⊎_elim
     (λ (e : is_within s other ≡ true). rw e (ap (outgoing (way_of machine.routing other d) cap d)
-    (read-buffer (b * size n k) (size n k) machine other (within-from s other e) (within-below s other e))))
+    (read-buffer (b * block_size n k) (block_size n k) machine other (within-from s other e) (within-below s other e))))
     (λ (e : is_within s other ≡ false). rw e
     (⊎_elim
     (λ (low : d < m).
     absurd (both_ways (is_within s other) e (stays_within n k b d machine i low inside)))
     (λ (high : m ≤ d).
-    let there : other ≡ from * size n k + i = high_across m b i d high inside in
-    let place : b * size n k + i - b * size n k ≡ i = omega arith in
-    ap (λ (z : ℕ). get_or (each_from (from * size n k) (size n k)
+    let there : other ≡ from * block_size n k + i = high_across m b i d high inside in
+    let place : b * block_size n k + i - b * block_size n k ≡ i = omega arith in
+    ap (λ (z : ℕ). get_or (each_from (from * block_size n k) (block_size n k)
     (λ c. outgoing (way_of machine.routing c d) cap d (buffer_in sent c))) z None)
     place
-    ∙ (get_or-each_from (from * size n k) (size n k)
+    ∙ (get_or-each_from (from * block_size n k) (block_size n k)
     (λ c. outgoing (way_of machine.routing c d) cap d (buffer_in sent c)) i None inside
-    ∙ (ap (outgoing (way_of machine.routing (from * size n k + i) d) cap d)
-    (read-buffer (from * size n k) (size n k) machine (from * size n k + i) (omega arith) (omega arith))
+    ∙ (ap (outgoing (way_of machine.routing (from * block_size n k + i) d) cap d)
+    (read-buffer (from * block_size n k) (block_size n k) machine (from * block_size n k + i) (omega arith) (omega arith))
     ∙ ap (sent_across machine.routing cap d machine.buffers) (sym there))))
     (cases_lt d m)))
     (cases_Bool (is_within s other))
@@ -94,20 +94,20 @@ pub block-cross : (n cap k b d : ℕ) (machine : Machine) → k ≤ n → b < 2 
     (block n k b machine)
 unfolding part machine_after_dimension part_after
 block-cross n cap k b d machine h l below =
-    let first : ℕ = b * size n k in
+    let first : ℕ = b * block_size n k in
     let s : Part = block n k b machine in
     let parcel : Parcel = due n cap (Cross d) (block n k (sender n k (Cross d) b) machine) in
-    let buffers = cut-same [] first (size n k) (2 ^ n)
+    let buffers = cut-same [] first (block_size n k) (2 ^ n)
     (λ c. buffer_after_dimension (way_of machine.routing c d) cap d (list_at machine.buffers c)
     (sent_across machine.routing cap d machine.buffers (bit_xor c (2 ^ d))))
     (λ c. buffer_after_dimension (way_of machine.routing c d) cap d (buffer_in s c) (mail_for cap d parcel s c))
     (block-fits n k b h l)
     (λ i inside. λ j. buffer_after_dimension (way_of machine.routing (first + i) d) cap d
-    (sym (read-buffer first (size n k) machine (first + i) (omega arith) (omega arith)) j)
+    (sym (read-buffer first (block_size n k) machine (first + i) (omega arith) (omega arith)) j)
     (sym (mail_is n cap k b d machine i h l below inside) j)) in
     λ j. record {
       first = first;
-      count = size n k;
+      count = block_size n k;
       chips = s.chips;
       buffers = buffers j;
       logs = s.logs;

@@ -19,63 +19,63 @@ use Rattle.cm_model.specs.Steps.{Instruct}
 use Rattle.cm_model.proofs.Each.{get_or-each_below}
 use Rattle.cm_model.proofs.Incoming.{same_chip}
 use Rattle.cm_model.proofs.Torus.{columns_some, column_of-lt}
-use Rattle.cm_blocks.specs.Parts.{Part, part, block, size, is_within, chip_in}
+use Rattle.cm_blocks.specs.Parts.{Part, part, block, block_size, is_within, chip_in}
 use Rattle.cm_blocks.specs.Parcels.{Parcel, edge_row, due, sender_over, sender}
 use Rattle.cm_blocks.specs.Steps.{news_in, incoming_in, part_after}
-use Rattle.cm_blocks.proofs.Bands.{band, size-band, rows-band, block-row, row-from, row-below, its_row-from}
+use Rattle.cm_blocks.proofs.Bands.{band, block_size-band, rows-band, block-row, row-from, row-below, its_row-from}
 use Rattle.cm_blocks.proofs.Bands.{its_row-below, row_back, row_on}
 use Rattle.cm_blocks.proofs.Cutting.{cut-same, within-part, within-from, within-below}
 use Rattle.cm_blocks.proofs.Local.{read-chip}
 use Rattle.cm_blocks.proofs.Mailing.{block-fits}
 
 -- the chip of a place in a row of band b is one of block b
-from-row : (n k b y x : ℕ) → k ≤ n - n / 2 → 4 * (b * band n k) ≤ y → b * size n k ≤ (place_at n y x).chip
+from-row : (n k b y x : ℕ) → k ≤ n - n / 2 → 4 * (b * band n k) ≤ y → b * block_size n k ≤ (place_at n y x).chip
 from-row n k b y x h from =
     let lower : b * band n k * chip_columns n ≤ y / 4 * chip_columns n + x / 4 =
     row-from (b * band n k) (chip_columns n) (y / 4) (x / 4) (omega arith) in
     omega (arith, block-row n k b h, lower)
 
 below-row : (n k b y x : ℕ) → k ≤ n - n / 2 → y < 4 * (b * band n k + band n k) → x < columns n
-    → (place_at n y x).chip < b * size n k + size n k
+    → (place_at n y x).chip < b * block_size n k + block_size n k
 below-row n k b y x h below inside =
     let upper : y / 4 * chip_columns n + x / 4 < b * band n k * chip_columns n + band n k * chip_columns n =
     row-below (b * band n k) (chip_columns n) (band n k) (y / 4) (x / 4) (omega arith) (omega arith) in
-    omega (arith, block-row n k b h, size-band n k h, upper)
+    omega (arith, block-row n k b h, block_size-band n k h, upper)
 
 -- a place of block b stands in a row of band b
-row-of-block : (n k b : ℕ) (place : Place) → k ≤ n - n / 2 → b * size n k ≤ place.chip
+row-of-block : (n k b : ℕ) (place : Place) → k ≤ n - n / 2 → b * block_size n k ≤ place.chip
     → 4 * (b * band n k) ≤ row_of n place
 row-of-block n k b place h from =
     let lower : b * band n k ≤ place.chip / chip_columns n =
     its_row-from (b * band n k) (chip_columns n) place.chip (columns_some n) (omega (arith, block-row n k b h, from)) in
     omega arith
 
-row-in-block : (n k b : ℕ) (place : Place) → k ≤ n - n / 2 → place.chip < b * size n k + size n k → place.proc < 16
+row-in-block : (n k b : ℕ) (place : Place) → k ≤ n - n / 2 → place.chip < b * block_size n k + block_size n k → place.proc < 16
     → row_of n place < 4 * (b * band n k + band n k)
 row-in-block n k b place h below proc =
     let upper : place.chip / chip_columns n < b * band n k + band n k =
     its_row-below (b * band n k) (chip_columns n) (band n k) place.chip (columns_some n)
-    (omega (arith, block-row n k b h, size-band n k h, below)) in
+    (omega (arith, block-row n k b h, block_size-band n k h, below)) in
     omega arith
 
 -- the edge rows of a block
-first_row : (n k b : ℕ) → k ≤ n - n / 2 → 4 * (b * size n k / chip_columns n) ≡ 4 * (b * band n k)
+first_row : (n k b : ℕ) → k ≤ n - n / 2 → 4 * (b * block_size n k / chip_columns n) ≡ 4 * (b * band n k)
 first_row n k b h =
     ap (λ (z : ℕ). 4 * z) (ap (λ (z : ℕ). z / chip_columns n) (block-row n k b h)
     ∙ mul-div_cancel (b * band n k) (columns_some n))
 
-band_rows : (n k : ℕ) → k ≤ n - n / 2 → size n k / chip_columns n ≡ band n k
-band_rows n k h = ap (λ (z : ℕ). z / chip_columns n) (size-band n k h) ∙ mul-div_cancel (band n k) (columns_some n)
+band_rows : (n k : ℕ) → k ≤ n - n / 2 → block_size n k / chip_columns n ≡ band n k
+band_rows n k h = ap (λ (z : ℕ). z / chip_columns n) (block_size-band n k h) ∙ mul-div_cancel (band n k) (columns_some n)
 
 -- a source out of a block: it stands at the sender's edge, in the same column
 pub record IsOver (n k b : ℕ) (dir : Dir) (machine : Machine) (place : Place) : Type 0 where
   pub same : source n dir place
       ≡ place_at n (edge_row n dir (block n k (sender_over k dir b) machine)) (column_of n place)
-  pub from : sender_over k dir b * size n k ≤ (source n dir place).chip
-  pub below : (source n dir place).chip < sender_over k dir b * size n k + size n k
+  pub from : sender_over k dir b * block_size n k ≤ (source n dir place).chip
+  pub below : (source n dir place).chip < sender_over k dir b * block_size n k + block_size n k
 
 pub over : (n k b : ℕ) (dir : Dir) (machine : Machine) (place : Place) → k ≤ n - n / 2 → b < 2 ^ k
-    → b * size n k ≤ place.chip → place.chip < b * size n k + size n k → place.proc < 16
+    → b * block_size n k ≤ place.chip → place.chip < b * block_size n k + block_size n k → place.proc < 16
     → is_within (block n k b machine) (source n dir place).chip ≡ false → IsOver n k b dir machine place
 unfolding neighbour part
 over n k b East machine place h l from below proc out =
@@ -173,7 +173,7 @@ over n k b North machine place h l from below proc out =
 
 -- what comes in over NEWS at a place of a block
 news_is : (n cap k b : ℕ) (nano : Nano) (machine : Machine) (c p : ℕ) → k ≤ n - n / 2 → b < 2 ^ k
-    → b * size n k ≤ c → c < b * size n k + size n k → p < 16 →
+    → b * block_size n k ≤ c → c < b * block_size n k + block_size n k → p < 16 →
     news_in n nano (due n cap (Instruct nano) (block n k (sender_over k nano.dir b) machine)) (block n k b machine) c p
     ≡ flag_output nano (processor_of machine.chips (source n nano.dir (record { chip = c; proc = p })))
 unfolding part due
@@ -189,18 +189,18 @@ news_is n cap k b nano machine c p h l from below proc =
     λ chip same. ap (λ (z : List Processor). flag_output nano (processor_at z q.proc)) same in
     ⊎_elim
     (λ (e : is_within s q.chip ≡ true). rw e (reads (chip_in s q.chip)
-    (read-chip (b * size n k) (size n k) machine q.chip (within-from s q.chip e) (within-below s q.chip e))))
+    (read-chip (b * block_size n k) (block_size n k) machine q.chip (within-from s q.chip e) (within-below s q.chip e))))
     (λ (e : is_within s q.chip ≡ false).
     let far : IsOver n k b nano.dir machine place = over n k b nano.dir machine place h l from below proc e in
     rw e (get_or-each_below (columns n) row (column_of n place) false (column_of-lt n place proc)
     ∙ (ap (λ (z : Place). output nano (chip_in sent) z) (sym far.same)
     ∙ reads (chip_in sent q.chip)
-    (read-chip (sender_over k nano.dir b * size n k) (size n k) machine q.chip far.from far.below))))
+    (read-chip (sender_over k nano.dir b * block_size n k) (block_size n k) machine q.chip far.from far.below))))
     (cases_Bool (is_within s q.chip))
 
 -- what comes in at a place of a block
 incoming_is : (n cap k b : ℕ) (nano : Nano) (machine : Machine) (c p : ℕ) → k ≤ n - n / 2 → b < 2 ^ k
-    → b * size n k ≤ c → c < b * size n k + size n k → p < 16 →
+    → b * block_size n k ≤ c → c < b * block_size n k + block_size n k → p < 16 →
     incoming n nano machine.chips c p
     ≡ incoming_in n nano (due n cap (Instruct nano) (block n k (sender_over k nano.dir b) machine))
     (block n k b machine) c p
@@ -210,7 +210,7 @@ incoming_is n cap k b nano machine c p h l from below proc =
     (λ (e : (nano.write == NEWS) ≡ true). rw e (sym (news_is n cap k b nano machine c p h l from below proc)))
     (λ (e : (nano.write == NEWS) ≡ false). rw e
     (ap (λ (z : List Processor). chain_output nano z (predecessor p))
-    (sym (read-chip (b * size n k) (size n k) machine c from below))))
+    (sym (read-chip (b * block_size n k) (block_size n k) machine c from below))))
     (cases_Bool (nano.write == NEWS))
 
 pub block-instruct : (n cap k b : ℕ) (nano : Nano) (machine : Machine) → k ≤ n - n / 2 → b < 2 ^ k →
@@ -219,10 +219,10 @@ pub block-instruct : (n cap k b : ℕ) (nano : Nano) (machine : Machine) → k �
     (due n cap (Instruct nano) (block n k (sender n k (Instruct nano) b) machine)) (block n k b machine)
 unfolding part after_nano part_after
 block-instruct n cap k b nano machine h l =
-    let first : ℕ = b * size n k in
+    let first : ℕ = b * block_size n k in
     let s : Part = block n k b machine in
     let parcel : Parcel = due n cap (Instruct nano) (block n k (sender n k (Instruct nano) b) machine) in
-    let chips = cut-same [] first (size n k) (2 ^ n)
+    let chips = cut-same [] first (block_size n k) (2 ^ n)
     (λ c. chip_after nano (incoming n nano machine.chips c) (chip_at machine.chips c))
     (λ c. chip_after nano (incoming_in n nano parcel s c) (chip_in s c)) (block-fits n k b (omega arith) l)
     (λ i inside.
@@ -230,10 +230,10 @@ block-instruct n cap k b nano machine h l =
     (chip_at machine.chips (first + i))
     (λ p proc takes. incoming_is n cap k b nano machine (first + i) p h l (omega arith) (omega arith) proc)
     ∙ ap (chip_after nano (incoming_in n nano parcel s (first + i)))
-    (sym (read-chip first (size n k) machine (first + i) (omega arith) (omega arith)))) in
+    (sym (read-chip first (block_size n k) machine (first + i) (omega arith) (omega arith)))) in
     λ j. record {
       first = first;
-      count = size n k;
+      count = block_size n k;
       chips = chips j;
       buffers = s.buffers;
       logs = s.logs;

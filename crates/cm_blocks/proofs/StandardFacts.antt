@@ -5,7 +5,7 @@ use Rattle.cm_model.specs.Wiring.{plain_routing}
 use Rattle.cm_model.specs.declared.act.Nano.{Nano}
 use Rattle.cm_model.specs.declared.act.Act.TheVariants as act
 use Rattle.cm_model.specs.Steps.{Instruct, Inject, Cross, Deliver, steps_in}
-use Rattle.cm_blocks.specs.Rounds.{is_round, rounds, until_round, steps_until, steps_between, ahead}
+use Rattle.cm_blocks.specs.Rounds.{is_round, rounds, until_round, steps_until, steps_between, steps_after_round}
 use Rattle.cm_blocks.specs.Counts.{events_in}
 use Rattle.cm_blocks.specs.Parts.{Part, is_within}
 use Rattle.cm_blocks.specs.Parcels.{sender, sender_over, edge_row}
@@ -85,7 +85,7 @@ its_chips = refl
 not_its_chips : is_within second 8 ≡ false
 not_its_chips = refl
 
-behind_the_first : ahead 1 1 (act.Nano north ∷ act.Nano daisy ∷ act.Cycle ∷ []) 0
+behind_the_first : steps_after_round 1 1 (act.Nano north ∷ act.Nano daisy ∷ act.Cycle ∷ []) 0
     ≡ Instruct daisy ∷ Inject ∷ Cross 0 ∷ Deliver ∷ []
 behind_the_first = refl
 

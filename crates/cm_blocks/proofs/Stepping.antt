@@ -18,7 +18,7 @@ use Rattle.cm_model.specs.Buffers.{buffer_after_dimension, after_step}
 use Rattle.cm_model.proofs.Each.{same_each}
 use Rattle.cm_model.proofs.Incoming.{same_chip}
 use Rattle.cm_blocks.specs.Rounds.{is_round, is_vertical}
-use Rattle.cm_blocks.specs.Parts.{Part, part, block, size, is_within, chip_in, buffer_in}
+use Rattle.cm_blocks.specs.Parts.{Part, part, block, block_size, is_within, chip_in, buffer_in}
 use Rattle.cm_blocks.specs.Parcels.{Parcel, Blank, due, sender, sender_over}
 use Rattle.cm_blocks.specs.Steps.{incoming_in, mail_for, part_after}
 use Rattle.cm_blocks.proofs.Cutting.{within-part}
@@ -33,11 +33,11 @@ unfolding part_after
 block-step n cap k b machine (Instruct nano) h l s = block-instruct n cap k b nano machine h l
 block-step n cap k b machine Look h l s = refl
 block-step n cap k b machine Inject h l s =
-    part-injection n cap (b * size n k) (size n k) machine (due n cap Inject (block n k b machine))
+    part-injection n cap (b * block_size n k) (block_size n k) machine (due n cap Inject (block n k b machine))
     (block-fits n k b (omega arith) l)
 block-step n cap k b machine (Cross d) h l s = block-cross n cap k b d machine (omega arith) l s
 block-step n cap k b machine Deliver h l s =
-    part-delivery n cap (b * size n k) (size n k) machine (due n cap Deliver (block n k b machine))
+    part-delivery n cap (b * block_size n k) (block_size n k) machine (due n cap Deliver (block n k b machine))
     (block-fits n k b (omega arith) l)
 
 -- ---- steps that are no round
@@ -64,7 +64,7 @@ local_dir k news vertical e h = subst (λ (z : Bool). (not (k == 0) && (z && ver
 
 -- what comes in within a block is read there
 comes_from_within : (n k b : ℕ) (dir : Dir) (machine : Machine) (place : Place) → k ≤ n - n / 2 → b < 2 ^ k
-    → b * size n k ≤ place.chip → place.chip < b * size n k + size n k → place.proc < 16
+    → b * block_size n k ≤ place.chip → place.chip < b * block_size n k + block_size n k → place.proc < 16
     → (not (k == 0) && is_vertical dir) ≡ false
     → is_within (block n k b machine) (source n dir place).chip ≡ true
 unfolding part
@@ -74,16 +74,16 @@ comes_from_within n k b dir machine place h l from below proc local =
     (λ (e : is_within (block n k b machine) (source n dir place).chip ≡ false).
     let far : IsOver n k b dir machine place = over n k b dir machine place h l from below proc e in
     let own : sender_over k dir b ≡ b = sender-own k dir b l local in
-    let lower : b * size n k ≤ (source n dir place).chip =
-    subst (λ (z : ℕ). z * size n k ≤ (source n dir place).chip) own far.from in
-    let upper : (source n dir place).chip < b * size n k + size n k =
-    subst (λ (z : ℕ). (source n dir place).chip < z * size n k + size n k) own far.below in
+    let lower : b * block_size n k ≤ (source n dir place).chip =
+    subst (λ (z : ℕ). z * block_size n k ≤ (source n dir place).chip) own far.from in
+    let upper : (source n dir place).chip < b * block_size n k + block_size n k =
+    subst (λ (z : ℕ). (source n dir place).chip < z * block_size n k + block_size n k) own far.below in
     within-part (block n k b machine) (source n dir place).chip lower upper)
     (cases_Bool (is_within (block n k b machine) (source n dir place).chip))
 
 -- so the parcel does not count
 any-bit : (n k b : ℕ) (nano : Nano) (machine : Machine) (parcel other : Parcel) (c p : ℕ) → k ≤ n - n / 2 → b < 2 ^ k
-    → b * size n k ≤ c → c < b * size n k + size n k → p < 16 → is_round n k (Instruct nano) ≡ false →
+    → b * block_size n k ≤ c → c < b * block_size n k + block_size n k → p < 16 → is_round n k (Instruct nano) ≡ false →
     incoming_in n nano parcel (block n k b machine) c p ≡ incoming_in n nano other (block n k b machine) c p
 unfolding incoming_in
 any-bit n k b nano machine parcel other c p h l from below proc local =
@@ -103,12 +103,12 @@ any-instruction : (n cap k b : ℕ) (nano : Nano) (machine : Machine) (parcel ot
 unfolding part part_after
 any-instruction n cap k b nano machine parcel other h l local =
     let s : Part = block n k b machine in
-    let chips = same_each [] (b * size n k) (size n k)
+    let chips = same_each [] (b * block_size n k) (block_size n k)
     (λ c. chip_after nano (incoming_in n nano parcel s c) (chip_in s c))
     (λ c. chip_after nano (incoming_in n nano other s c) (chip_in s c))
-    (λ i inside. same_chip nano (incoming_in n nano parcel s (b * size n k + i))
-    (incoming_in n nano other s (b * size n k + i)) (chip_in s (b * size n k + i))
-    (λ p proc takes. any-bit n k b nano machine parcel other (b * size n k + i) p h l (omega arith) (omega arith) proc
+    (λ i inside. same_chip nano (incoming_in n nano parcel s (b * block_size n k + i))
+    (incoming_in n nano other s (b * block_size n k + i)) (chip_in s (b * block_size n k + i))
+    (λ p proc takes. any-bit n k b nano machine parcel other (b * block_size n k + i) p h l (omega arith) (omega arith) proc
     local)) in
     λ j. record s { chips = chips j }
 
@@ -117,10 +117,10 @@ any-dimension : (n cap k b d : ℕ) (machine : Machine) (parcel other : Parcel) 
 unfolding part part_after
 any-dimension n cap k b d machine parcel other low =
     let s : Part = block n k b machine in
-    let buffers = same_each [] (b * size n k) (size n k)
+    let buffers = same_each [] (b * block_size n k) (block_size n k)
     (λ c. buffer_after_dimension (way_of machine.routing c d) cap d (buffer_in s c) (mail_for cap d parcel s c))
     (λ c. buffer_after_dimension (way_of machine.routing c d) cap d (buffer_in s c) (mail_for cap d other s c))
-    (λ i inside. let within : is_within s (bit_xor (b * size n k + i) (2 ^ d)) ≡ true =
+    (λ i inside. let within : is_within s (bit_xor (b * block_size n k + i) (2 ^ d)) ≡ true =
     stays_within n k b d machine i low inside in
     rw within refl) in
     λ j. record s { buffers = buffers j }

@@ -8,7 +8,7 @@ use Rattle.cm_model.specs.Buffers.{after_step}
 use Rattle.cm_model.specs.Keeping.{HasRoom}
 use Rattle.cm_model.specs.Wiring.{is_cut}
 use Rattle.cm_blocks.specs.Rounds.{is_round, rounds, steps_between, steps_until, before_round}
-use Rattle.cm_blocks.specs.Parts.{block, size, buffer_in}
+use Rattle.cm_blocks.specs.Parts.{block, block_size, buffer_in}
 use Rattle.cm_blocks.specs.Parcels.{Blank, due, sender}
 use Rattle.cm_blocks.specs.Steps.{part_after, part_after_all, less, absorbed}
 
@@ -66,5 +66,5 @@ LeavingThenTakingIn = (n cap k b : ℕ) (machine : Machine) (step : Step) → k 
 -- once who leaves is gone, each chip has room for one message that comes, unless its wire is cut and none does
 abbrev pub LeavingMakesRoom : Type 0
 LeavingMakesRoom = (n cap k b d c : ℕ) (machine : Machine) → k ≤ n → b < 2 ^ k → 0 < cap → HasRoom n cap machine
-    → b * size n k ≤ c → c < b * size n k + size n k → is_cut machine.routing c d ≡ false →
+    → b * block_size n k ≤ c → c < b * block_size n k + block_size n k → is_cut machine.routing c d ≡ false →
     length (buffer_in (less cap (Cross d) (block n k b machine)) c) < cap

@@ -37,12 +37,12 @@ part first count machine = record {
 }
 
 -- how many chips each of 2 ^ k blocks of a cube of n dimensions has
-abbrev pub size : ℕ → ℕ → ℕ
-size n k = 2 ^ (n - k)
+abbrev pub block_size : ℕ → ℕ → ℕ
+block_size n k = 2 ^ (n - k)
 
 -- block b of 2 ^ k: the chips whose upper k bits are b
 abbrev pub block : ℕ → ℕ → ℕ → Machine → Part
-block n k b machine = part (b * size n k) (size n k) machine
+block n k b machine = part (b * block_size n k) (block_size n k) machine
 
 -- the chip of a number is one of the part
 abbrev pub is_within : Part → ℕ → Bool

@@ -56,8 +56,8 @@ abbrev pub until_round : ℕ → ℕ → List Step → List Step
 until_round n k steps = until (is_round n k) 0 steps
 
 -- the steps of a run behind round r
-abbrev pub ahead : ℕ → ℕ → List Act → ℕ → List Step
-ahead n k acts r = steps_in (beyond (λ phase. is_round n k phase.step) r (phases n acts))
+abbrev pub steps_after_round : ℕ → ℕ → List Act → ℕ → List Step
+steps_after_round n k acts r = steps_in (beyond (λ phase. is_round n k phase.step) r (phases n acts))
 
 -- the machine before round r of a run, or after all of it
 unfoldable pub before_round : ℕ → ℕ → ℕ → Machine → List Act → ℕ → Machine

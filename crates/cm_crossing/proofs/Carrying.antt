@@ -18,8 +18,8 @@ use Rattle.cm_model.proofs.Each.{map-each_from, length-each_from, is_each}
 use Rattle.cm_model.proofs.Leaving.{position-map, map-without, element_at-map}
 use Rattle.cm_slots.specs.declared.ticket.Ticket.{Ticket}
 use Rattle.cm_slots.specs.Queues.{place_of_leaver, stayers_of}
-use Rattle.cm_slots.specs.Tickets.{has_to_go, has_come, ticket_across, ticket_going, exchanged}
-use Rattle.cm_crossing.specs.Standing.{message_of, standing, all_standing, AreKept, IsKept, AreTogether}
+use Rattle.cm_slots.specs.Tickets.{has_to_go, has_come, ticket_across, ticket_going, queue_exchanged}
+use Rattle.cm_crossing.specs.Standing.{message_of_ticket, standing, all_standing, HaveMessages, HasMessage, AreTogether}
 use Rattle.cm_crossing.specs.Routed.{place_leaving, ticket_leaving, tickets_staying, tickets_crossed}
 
 -- ---- the messages of a chip
@@ -27,7 +27,7 @@ use Rattle.cm_crossing.specs.Routed.{place_leaving, ticket_leaving, tickets_stay
 module _ (row : List Message) (cap d : ℕ) where
   same_place : (ts : List Ticket) → leaving_place plain_way cap d (standing row ts) ≡ place_of_leaver (has_to_go d) cap ts
   unfolding leaving_place place_of_leaver
-  same_place ts = rw (position-map (message_of row) (has_to_cross d) ts, length-map ts (message_of row))
+  same_place ts = rw (position-map (message_of_ticket row) (has_to_cross d) ts, length-map ts (message_of_ticket row))
 
   -- the plain way is that of tickets
   pub plain_staying : (ts : List Ticket) → tickets_staying row plain_way cap d ts ≡ stayers_of (has_to_go d) cap ts
@@ -37,24 +37,24 @@ module _ (row : List Message) (cap d : ℕ) where
   plain_leaving ts = ap (λ (o : Option ℕ). option_map (ticket_across d) (element_at ts o)) (same_place ts)
 
   pub plain_crossed : (here there : List Ticket)
-      → exchanged cap d here there ≡ tickets_crossed row plain_way cap d here there
+      → queue_exchanged cap d here there ≡ tickets_crossed row plain_way cap d here there
   plain_crossed here there = rw (plain_staying here, plain_leaving there) refl
 
   pub staying-standing : (way : Way) (ts : List Ticket) → standing row (tickets_staying row way cap d ts)
       ≡ without (standing row ts) (leaving_place way cap d (standing row ts))
-  staying-standing way ts = map-without (message_of row) ts (leaving_place way cap d (standing row ts))
+  staying-standing way ts = map-without (message_of_ticket row) ts (leaving_place way cap d (standing row ts))
 
-  across-standing : (o : Option Ticket) → option_map (message_across d) (option_map (message_of row) o)
-      ≡ option_map (message_of row) (option_map (ticket_across d) o)
+  across-standing : (o : Option Ticket) → option_map (message_across d) (option_map (message_of_ticket row) o)
+      ≡ option_map (message_of_ticket row) (option_map (ticket_across d) o)
   across-standing None = refl
   across-standing (Some t) = refl
 
   pub leaving-standing : (way : Way) (ts : List Ticket)
-      → option_map (message_of row) (ticket_leaving row way cap d ts) ≡ outgoing way cap d (standing row ts)
-  leaving-standing way ts = rw (element_at-map (message_of row) ts, across-standing) refl
+      → option_map (message_of_ticket row) (ticket_leaving row way cap d ts) ≡ outgoing way cap d (standing row ts)
+  leaving-standing way ts = rw (element_at-map (message_of_ticket row) ts, across-standing) refl
 
   listed-standing : (o : Option Ticket)
-      → standing row (option_to_list o) ≡ option_to_list (option_map (message_of row) o)
+      → standing row (option_to_list o) ≡ option_to_list (option_map (message_of_ticket row) o)
   listed-standing None = refl
   listed-standing (Some t) = refl
 
@@ -92,7 +92,7 @@ pub left_standing : (count cap d : ℕ) (ways : ℕ → Way) (row : List Message
 left_standing count cap d ways row old = simp (map-each_from, staying-standing, standing_at)
 
 pub gone_standing : (count cap d : ℕ) (ways : ℕ → Way) (row : List Message) (old : List (List Ticket))
-    → map (λ t. option_map (message_of row) t) (each_from 0 count (λ c. ticket_leaving row (ways c) cap d (list_at old c)))
+    → map (λ t. option_map (message_of_ticket row) t) (each_from 0 count (λ c. ticket_leaving row (ways c) cap d (list_at old c)))
     ≡ each_from 0 count (λ c. outgoing (ways c) cap d (list_at (all_standing row old) c))
 gone_standing count cap d ways row old = simp (map-each_from, leaving-standing, standing_at)
 
@@ -116,7 +116,7 @@ all_stand P Q row same queues = (
 pub as_many : (P : ℕ → Type 0) (row : List Message) (queues : List (List Ticket))
     → All (λ ts. P (length ts)) queues ↔ All (λ ms. P (length ms)) (all_standing row queues)
 as_many P row = all_stand (λ ms. P (length ms)) (λ ts. P (length ts)) row
-    (λ ts. (λ h. rw (length-map ts (message_of row)) h, λ h. rw (length-map ts (message_of row)) at h))
+    (λ ts. (λ h. rw (length-map ts (message_of_ticket row)) h, λ h. rw (length-map ts (message_of_ticket row)) at h))
 
 -- what is true of every list is true at each number, also where there is none
 pub all_at : {X : Type 0} (P : List X → Type 0) → P [] → (lists : List (List X)) (c : ℕ) → All P lists
@@ -150,26 +150,26 @@ room_for_one room xs (Some x) h = omega (arith, length-append xs (x ∷ []))
 -- ---- each ticket still stands for a message
 
 module _ (count : ℕ) where
-  nobody_kept : AreKept count []
+  nobody_kept : HaveMessages count []
   nobody_kept k d l = absurd (omega arith)
 
-  pub without_kept : (ts : List Ticket) (o : Option ℕ) → AreKept count ts → AreKept count (without ts o)
+  pub without_kept : (ts : List Ticket) (o : Option ℕ) → HaveMessages count ts → HaveMessages count (without ts o)
   without_kept ts None h = h
   without_kept ts (Some i) h = search (pieces, h)
 
   -- who leaves, as it arrives across
-  pub leaver_kept : (d : ℕ) (ts : List Ticket) (o : Option ℕ) → AreKept count ts
-      → IsKept count (option_map (ticket_across d) (element_at ts o))
+  pub leaver_kept : (d : ℕ) (ts : List Ticket) (o : Option ℕ) → HaveMessages count ts
+      → HasMessage count (option_map (ticket_across d) (element_at ts o))
   leaver_kept d ts None h = tt
   leaver_kept d [] (Some i) h = tt
   leaver_kept d (t ∷ ts) (Some zero) h = h 0 t (omega arith)
   leaver_kept d (t ∷ ts) (Some (suc i)) h = leaver_kept d ts (Some i) (λ k e l. h (suc k) e (omega arith))
 
-  listed_kept : (o : Option Ticket) → IsKept count o → AreKept count (option_to_list o)
+  listed_kept : (o : Option Ticket) → HasMessage count o → HaveMessages count (option_to_list o)
   listed_kept None h = nobody_kept
   listed_kept (Some t) h = All-cons (λ (x : Ticket). x.number < count) t [] h nobody_kept
 
-pub kept_more : (few most : ℕ) (o : Option Ticket) → few ≤ most → IsKept few o → IsKept most o
+pub kept_more : (few most : ℕ) (o : Option Ticket) → few ≤ most → HasMessage few o → HasMessage most o
 kept_more few most None h kept = tt
 kept_more few most (Some t) h kept = omega (arith, h, kept)
 
@@ -181,23 +181,23 @@ All-each_from P first count f h =
     All-map P f (range_with_len first count) (λ k d l. h (get_or (range_with_len first count) k d))
 
 module _ (cap d count : ℕ) (ways : ℕ → Way) (row : List Message) (old : List (List Ticket))
-    (kept : All (AreKept count) old) where
-  kept_at : (c : ℕ) → AreKept count (list_at old c)
-  kept_at c = all_at (AreKept count) (nobody_kept count) old c kept
+    (kept : All (HaveMessages count) old) where
+  kept_at : (c : ℕ) → HaveMessages count (list_at old c)
+  kept_at c = all_at (HaveMessages count) (nobody_kept count) old c kept
 
   pub left_kept : (chips : ℕ)
-      → All (AreKept count) (each_from 0 chips (λ c. tickets_staying row (ways c) cap d (list_at old c)))
-  left_kept chips = All-each_from (AreKept count) 0 chips (λ c. tickets_staying row (ways c) cap d (list_at old c))
+      → All (HaveMessages count) (each_from 0 chips (λ c. tickets_staying row (ways c) cap d (list_at old c)))
+  left_kept chips = All-each_from (HaveMessages count) 0 chips (λ c. tickets_staying row (ways c) cap d (list_at old c))
       (λ c. without_kept count (list_at old c) (place_leaving row (ways c) cap d (list_at old c)) (kept_at c))
 
   pub gone_kept : (chips : ℕ)
-      → All (IsKept count) (each_from 0 chips (λ c. ticket_leaving row (ways c) cap d (list_at old c)))
-  gone_kept chips = All-each_from (IsKept count) 0 chips (λ c. ticket_leaving row (ways c) cap d (list_at old c))
+      → All (HasMessage count) (each_from 0 chips (λ c. ticket_leaving row (ways c) cap d (list_at old c)))
+  gone_kept chips = All-each_from (HasMessage count) 0 chips (λ c. ticket_leaving row (ways c) cap d (list_at old c))
       (λ c. leaver_kept count d (list_at old c) (place_leaving row (ways c) cap d (list_at old c)) (kept_at c))
 
-  pub crossed_kept : (n : ℕ) → All (AreKept count) (each_chip n (λ c. tickets_crossed row (ways c) cap d (list_at old c)
+  pub crossed_kept : (n : ℕ) → All (HaveMessages count) (each_chip n (λ c. tickets_crossed row (ways c) cap d (list_at old c)
       (list_at old (bit_xor c (2 ^ d)))))
-  crossed_kept n = All-each_from (AreKept count) 0 (2 ^ n)
+  crossed_kept n = All-each_from (HaveMessages count) 0 (2 ^ n)
       (λ c. tickets_crossed row (ways c) cap d (list_at old c) (list_at old (bit_xor c (2 ^ d))))
       (λ c. let there : ℕ = bit_xor c (2 ^ d) in
       All-append (λ (t : Ticket). t.number < count) (tickets_staying row (ways c) cap d (list_at old c))
@@ -215,8 +215,8 @@ module _ (queues : List (List Ticket)) (count : ℕ) (none : queues ≡ each_fro
   pub none_standing : (row : List Message) → all_standing row queues ≡ each_from 0 count (λ c. [])
   none_standing row = rw none (map-each_from (standing row) 0 count (λ c. []))
 
-  pub none_kept : (bound : ℕ) → All (AreKept bound) queues
-  none_kept bound = rw none (All-each_from (AreKept bound) 0 count (λ c. []) (λ c. nobody_kept bound))
+  pub none_kept : (bound : ℕ) → All (HaveMessages bound) queues
+  none_kept bound = rw none (All-each_from (HaveMessages bound) 0 count (λ c. []) (λ c. nobody_kept bound))
 
   pub none_together : (row : List Message) → All (AreTogether row) queues
   none_together row =

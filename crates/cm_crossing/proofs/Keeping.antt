@@ -15,7 +15,7 @@ use Rattle.cm_model.specs.Processor.{Processor}
 use Rattle.cm_model.proofs.Leaving.{map-without}
 use Rattle.cm_model.proofs.Scan.{Scan, HandsOver, scan_accepts, scan_keeps}
 use Rattle.cm_slots.specs.declared.ticket.Ticket.{Ticket}
-use Rattle.cm_crossing.specs.Standing.{no_message, message_of, standing, all_standing, AreKept, no_ticket}
+use Rattle.cm_crossing.specs.Standing.{no_message, message_of_ticket, standing, all_standing, HaveMessages, no_ticket}
 use Rattle.cm_crossing.specs.Standing.{AreTogether, AreLaidOut}
 
 -- ---- a longer row
@@ -24,13 +24,13 @@ map_same : {X Y : Type 0} (f g : X → Y) (xs : List X) → All (λ x. f x ≡ g
 map_same f g [] same = refl
 map_same f g (x ∷ xs) same = rw (same 0 x (omega arith), map_same f g xs (All-tail (λ y. f y ≡ g y) x xs same))
 
-pub standing_kept : (row more : List Message) (ts : List Ticket) → AreKept (length row) ts
+pub standing_kept : (row more : List Message) (ts : List Ticket) → HaveMessages (length row) ts
     → standing (row ++ more) ts ≡ standing row ts
-standing_kept row more ts kept = map_same (message_of (row ++ more)) (message_of row) ts
+standing_kept row more ts kept = map_same (message_of_ticket (row ++ more)) (message_of_ticket row) ts
     (λ k d l. ap (λ (m : Message). record m { rel = (get_or ts k d).rel })
     (get_or_append_left row more no_message (get_or ts k d).number (kept k d l)))
 
-pub all_standing_kept : (row more : List Message) (queues : List (List Ticket)) → All (AreKept (length row)) queues
+pub all_standing_kept : (row more : List Message) (queues : List (List Ticket)) → All (HaveMessages (length row)) queues
     → all_standing (row ++ more) queues ≡ all_standing row queues
 all_standing_kept row more queues kept = map_same (standing (row ++ more)) (standing row) queues
     (λ k d l. standing_kept row more (get_or queues k d) (kept k d l))
@@ -49,19 +49,19 @@ module _ (begun ms rest spare : List Message) (is : spare ≡ (begun ++ ms) ++ r
 module _ {row spare : List Message} {old new : List Ticket} (is : AreLaidOut row spare old new) where
   pub laid_value : standing spare new ≡ standing row old
   laid_value = ext_get_or no_message (standing spare new) (standing row old)
-      (rw (length-map new (message_of spare), length-map old (message_of row)) is.long)
+      (rw (length-map new (message_of_ticket spare), length-map old (message_of_ticket row)) is.long)
       (λ j l.
-      let there : j < length new = omega (arith, length-map new (message_of spare)) in
+      let there : j < length new = omega (arith, length-map new (message_of_ticket spare)) in
       let here : j < length old = omega (arith, is.long) in
-      let in_new = get_or-map (message_of spare) new j no_ticket no_message there in
-      let in_old = get_or-map (message_of row) old j no_ticket no_message here in
+      let in_new = get_or-map (message_of_ticket spare) new j no_ticket no_message there in
+      let in_old = get_or-map (message_of_ticket row) old j no_ticket no_message here in
       let read = read_between is.begun (standing row old) is.rest spare is.all j (rw length-map here) in
       rw (in_new, is.each j here, read, in_old))
 
   laid_long : length spare ≡ length is.begun + length new + length is.rest
   laid_long = ap length is.all ∙ simp (length-append, length-map, is.long)
 
-  pub laid_kept : AreKept (length spare) new
+  pub laid_kept : HaveMessages (length spare) new
   laid_kept k d l =
       rw (get_or_default new k d no_ticket l, is.each k (omega (arith, is.long))) (omega (arith, laid_long))
 
@@ -70,7 +70,7 @@ module _ {row spare : List Message} {old new : List Ticket} (is : AreLaidOut row
     start = length is.begun;
     starts = λ some. omega (arith, ap (λ (t : Ticket). t.number) (is.each 0 (omega (arith, is.long))));
     within = omega (arith, laid_long);
-    value = rw (laid_value, is.long, ← length-map old (message_of row))
+    value = rw (laid_value, is.long, ← length-map old (message_of_ticket row))
         (slice_between is.begun (standing row old) is.rest spare is.all);
   }
 
@@ -95,31 +95,31 @@ written_again i first old new xs is here was =
 module _ {before chip : List Processor} {old : List Message} {told events : List Event} {here place : ℕ}
     (row : List Message) (queue : List Ticket) (t : Ticket) (is : Some t ≡ slice_get queue place)
     (scan : Scan before old told here chip (standing row queue) place events) where
-  found : slice_get (standing row queue) place ≡ Some (message_of row t)
-  found = slice_get-map (message_of row) queue place ∙ ap (option_map (message_of row)) (sym is)
+  found : slice_get (standing row queue) place ≡ Some (message_of_ticket row t)
+  found = slice_get-map (message_of_ticket row) queue place ∙ ap (option_map (message_of_ticket row)) (sym is)
 
   inside : place < length (standing row queue)
-  inside = slice_get_within (standing row queue) place (message_of row t) found
+  inside = slice_get_within (standing row queue) place (message_of_ticket row t) found
 
-  there : get_or (standing row queue) place (message_of row t) ≡ message_of row t
-  there = get_or_from_slice_get (standing row queue) place (message_of row t) (message_of row t) found
+  there : get_or (standing row queue) place (message_of_ticket row t) ≡ message_of_ticket row t
+  there = get_or_from_slice_get (standing row queue) place (message_of_ticket row t) (message_of_ticket row t) found
 
-  pub scan_taken : {after : List Processor} → HandsOver true before (message_of row t) chip after
+  pub scan_taken : {after : List Processor} → HandsOver true before (message_of_ticket row t) chip after
       → Scan before old told here after (standing row (remove queue place)) place
-      (events ++ Delivered here (message_of row t) ∷ [])
+      (events ++ Delivered here (message_of_ticket row t) ∷ [])
   scan_taken step =
-      rw (map-without (message_of row) queue (Some place))
-      (scan_accepts _ _ _ _ _ _ _ _ _ (message_of row t) scan inside there step)
+      rw (map-without (message_of_ticket row) queue (Some place))
+      (scan_accepts _ _ _ _ _ _ _ _ _ (message_of_ticket row t) scan inside there step)
 
-  pub scan_passed : {after : List Processor} → HandsOver false before (message_of row t) chip after
+  pub scan_passed : {after : List Processor} → HandsOver false before (message_of_ticket row t) chip after
       → Scan before old told here after (standing row queue) (place + 1) events
-  scan_passed step = scan_keeps _ _ _ _ _ _ _ _ _ (message_of row t) scan inside there step
+  scan_passed step = scan_keeps _ _ _ _ _ _ _ _ _ (message_of_ticket row t) scan inside there step
 
 -- messages that are kept, one behind the other, and with them the scan goes on
 scan_goes_on : {before chip : List Processor} {old : List Message} {told events : List Event} {here : ℕ} (n place : ℕ)
     (row : List Message) (queue : List Ticket) → place + n ≤ length queue
     → ((j : ℕ) (t : Ticket) → place ≤ j → j < place + n → Some t ≡ slice_get queue j
-    → HandsOver false before (message_of row t) chip chip)
+    → HandsOver false before (message_of_ticket row t) chip chip)
     → Scan before old told here chip (standing row queue) place events
     → Scan before old told here chip (standing row queue) (place + n) events
 scan_goes_on zero place row queue within kept scan = let none : place + 0 ≡ place = omega arith in rw none scan
@@ -134,7 +134,7 @@ scan_goes_on (suc n) place row queue within kept scan =
 pub scan_to : {before chip : List Processor} {old : List Message} {told events : List Event} {here : ℕ}
     (place next : ℕ) (row : List Message) (queue : List Ticket) → place ≤ next → next ≤ length queue
     → ((j : ℕ) (t : Ticket) → place ≤ j → j < next → Some t ≡ slice_get queue j
-    → HandsOver false before (message_of row t) chip chip)
+    → HandsOver false before (message_of_ticket row t) chip chip)
     → Scan before old told here chip (standing row queue) place events
     → Scan before old told here chip (standing row queue) next events
 scan_to place next row queue order within kept scan =

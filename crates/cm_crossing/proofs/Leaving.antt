@@ -19,8 +19,8 @@ use Rattle.cm_model.proofs.Rooms.{leaving_makes_room}
 use Rattle.cm_model.proofs.Wires.{way_of-across}
 use Rattle.cm_slots.specs.declared.ticket.Ticket.{Ticket}
 use Rattle.cm_slots.specs.Queues.{stayers_of}
-use Rattle.cm_slots.specs.Tickets.{has_to_go, ticket_going, exchanged}
-use Rattle.cm_crossing.specs.Standing.{message_of, standing, all_standing, AreKept, IsKept}
+use Rattle.cm_slots.specs.Tickets.{has_to_go, ticket_going, queue_exchanged}
+use Rattle.cm_crossing.specs.Standing.{message_of_ticket, standing, all_standing, HaveMessages, HasMessage}
 use Rattle.cm_crossing.specs.Routed.{ticket_leaving, tickets_staying, tickets_crossed}
 use Rattle.cm_crossing.proofs.Carrying.{staying-standing, plain_staying, plain_leaving, plain_crossed, mapped_each}
 use Rattle.cm_crossing.proofs.Carrying.{crossed_standing, left_standing, gone_standing, left_kept, gone_kept, crossed_kept}
@@ -51,7 +51,7 @@ module _ (row : List Message) (room d : ℕ) (way : Way) (ts : List Ticket) wher
   room_is_made joined within some =
       let left : length (tickets_staying row way room d ts)
       ≡ length (without (standing row ts) (leaving_place way room d (standing row ts))) =
-      sym (length-map (tickets_staying row way room d ts) (message_of row)) ∙ ap length (staying-standing row room d way ts) in
+      sym (length-map (tickets_staying row way room d ts) (message_of_ticket row)) ∙ ap length (staying-standing row room d way ts) in
       rw left (leaving_makes_room way room d (standing row ts) joined (rw length-map within) some)
 
   pub stays_within : length ts ≤ room → 0 < room → length (tickets_staying row way room d ts) ≤ room
@@ -128,11 +128,11 @@ module _ (row : List Message) (routing : Routing) (room d span first : ℕ) (old
 module _ (row : List Message) (routing : Routing) (room d first : ℕ) (old : List (List Ticket))
     (plain : (c : ℕ) → way_of routing c d ≡ plain_way) where
   pub all_crossed : (span : ℕ)
-      → each_chip span (λ c. exchanged room d (list_at old c) (list_at old (bit_xor c (2 ^ d))))
+      → each_chip span (λ c. queue_exchanged room d (list_at old c) (list_at old (bit_xor c (2 ^ d))))
       ≡ each_chip span (λ c. tickets_crossed row (way_of routing (first + c) d) room d
       (list_at old c) (list_at old (bit_xor c (2 ^ d))))
   all_crossed span =
-      same_each_below [] (2 ^ span) (λ c. exchanged room d (list_at old c) (list_at old (bit_xor c (2 ^ d))))
+      same_each_below [] (2 ^ span) (λ c. queue_exchanged room d (list_at old c) (list_at old (bit_xor c (2 ^ d))))
       (λ c. tickets_crossed row (way_of routing (first + c) d) room d (list_at old c) (list_at old (bit_xor c (2 ^ d))))
       (λ c l. plain_crossed row room d (list_at old c) (list_at old (bit_xor c (2 ^ d)))
       ∙ ap (λ (way : Way). tickets_crossed row way room d (list_at old c) (list_at old (bit_xor c (2 ^ d))))
@@ -180,9 +180,9 @@ module _ (row items : List Message) (same : row ≡ items) (routing : Routing) (
   pub whole_crossed_long : length new ≡ 2 ^ span
   whole_crossed_long = ap length value ∙ length-each_from 0 (2 ^ span) _
 
-  pub whole_crossed_kept : All (AreKept (length items)) old → All (AreKept (length items)) new
+  pub whole_crossed_kept : All (HaveMessages (length items)) old → All (HaveMessages (length items)) new
   whole_crossed_kept kept =
-      subst (All (AreKept (length items))) (sym kept_value)
+      subst (All (HaveMessages (length items))) (sym kept_value)
       (crossed_kept room d (length items) (λ c. way_of routing (first + c) d) items old kept span)
 
   pub whole_crossed_within : All (λ ms. length ms ≤ room) buffers → 0 < room
@@ -219,24 +219,24 @@ module _ (row items : List Message) (same : row ≡ items) (routing : Routing) (
       ∙ (λ i. each_from 0 (many i) (λ c. without (list_at (are i) c)
       (leaving_place (way_of routing (first + c) d) room d (list_at (are i) c)))))
 
-  pub whole_left_kept : All (AreKept (length items)) old → All (AreKept (length items)) new
+  pub whole_left_kept : All (HaveMessages (length items)) old → All (HaveMessages (length items)) new
   whole_left_kept kept =
-      subst (All (AreKept (length items))) (sym left_value)
+      subst (All (HaveMessages (length items))) (sym left_value)
       (left_kept room d (length items) (λ c. way_of routing (first + c) d) items old kept (length old))
 
   pub whole_gone_kept : (gone : List (Option Ticket)) → gone ≡ each_from 0 (length old)
-      (λ c. ticket_leaving row (way_of routing (first + c) d) room d (list_at old c)) → All (AreKept (length items)) old
-      → All (IsKept (length row)) gone
+      (λ c. ticket_leaving row (way_of routing (first + c) d) room d (list_at old c)) → All (HaveMessages (length items)) old
+      → All (HasMessage (length row)) gone
   whole_gone_kept gone leaving kept =
-      subst (All (IsKept (length row))) (sym leaving)
+      subst (All (HasMessage (length row))) (sym leaving)
       (gone_kept room d (length row) (λ c. way_of routing (first + c) d) row old (rw same kept) (length old))
 
   pub whole_gone : (gone : List (Option Ticket)) → gone ≡ each_from 0 (length old)
       (λ c. ticket_leaving row (way_of routing (first + c) d) room d (list_at old c))
-      → map (λ t. option_map (message_of items) t) gone
+      → map (λ t. option_map (message_of_ticket items) t) gone
       ≡ each_from 0 (length buffers) (λ c. outgoing (way_of routing (first + c) d) room d (list_at buffers c))
   whole_gone gone leaving =
-      ap (map (λ t. option_map (message_of items) t)) (leaving ∙ (λ i. each_from 0 (length old)
+      ap (map (λ t. option_map (message_of_ticket items) t)) (leaving ∙ (λ i. each_from 0 (length old)
       (λ c. ticket_leaving (same i) (way_of routing (first + c) d) room d (list_at old c))))
       ∙ (gone_standing (length old) room d (λ c. way_of routing (first + c) d) items old
       ∙ (λ i. each_from 0 (many i) (λ c. outgoing (way_of routing (first + c) d) room d (list_at (are i) c))))
@@ -260,6 +260,6 @@ module _ (row items : List Message) (same : row ≡ items) (routing : Routing) (
       ap (λ (xs : List (List Ticket)). list_at xs c) value
       ∙ get_or-each_below (length old) (λ b. tickets_staying row (way_of routing (first + b) d) room d (list_at old b)) c []
       (omega (arith, many, l)) in
-      rw (standing_at items new c, length-map (list_at new c) (message_of items), here)
+      rw (standing_at items new c, length-map (list_at new c) (message_of_ticket items), here)
       (room_is_made row room d (way_of routing (first + c) d) (list_at old c) joined
       (all_at (λ ts. length ts ≤ room) (omega arith) old c (few_old within)) some)

@@ -24,37 +24,37 @@ abbrev pub no_message : Message
 no_message = record { rel = 0; proc = 0; payload = 0; tag = record { chip = 0; proc = 0; birth = 0 } }
 
 -- the message that a ticket stands for, of those in the row
-abbrev pub message_of : List Message → Ticket → Message
-message_of row t = record (slice_index_or row t.number no_message) { rel = t.rel }
+abbrev pub message_of_ticket : List Message → Ticket → Message
+message_of_ticket row t = record (slice_index_or row t.number no_message) { rel = t.rel }
 
 -- the messages of a chip
 abbrev pub standing : List Message → List Ticket → List Message
-standing row ts = map (message_of row) ts
+standing row ts = map (message_of_ticket row) ts
 
 -- the messages of each chip
 abbrev pub all_standing : List Message → List (List Ticket) → List (List Message)
 all_standing row queues = map (standing row) queues
 
 -- each of these tickets stands for one of the first so many messages of the row
-abbrev pub AreKept : ℕ → List Ticket → Type 0
-AreKept count ts = All (λ t. t.number < count) ts
+abbrev pub HaveMessages : ℕ → List Ticket → Type 0
+HaveMessages count ts = All (λ t. t.number < count) ts
 
 -- so does this one, if there is one
-abbrev pub IsKept : ℕ → Option Ticket → Type 0
-IsKept count o = IfSome o (λ t. t.number < count)
+abbrev pub HasMessage : ℕ → Option Ticket → Type 0
+HasMessage count o = IfSome o (λ t. t.number < count)
 
 -- what is read where no ticket stands
 abbrev pub no_ticket : Ticket
 no_ticket = record { rel = 0; number = 0 }
 
 -- where the message of the first of these tickets is kept
-abbrev pub start_of : List Ticket → ℕ
-start_of ts = (slice_index_or ts 0 no_ticket).number
+abbrev pub first_number : List Ticket → ℕ
+first_number ts = (slice_index_or ts 0 no_ticket).number
 
 -- the messages of these tickets stand side by side, in their order and with the addresses of by now
 pub record AreTogether (row : List Message) (ts : List Ticket) : Type 0 where
   pub start : ℕ
-  pub starts : 0 < length ts → start_of ts ≡ start
+  pub starts : 0 < length ts → first_number ts ≡ start
   pub within : start + length ts ≤ length row
   pub value : slice_range row start (start + length ts) ≡ standing row ts
 
@@ -78,7 +78,7 @@ abbrev pub tag_at : List Message → ℕ → Tag
 tag_at row i = (slice_index_or row i no_message).tag
 
 -- of the first so many messages of the row each is older than all behind it
-pub record AreRising (row : List Message) (count : ℕ) : Type 0 where
+pub record AreByAge (row : List Message) (count : ℕ) : Type 0 where
   pub within : count ≤ length row
   pub each : (i j : ℕ) → i < j → j < count → is_older (tag_at row i) (tag_at row j) ≡ true
 
@@ -95,6 +95,6 @@ pub record IsCrossing (row spare : Vec Message Global) (places : ℕ) (queues : 
   pub spare_capacity : places ≤ vec_capacity spare
   pub filled : vec_len row ≤ places
   pub rows : length leavers.items ≡ length queues
-  pub kept : All (AreKept (length row.items)) queues
+  pub kept : All (HaveMessages (length row.items)) queues
   pub together : IsTrue gathered → All (AreTogether row.items) queues
-  pub rising : AreRising row.items risen
+  pub rising : AreByAge row.items risen

@@ -7,7 +7,7 @@ ghost use Rattle.cm_model.specs.Router.{has_to_cross};
 ghost use Rattle.cm_model.specs.Buffers.{chosen_place, first_place, last_place, oldest_place, youngest_place};
 ghost use Rattle.cm_model.specs.Buffers.{element_at, is_older_one, is_older_or_none};
 ghost use Rattle.cm_slots.specs.Tickets.{has_to_go};
-ghost use Rattle.cm_crossing.specs.Standing.{no_message, standing, AreKept};
+ghost use Rattle.cm_crossing.specs.Standing.{no_message, standing, HaveMessages};
 
 use crate::row::message_of;
 use cm_message::{Message, Rule};
@@ -26,7 +26,7 @@ pub(crate) fn place_of_chosen(
 ) -> Option<usize>
     requires chip { chip < length slots.now }
     requires dim { dim < 12 }
-    requires kept { AreKept (length row.now) (list_at slots.now chip) }
+    requires kept { HaveMessages (length row.now) (list_at slots.now chip) }
     ensures value { result ≡ chosen_place rule sizes.room dim (standing row.now (list_at slots.now chip)) }
     ensures within { IfSome result (λ place. place < length (list_at slots.now chip)) }
 {
@@ -40,7 +40,7 @@ pub(crate) fn place_of_chosen(
 fn first_place(row: &[Message], slots: &Slots, chip: usize, dim: u8, rule: Rule) -> Option<usize>
     requires chip { chip < length slots.now }
     requires dim { dim < 12 }
-    requires kept { AreKept (length row.now) (list_at slots.now chip) }
+    requires kept { HaveMessages (length row.now) (list_at slots.now chip) }
     ensures value { result ≡ first_place rule dim (standing row.now (list_at slots.now chip)) }
     ensures within { IfSome result (λ place. place < length (list_at slots.now chip)) }
 {
@@ -54,7 +54,7 @@ fn first_place(row: &[Message], slots: &Slots, chip: usize, dim: u8, rule: Rule)
 fn last_place(row: &[Message], slots: &Slots, chip: usize, rule: Rule) -> Option<usize>
     requires chip { chip < length slots.now }
     requires some { 0 < length (list_at slots.now chip) }
-    requires kept { AreKept (length row.now) (list_at slots.now chip) }
+    requires kept { HaveMessages (length row.now) (list_at slots.now chip) }
     ensures value { result ≡ last_place rule (standing row.now (list_at slots.now chip)) }
     ensures within { IfSome result (λ place. place < length (list_at slots.now chip)) }
 {
@@ -85,7 +85,7 @@ fn first_to_cross(slots: &Slots, chip: usize, dim: u8) -> Option<usize>
 fn oldest_to_cross(row: &[Message], slots: &Slots, chip: usize, dim: u8) -> Option<usize>
     requires chip { chip < length slots.now }
     requires dim { dim < 12 }
-    requires kept { AreKept (length row.now) (list_at slots.now chip) }
+    requires kept { HaveMessages (length row.now) (list_at slots.now chip) }
     ensures value { result ≡ oldest_place dim (standing row.now (list_at slots.now chip)) }
     ensures within { IfSome result (λ place. place < length (list_at slots.now chip)) }
 {
@@ -101,7 +101,7 @@ fn oldest_to_cross(row: &[Message], slots: &Slots, chip: usize, dim: u8) -> Opti
 /// The place of the youngest, gone through from behind.
 fn youngest(row: &[Message], slots: &Slots, chip: usize) -> Option<usize>
     requires chip { chip < length slots.now }
-    requires kept { AreKept (length row.now) (list_at slots.now chip) }
+    requires kept { HaveMessages (length row.now) (list_at slots.now chip) }
     ensures value { result ≡ youngest_place (standing row.now (list_at slots.now chip)) }
     ensures within { IfSome result (λ place. place < length (list_at slots.now chip)) }
 {
@@ -123,7 +123,7 @@ fn goes_last(
     behind: Option<usize>,
 ) -> bool
     requires chip { chip < length slots.now }
-    requires kept { AreKept (length row.now) (list_at slots.now chip) }
+    requires kept { HaveMessages (length row.now) (list_at slots.now chip) }
     requires place { place < length (list_at slots.now chip) }
     requires within { IfSome behind (λ i. i < length (list_at slots.now chip)) }
     ensures value { result ≡ is_older_or_none (element_at (standing row.now (list_at slots.now chip)) behind)
@@ -150,7 +150,7 @@ fn goes_first(
 ) -> bool
     requires chip { chip < length slots.now }
     requires dim { dim < 12 }
-    requires kept { AreKept (length row.now) (list_at slots.now chip) }
+    requires kept { HaveMessages (length row.now) (list_at slots.now chip) }
     requires place { place < length (list_at slots.now chip) }
     requires within { IfSome behind (λ i. i < length (list_at slots.now chip)) }
     ensures value { result
@@ -179,7 +179,7 @@ fn is_older_at(
     message: &Message,
 ) -> bool
     requires chip { chip < length slots.now }
-    requires kept { AreKept (length row.now) (list_at slots.now chip) }
+    requires kept { HaveMessages (length row.now) (list_at slots.now chip) }
     requires within { IfSome place (λ i. i < length (list_at slots.now chip)) }
     ensures value { result
         ≡ is_older_one (element_at (standing row.now (list_at slots.now chip)) place) message.now }
@@ -193,7 +193,7 @@ fn is_older_at(
 /// The message at a place.
 fn message_at(row: &[Message], slots: &Slots, chip: usize, place: usize) -> Message
     requires chip { chip < length slots.now }
-    requires kept { AreKept (length row.now) (list_at slots.now chip) }
+    requires kept { HaveMessages (length row.now) (list_at slots.now chip) }
     requires place { place < length (list_at slots.now chip) }
     ensures value { result ≡ get_or (standing row.now (list_at slots.now chip)) place no_message }
 {

@@ -5,7 +5,7 @@ ghost use Rattle.std.specs.Prelude.{◌≡◌, ◌⊎◌, ℕ, ◌-◌, ◌<◌,
 ghost use Rattle.std.specs.List.{All};
 ghost use Rattle.cm_model.specs.Array.{list_at};
 ghost use Rattle.cm_model.specs.Router.{is_older};
-ghost use Rattle.cm_crossing.specs.Standing.{AreKept, IsWritten, tag_at, AreRising};
+ghost use Rattle.cm_crossing.specs.Standing.{HaveMessages, IsWritten, tag_at, AreByAge};
 ghost use Rattle.cm_crossing.specs.Ranking.{moved_ticket, HaveMoved};
 
 use cm_message::Message;
@@ -17,8 +17,8 @@ const NOWHERE: u16 = 65535;
 
 /// How many of the first messages of the row stand in the order of age, of which so many are known to.
 pub(crate) fn risen_to(row: &[Message], from: usize) -> usize
-    requires rising { AreRising row.now from }
-    ensures rising { AreRising row.now result }
+    requires rising { AreByAge row.now from }
+    ensures rising { AreByAge row.now result }
 {
     let mut risen = from;
     while risen < row.len() && rises_at(row, risen) {
@@ -115,7 +115,7 @@ fn are_below(moved: &[u16], bound: usize) -> bool
 
 /// Each ticket tells where its message has gone.
 pub(crate) fn renumber(slots: &mut Slots, moved: &[u16])
-    requires kept { All (AreKept (length moved.now)) slots.old }
+    requires kept { All (HaveMessages (length moved.now)) slots.old }
     requires few { All (λ place. place < 65535) moved.now }
     ensures value { slots.new ≡ map (map (moved_ticket moved.now)) slots.old }
 {
@@ -126,7 +126,7 @@ pub(crate) fn renumber(slots: &mut Slots, moved: &[u16])
 
 fn renumber_at(slots: &mut Slots, moved: &[u16], here: usize)
     requires here { here < length slots.old }
-    requires kept { AreKept (length moved.now) (list_at slots.old here) }
+    requires kept { HaveMessages (length moved.now) (list_at slots.old here) }
     requires few { All (λ place. place < 65535) moved.now }
     ensures value { list_at slots.new here ≡ map (moved_ticket moved.now) (list_at slots.old here) }
     ensures others { IsWritten here slots.old slots.new }

@@ -10,7 +10,7 @@ ghost use Rattle.cm_model.specs.Each.{each_from};
 ghost use Rattle.cm_model.specs.Array.{each_chip, list_at};
 ghost use Rattle.cm_model.specs.Wiring.{way_of};
 ghost use Rattle.cm_router.specs.Routes.{routing_of};
-ghost use Rattle.cm_crossing.specs.Standing.{AreKept, IsKept, IsWritten, AreRising};
+ghost use Rattle.cm_crossing.specs.Standing.{HaveMessages, HasMessage, IsWritten, AreByAge};
 ghost use Rattle.cm_crossing.specs.Routed.{ticket_leaving, tickets_staying, tickets_crossed};
 
 use crate::choosing::place_of_chosen;
@@ -39,8 +39,8 @@ pub(crate) fn cross(
     requires begins { first % 2 ^ span ≡ 0 }
     requires band { first + 2 ^ span ≤ 2 ^ sizes.dims }
     requires few { length row.now ≤ 65535 }
-    requires in_order { IsTrue in_order → AreRising row.now (length row.now) }
-    requires kept { All (AreKept (length row.now)) slots.old }
+    requires in_order { IsTrue in_order → AreByAge row.now (length row.now) }
+    requires kept { All (HaveMessages (length row.now)) slots.old }
     requires within { All (λ ts. length ts ≤ sizes.room) slots.old }
     ensures value { slots.new ≡ each_chip span (λ c. tickets_crossed row.now
         (way_of (routing_of routing.now) (first + c) dim) sizes.room dim
@@ -78,7 +78,7 @@ pub(crate) fn leave(
     requires dim { dim < sizes.dims }
     requires rows { length leavers.old ≡ length slots.old }
     requires band { first + length slots.old ≤ 2 ^ sizes.dims }
-    requires kept { All (AreKept (length row.now)) slots.old }
+    requires kept { All (HaveMessages (length row.now)) slots.old }
     requires within { All (λ ts. length ts ≤ sizes.room) slots.old }
     ensures value { slots.new ≡ each_from 0 (length slots.old) (λ c. tickets_staying row.now
         (way_of (routing_of routing.now) (first + c) dim) sizes.room dim (list_at slots.old c)) }
@@ -110,7 +110,7 @@ fn cross_by_chip(
     requires begins { first % 2 ^ span ≡ 0 }
     requires band { first + 2 ^ span ≤ 2 ^ sizes.dims }
     requires few { length row.now ≤ 65535 }
-    requires kept { All (AreKept (length row.now)) slots.old }
+    requires kept { All (HaveMessages (length row.now)) slots.old }
     requires within { All (λ ts. length ts ≤ sizes.room) slots.old }
     ensures value { slots.new ≡ each_chip span (λ c. tickets_crossed row.now
         (way_of (routing_of routing.now) (first + c) dim) sizes.room dim
@@ -133,7 +133,7 @@ fn leave_by_chip(
     requires dim { dim < sizes.dims }
     requires rows { length leavers.old ≡ length slots.old }
     requires band { first + length slots.old ≤ 2 ^ sizes.dims }
-    requires kept { All (AreKept (length row.now)) slots.old }
+    requires kept { All (HaveMessages (length row.now)) slots.old }
     ensures value { slots.new ≡ each_from 0 (length slots.old) (λ c. tickets_staying row.now
         (way_of (routing_of routing.now) (first + c) dim) sizes.room dim (list_at slots.old c)) }
     ensures going { leavers.new ≡ each_from 0 (length slots.old) (λ c. ticket_leaving row.now
@@ -150,7 +150,7 @@ fn take_in_by_chip(slots: &mut Slots, leavers: &[Option<Ticket>], dim: u8)
     requires dim { dim < 12 }
     requires rows { length leavers.now ≡ length slots.old }
     requires across { (c : ℕ) → c < length slots.old → bit_xor c (2 ^ dim) < length slots.old }
-    requires numbers { All (IsKept 65535) leavers.now }
+    requires numbers { All (HasMessage 65535) leavers.now }
     requires space { (c : ℕ) → c < length slots.old
         → (slice_index_or leavers.now (bit_xor c (2 ^ dim)) None ≡ None) ⊎ (length (list_at slots.old c) < 15) }
     ensures value { slots.new ≡ each_from 0 (length slots.old) (λ c. list_at slots.old c
@@ -176,7 +176,7 @@ fn let_leave(
 ) -> Option<Ticket>
     requires chip { chip < length slots.old }
     requires dim { dim < 12 }
-    requires kept { AreKept (length row.now) (list_at slots.old chip) }
+    requires kept { HaveMessages (length row.now) (list_at slots.old chip) }
     ensures value { list_at slots.new chip
         ≡ tickets_staying row.now (record { cut = cut; rule = rule }) sizes.room dim (list_at slots.old chip) }
     ensures going { result

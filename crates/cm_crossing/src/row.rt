@@ -7,13 +7,13 @@ ghost use Rattle.std.specs.Option.{option_map};
 ghost use Rattle.cm_model.specs.declared.message.Event.TheVariants as event;
 ghost use Rattle.cm_model.specs.declared.message.Message.{Message};
 ghost use Rattle.cm_model.specs.Processor.{Processor};
-ghost use Rattle.cm_model.specs.Delivery.{HasGone, HasHandedOver};
+ghost use Rattle.cm_model.specs.Delivery.{HasDelivered, HasHandedOver};
 ghost use Rattle.cm_model.specs.Chip.{IsPlane};
 ghost use Rattle.cm_model.specs.Letters.{can_receive, chip_after_delivery, is_among, messages_sent};
 ghost use Rattle.cm_model.specs.Array.{Chips, chip_at, list_at};
-ghost use Rattle.cm_crossing.specs.Standing.{message_of, standing, all_standing, AreKept, AreTogether};
+ghost use Rattle.cm_crossing.specs.Standing.{message_of_ticket, standing, all_standing, HaveMessages, AreTogether};
 ghost use Rattle.cm_model.specs.OneChip.{delivered_here, kept_here};
-ghost use Rattle.cm_crossing.specs.Standing.{IsKept, IsWritten, AreLaidOut};
+ghost use Rattle.cm_crossing.specs.Standing.{HasMessage, IsWritten, AreLaidOut};
 ghost use Rattle.cm_router.specs.Deliveries.{chip_handed, run_after, AreBefore};
 ghost use Rattle.cm_router.specs.Logs.{log_room};
 ghost use Rattle.cm_slots.specs.declared.ticket.Ticket.{Ticket};
@@ -31,9 +31,9 @@ use cm_slots::{Slots, Ticket};
 pub(crate) fn lay_out(row: &[Message], spare: &mut Vec<Message>, slots: &mut Slots)
     requires few { length slots.old ≤ 4096 }
     requires capacity { 15 * length slots.old ≤ vec_capacity spare.old }
-    requires kept { All (AreKept (length row.now)) slots.old }
+    requires kept { All (HaveMessages (length row.now)) slots.old }
     ensures value { all_standing spare.new.items slots.new ≡ all_standing row.now slots.old }
-    ensures kept { All (AreKept (length spare.new.items)) slots.new }
+    ensures kept { All (HaveMessages (length spare.new.items)) slots.new }
     ensures together { All (AreTogether spare.new.items) slots.new }
     ensures filled { vec_len spare.new ≤ 15 * length slots.old }
     ensures capacity { vec_capacity spare.old ≤ vec_capacity spare.new }
@@ -49,7 +49,7 @@ fn carry_over(row: &[Message], spare: &mut Vec<Message>, slots: &mut Slots, here
     requires here { here < length slots.old }
     requires few { vec_len spare.old + 15 ≤ 65535 }
     requires capacity { vec_len spare.old + 15 ≤ vec_capacity spare.old }
-    requires kept { AreKept (length row.now) (list_at slots.old here) }
+    requires kept { HaveMessages (length row.now) (list_at slots.old here) }
     ensures items { spare.new.items ≡ spare.old.items ++ standing row.now (list_at slots.old here) }
     ensures value { AreLaidOut row.now spare.new.items (list_at slots.old here) (list_at slots.new here) }
     ensures others { IsWritten here slots.old slots.new }
@@ -101,7 +101,7 @@ pub(crate) fn take_up(
     requires at { at < length slots.old }
     requires few { vec_len row.old + length senders ≤ 65535 }
     requires capacity { vec_len row.old + length senders ≤ vec_capacity row.old }
-    requires kept { AreKept (length row.old.items) (list_at slots.old at) }
+    requires kept { HaveMessages (length row.old.items) (list_at slots.old at) }
     requires room { length (list_at slots.old at) + length senders ≤ 15 }
     requires dims { dims ≤ 12 }
     requires log_room { length senders ≤ log_room log.old }
@@ -109,7 +109,7 @@ pub(crate) fn take_up(
     ensures items { row.new.items ≡ row.old.items ++ messages_sent dims clock here chip.now senders }
     ensures value { standing row.new.items (list_at slots.new at)
         ≡ standing row.old.items (list_at slots.old at) ++ messages_sent dims clock here chip.now senders }
-    ensures kept { AreKept (length row.new.items) (list_at slots.new at) }
+    ensures kept { HaveMessages (length row.new.items) (list_at slots.new at) }
     ensures others { IsWritten at slots.old slots.new }
     ensures log { log.new.items ≡ log.old.items ++ map event.Injected (messages_sent dims clock here chip.now senders) }
     ensures log_len { vec_len log.new ≡ vec_len log.old + length senders }
@@ -132,12 +132,12 @@ pub(crate) fn stand(row: &mut Vec<Message>, slots: &mut Slots, here: usize, mess
     requires here { here < length slots.old }
     requires few { vec_len row.old < 65535 }
     requires capacity { vec_len row.old < vec_capacity row.old }
-    requires kept { AreKept (length row.old.items) (list_at slots.old here) }
+    requires kept { HaveMessages (length row.old.items) (list_at slots.old here) }
     requires room { length (list_at slots.old here) < 15 }
     ensures items { row.new.items ≡ row.old.items ++ message.now ∷ [] }
     ensures value { standing row.new.items (list_at slots.new here)
         ≡ standing row.old.items (list_at slots.old here) ++ message.now ∷ [] }
-    ensures kept { AreKept (length row.new.items) (list_at slots.new here) }
+    ensures kept { HaveMessages (length row.new.items) (list_at slots.new here) }
     ensures others { IsWritten here slots.old slots.new }
     ensures long { length (list_at slots.new here) ≡ length (list_at slots.old here) + 1 }
     ensures len { vec_len row.new ≡ vec_len row.old + 1 }
@@ -170,8 +170,8 @@ fn keep(row: &mut Vec<Message>, message: &Message) -> u16
 /// Writes down the messages of the tickets that leave.
 pub(crate) fn read_off(row: &[Message], tickets: &[Option<Ticket>], leavers: &mut [Option<Message>])
     requires count { length leavers.old ≡ length tickets.now }
-    requires kept { All (IsKept (length row.now)) tickets.now }
-    ensures value { leavers.new ≡ map (λ t. option_map (message_of row.now) t) tickets.now }
+    requires kept { All (HasMessage (length row.now)) tickets.now }
+    ensures value { leavers.new ≡ map (λ t. option_map (message_of_ticket row.now) t) tickets.now }
 {
     for c in 0..tickets.len() {
         leavers[c] = match tickets[c] {
@@ -193,14 +193,14 @@ pub(crate) fn give_out(
     log: &mut Vec<Event>,
 )
     requires stands { chip < length slots.old }
-    requires kept { AreKept (length row.now) (list_at slots.old chip) }
+    requires kept { HaveMessages (length row.now) (list_at slots.old chip) }
     requires chip { chip < length run.now }
     requires before { AreBefore chip deliveries.old }
     requires room { length deliveries.old + length (list_at slots.old chip) ≤ 128 }
     requires log_room { length (list_at slots.old chip) ≤ log_room log.old }
     ensures value { standing row.now (list_at slots.new chip)
         ≡ kept_here (standing row.now (list_at slots.old chip)) (chip_at (run_after deliveries.old run.now) chip) }
-    ensures kept { AreKept (length row.now) (list_at slots.new chip) }
+    ensures kept { HaveMessages (length row.now) (list_at slots.new chip) }
     ensures fewer { length (list_at slots.new chip) ≤ length (list_at slots.old chip) }
     ensures others { IsWritten chip slots.old slots.new }
     ensures chip { run_after deliveries.new run.now ≡ slice_set (run_after deliveries.old run.now) chip
@@ -229,11 +229,11 @@ pub(crate) fn give_out(
 /// many as stand there, if there is none. Nothing is written meanwhile, so that where its slots lie is found once.
 fn next_given(row: &[Message], slots: &Slots, here: usize, from: usize, receivers: Plane) -> usize
     requires stands { here < length slots.now }
-    requires kept { AreKept (length row.now) (list_at slots.now here) }
+    requires kept { HaveMessages (length row.now) (list_at slots.now here) }
     requires from { from ≤ length (list_at slots.now here) }
     ensures passed { (j : ℕ) (t : Ticket) → from ≤ j → j < result → Some t ≡ slice_get (list_at slots.now here) j
         → (before chip : List Processor) → IsPlane receivers (can_receive chip) → (seen : List Message)
-        → HasGone before seen chip → HasHandedOver false before seen (message_of row.now t) chip }
+        → HasDelivered before seen chip → HasHandedOver false before seen (message_of_ticket row.now t) chip }
     ensures from { from ≤ result }
     ensures within { result ≤ length (list_at slots.now here) }
 {
@@ -251,8 +251,8 @@ fn next_given(row: &[Message], slots: &Slots, here: usize, from: usize, receiver
 fn is_given(row: &[Message], ticket: Ticket, receivers: Plane) -> bool
     requires kept { ticket.number < length row.now }
     ensures kept { IsFalse result → (before chip : List Processor) → IsPlane receivers (can_receive chip)
-        → (seen : List Message) → HasGone before seen chip
-        → HasHandedOver false before seen (message_of row.now ticket) chip }
+        → (seen : List Message) → HasDelivered before seen chip
+        → HasHandedOver false before seen (message_of_ticket row.now ticket) chip }
 {
     // Only a message that has arrived is read: where it is kept lies far from the others.
     if ticket.rel != 0 {
@@ -275,18 +275,18 @@ fn is_delivered(
     requires kept { ticket.number < length row.now }
     requires room { length deliveries.old < 128 }
     requires log_room { 0 < log_room log.old }
-    ensures step { (before now : List Processor) (seen : List Message) → HasGone before seen now
-        → IsPlane receivers.old (can_receive now) → HasHandedOver result before seen (message_of row.now ticket)
-        (chip_handed result (message_of row.now ticket) now) }
-    ensures receivers { (before now : List Processor) (seen : List Message) → HasGone before seen now
+    ensures step { (before now : List Processor) (seen : List Message) → HasDelivered before seen now
+        → IsPlane receivers.old (can_receive now) → HasHandedOver result before seen (message_of_ticket row.now ticket)
+        (chip_handed result (message_of_ticket row.now ticket) now) }
+    ensures receivers { (before now : List Processor) (seen : List Message) → HasDelivered before seen now
         → IsPlane receivers.old (can_receive now)
-        → IsPlane receivers.new (can_receive (chip_handed result (message_of row.now ticket) now)) }
+        → IsPlane receivers.new (can_receive (chip_handed result (message_of_ticket row.now ticket) now)) }
     ensures later { (run : Chips) → run_after deliveries.new run ≡ slice_set (run_after deliveries.old run) chip
-        (chip_handed result (message_of row.now ticket) (chip_at (run_after deliveries.old run) chip)) }
+        (chip_handed result (message_of_ticket row.now ticket) (chip_at (run_after deliveries.old run) chip)) }
     ensures before { (k : ℕ) → chip < k → AreBefore k deliveries.old → AreBefore k deliveries.new }
     ensures count { length deliveries.new ≡ length deliveries.old + (if result then 1 else 0) }
     ensures log { log.new.items ≡ log.old.items
-        ++ (if result then event.Delivered here (message_of row.now ticket) ∷ [] else []) }
+        ++ (if result then event.Delivered here (message_of_ticket row.now ticket) ∷ [] else []) }
     ensures len { vec_len log.new ≤ vec_len log.old + 1 }
     ensures quiet { IsFalse result → vec_len log.new ≡ vec_len log.old }
     ensures capacity { vec_capacity log.old ≤ vec_capacity log.new }
@@ -302,7 +302,7 @@ fn is_delivered(
 /// The message that a ticket stands for.
 pub(crate) fn message_of(row: &[Message], ticket: Ticket) -> Message
     requires kept { ticket.number < length row.now }
-    ensures value { result ≡ message_of row.now ticket }
+    ensures value { result ≡ message_of_ticket row.now ticket }
 {
     Message {
         rel: ticket.rel,

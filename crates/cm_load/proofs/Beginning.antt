@@ -11,7 +11,7 @@ use Rattle.cm_model.specs.Wiring.{Routing}
 use Rattle.cm_model.specs.Machine.{blank_machine}
 use Rattle.cm_model.proofs.Each.{length-each_from, get_or-each_below}
 use Rattle.cm_router.specs.Logs.{Log}
-use Rattle.cm_petit.specs.Routers.{machine_of, events_of, AreRouters}
+use Rattle.cm_petit.specs.Routers.{machine_from_logs, events_of, AreRouters}
 use Rattle.cm_load.specs.declared.sources.Source.{Source}
 use Rattle.cm_load.specs.Offers.{places}
 use Rattle.cm_load.specs.Asking.{no_source}
@@ -41,7 +41,7 @@ module _ (n count : ℕ) (run : Chips) (buffers : List (List Message)) (logs : L
   pub begins : (routing : Routing) (sources : List Source) (place_count : ℕ) (latencies : List ℕ)
       → sources ≡ replicate place_count no_source → place_count ≡ places n → latencies ≡ []
       → record {
-        machine = machine_of routing run buffers logs 0;
+        machine = machine_from_logs routing run buffers logs 0;
         sources = sources;
         deepest = 0;
         taken = 0;

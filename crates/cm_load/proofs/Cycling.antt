@@ -12,7 +12,7 @@ use Rattle.cm_model.specs.Machine.{Machine}
 use Rattle.cm_model.specs.Buffers.{after_act}
 use Rattle.cm_element.specs.Wide.{with_flag_plane}
 use Rattle.cm_router.specs.Logs.{Log}
-use Rattle.cm_petit.specs.Routers.{machine_of, events_of}
+use Rattle.cm_petit.specs.Routers.{machine_from_logs, events_of}
 use Rattle.cm_load.specs.declared.offers.Load.{Load}
 use Rattle.cm_load.specs.declared.sources.Source.{Source}
 use Rattle.cm_load.specs.Offers.{places}
@@ -25,7 +25,7 @@ module _ (n cap : ℕ) (load : Load) (routing : Routing) (chips asked left ready
     (sources next : List Source) (deepest deeper taken more : ℕ) (latencies all : List ℕ) where
   abbrev pub before : Loaded
   before = record {
-    machine = machine_of routing chips buffers logs t;
+    machine = machine_from_logs routing chips buffers logs t;
     sources = sources;
     deepest = deepest;
     taken = taken;
@@ -34,7 +34,7 @@ module _ (n cap : ℕ) (load : Load) (routing : Routing) (chips asked left ready
 
   abbrev pub after : Loaded
   after = record {
-    machine = machine_of routing ready crossed told (t + 1);
+    machine = machine_from_logs routing ready crossed told (t + 1);
     sources = next;
     deepest = deeper;
     taken = taken + more;
@@ -45,7 +45,7 @@ module _ (n cap : ℕ) (load : Load) (routing : Routing) (chips asked left ready
       → record { chips = asked; sources = next; deepest = deeper }
       ≡ after_places load t (record { chips = chips; sources = sources; deepest = deepest }) (places load.dims)
       → events_of emptied ≡ each_from {X = List Event} 0 (2 ^ n) (λ c. [])
-      → machine_of routing left crossed told ended ≡ after_act n cap (machine_of routing asked buffers emptied begun) Cycle
+      → machine_from_logs routing left crossed told ended ≡ after_act n cap (machine_from_logs routing asked buffers emptied begun) Cycle
       → begun ≡ t → ended ≡ begun + 1 → more ≡ taken_in (events_of told)
       → all ≡ latencies ++ latencies_in t (events_of told)
       → ready ≡ each_from 0 (2 ^ n) (λ c. with_flag_plane (chip_at left c) RECV (bit 0))
@@ -53,8 +53,8 @@ module _ (n cap : ℕ) (load : Load) (routing : Routing) (chips asked left ready
   unfolding after_one all_ready
   one_cycle dims asks empty goes starts ends takes tells fetched =
       let asking : Asking = asking_of load before in
-      let opening : machine_of routing asked buffers emptied begun
-      ≡ machine_asked n (machine_of routing chips buffers logs t) asking.chips =
+      let opening : machine_from_logs routing asked buffers emptied begun
+      ≡ machine_asked n (machine_from_logs routing chips buffers logs t) asking.chips =
       λ i. record {
         chips = (asks i).chips;
         buffers = buffers;
@@ -62,11 +62,11 @@ module _ (n cap : ℕ) (load : Load) (routing : Routing) (chips asked left ready
         clock = starts i;
         routing = routing;
       } in
-      let machine : machine_of routing left crossed told ended
-      ≡ after_act n cap (machine_asked n (machine_of routing chips buffers logs t) asking.chips) Cycle =
+      let machine : machine_from_logs routing left crossed told ended
+      ≡ after_act n cap (machine_asked n (machine_from_logs routing chips buffers logs t) asking.chips) Cycle =
       goes ∙ ap (λ (m : Machine). after_act n cap m Cycle) opening in
       let clock : t + 1 ≡ ended = sym (ends ∙ ap (λ (k : ℕ). k + 1) starts) in
-      let told_so : after ≡ told_by n before asking (machine_of routing left crossed told ended) =
+      let told_so : after ≡ told_by n before asking (machine_from_logs routing left crossed told ended) =
       λ i. record {
         machine = record {
           chips = fetched i;

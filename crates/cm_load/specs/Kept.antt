@@ -4,7 +4,7 @@ use Rattle.cm_model.specs.declared.message.Message.{Message}
 use Rattle.cm_model.specs.Array.{Chips}
 use Rattle.cm_model.specs.Wiring.{Routing}
 use Rattle.cm_router.specs.Logs.{Log}
-use Rattle.cm_petit.specs.Routers.{machine_of}
+use Rattle.cm_petit.specs.Routers.{machine_from_logs}
 use Rattle.cm_load.specs.declared.cycles.Told.{Told}
 use Rattle.cm_load.specs.declared.sources.Source.{Source}
 use Rattle.cm_load.specs.Loaded.{Loaded}
@@ -12,7 +12,7 @@ use Rattle.cm_load.specs.Loaded.{Loaded}
 -- chips, buffers and logs by number, at a count of petit cycles; what was offered by place, and what was told
 abbrev pub loaded_of : Routing → Chips → List (List Message) → List Log → ℕ → List Source → Told → Loaded
 loaded_of routing chips buffers logs clock sources told = record {
-  machine = machine_of routing chips buffers logs clock;
+  machine = machine_from_logs routing chips buffers logs clock;
   sources = sources;
   deepest = told.deepest;
   taken = told.taken;

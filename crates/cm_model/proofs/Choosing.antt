@@ -8,8 +8,8 @@ use Rattle.std.specs.List.{All, Contains, filter}
 use Rattle.std.specs.Option.{option_or}
 use Rattle.cm_model.specs.declared.rule.Rule.{Rule}
 use Rattle.cm_model.specs.Wiring.{Way}
-use Rattle.cm_model.specs.Router.{Since, Standing, same_since, has_to_cross, standing_at, crossing, goes_before, ahead}
-use Rattle.cm_model.specs.Router.{foremost, behind, hindmost, referred, chosen, leaver}
+use Rattle.cm_model.specs.Router.{Since, Standing, same_since, has_to_cross, standing_at, crossing, goes_before, first_by_rule}
+use Rattle.cm_model.specs.Router.{foremost, last_by_rule, hindmost, referred, chosen, leaver}
 use Rattle.cm_model.specs.Leaver.{GoesFirst, GoesLast, IsReferred, IsChosen, IsLeaver, SincesDiffer}
 use Rattle.cm_model.proofs.Preferring.{goes_before-itself, not_both_go_before, not_going_before-transitive}
 use Rattle.cm_model.proofs.Preferring.{neither_goes_before}
@@ -60,7 +60,7 @@ IsFirst rule xs None = xs ≡ []
 IsFirst rule xs (Some r) = Contains xs r × NoneAhead rule r xs
 
 first_of_more : (rule : Rule) (x : Standing) (xs : List Standing) (o : Option Standing) → IsFirst rule xs o
-    → IsFirst rule (x ∷ xs) (Some (ahead rule x o))
+    → IsFirst rule (x ∷ xs) (Some (first_by_rule rule x o))
 first_of_more rule x xs None h =
     subst (λ (z : List Standing). IsFirst rule (x ∷ z) (Some x)) (sym h)
     (contains_first x [], (goes_before-itself rule x, tt))
@@ -78,7 +78,7 @@ IsLast rule xs None = xs ≡ []
 IsLast rule xs (Some r) = Contains xs r × NoneBehind rule r xs
 
 last_of_more : (rule : Rule) (x : Standing) (xs : List Standing) (o : Option Standing) → IsLast rule xs o
-    → IsLast rule (x ∷ xs) (Some (behind rule x o))
+    → IsLast rule (x ∷ xs) (Some (last_by_rule rule x o))
 last_of_more rule x xs None h =
     subst (λ (z : List Standing). IsLast rule (x ∷ z) (Some x)) (sym h)
     (contains_first x [], (goes_before-itself rule x, tt))

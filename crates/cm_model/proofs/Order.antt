@@ -4,7 +4,7 @@ use Rattle.std.proofs.Common.{sym, ◌∙◌, ap, ⊎_elim, arith}
 use Rattle.std.proofs.lemmas.Bool.{cases_Bool}
 use Rattle.std.proofs.lemmas.Bool.Decides.{nat_tests}
 use Rattle.std.specs.List.{filter}
-use Rattle.cm_model.specs.Router.{Since, Standing, is_before, same_since, ahead, foremost, behind, hindmost}
+use Rattle.cm_model.specs.Router.{Since, Standing, is_before, same_since, first_by_rule, foremost, last_by_rule, hindmost}
 use Rattle.cm_model.specs.declared.rule.Rule.TheVariants.{First}
 use Rattle.cm_model.specs.Order.{put, in_order}
 
@@ -171,7 +171,7 @@ last_of_list [] = None
 last_of_list (x ∷ []) = Some x
 last_of_list (x ∷ (y ∷ ys)) = last_of_list (y ∷ ys)
 
-first-put : (r : Standing) (xs : List Standing) → first_of_list (put r xs) ≡ Some (ahead First r (first_of_list xs))
+first-put : (r : Standing) (xs : List Standing) → first_of_list (put r xs) ≡ Some (first_by_rule First r (first_of_list xs))
 first-put r [] = refl
 first-put r (x ∷ xs) =
     ⊎_elim (λ (e : is_before x.since r.since ≡ true). rw e refl)
@@ -180,7 +180,7 @@ first-put r (x ∷ xs) =
 -- the earliest record is the first in order
 pub earliest_is : (xs : List Standing) → foremost First xs ≡ first_of_list (in_order xs)
 earliest_is [] = refl
-earliest_is (x ∷ xs) = ap (λ o. Some (ahead First x o)) (earliest_is xs) ∙ sym (first-put x (in_order xs))
+earliest_is (x ∷ xs) = ap (λ o. Some (first_by_rule First x o)) (earliest_is xs) ∙ sym (first-put x (in_order xs))
 
 last-cons_put : (x r : Standing) (xs : List Standing) → last_of_list (x ∷ put r xs) ≡ last_of_list (put r xs)
 last-cons_put x r [] = refl
@@ -190,12 +190,12 @@ last-cons_put x r (y ∷ ys) =
 
 -- where none is before r, the last is not either
 later_than_none : (r x : Standing) (xs : List Standing) → NoneBefore r.since (x ∷ xs)
-    → last_of_list (x ∷ xs) ≡ Some (behind First r (last_of_list (x ∷ xs)))
+    → last_of_list (x ∷ xs) ≡ Some (last_by_rule First r (last_of_list (x ∷ xs)))
 later_than_none r x [] h = let e = h.0 in rw e refl
 later_than_none r x (y ∷ ys) h = later_than_none r y ys h.1
 
 last-put : (r : Standing) (xs : List Standing) → IsSorted xs
-    → last_of_list (put r xs) ≡ Some (behind First r (last_of_list xs))
+    → last_of_list (put r xs) ≡ Some (last_by_rule First r (last_of_list xs))
 last-put r [] s = refl
 last-put r (x ∷ []) s =
     ⊎_elim (λ (e : is_before x.since r.since ≡ true). rw e refl)
@@ -209,7 +209,7 @@ last-put r (x ∷ (y ∷ ys)) s =
 -- the latest record is the last in order
 pub latest_is : (xs : List Standing) → hindmost First xs ≡ last_of_list (in_order xs)
 latest_is [] = refl
-latest_is (x ∷ xs) = ap (λ o. Some (behind First x o)) (latest_is xs) ∙ sym (last-put x (in_order xs) (IsSorted-in_order xs))
+latest_is (x ∷ xs) = ap (λ o. Some (last_by_rule First x o)) (latest_is xs) ∙ sym (last-put x (in_order xs) (IsSorted-in_order xs))
 
 -- ---- sorting keeps the elements
 

@@ -8,7 +8,7 @@ use Rattle.std.specs.Option.{option_map}
 use Rattle.cm_model.specs.declared.message.Message.{Message}
 use Rattle.cm_model.specs.declared.rule.Rule.TheVariants.{Oldest}
 use Rattle.cm_model.specs.Router.{Since, Standing, is_before, is_older, has_to_cross, goes_before}
-use Rattle.cm_model.specs.Router.{ahead, foremost, behind, hindmost}
+use Rattle.cm_model.specs.Router.{first_by_rule, foremost, last_by_rule, hindmost}
 use Rattle.cm_model.specs.Order.{messages_of}
 use Rattle.cm_model.specs.Buffers.{element_at, one_behind, is_older_one, oldest_place, is_older_or_none, youngest_place}
 use Rattle.cm_model.proofs.Order.{NoneBefore, IsSorted}
@@ -44,7 +44,7 @@ goes_before_is q x b = rw b (either (is_older q.message.tag x.message.tag) (is_o
 
 oldest_step : (x : Standing) (xs : List Standing) (o : Option ℕ) (z : Option Standing) → NoneBefore x.since xs
     → z ≡ element_at xs o →
-    Some (ahead Oldest x z) ≡ element_at (x ∷ xs)
+    Some (first_by_rule Oldest x z) ≡ element_at (x ∷ xs)
     (cond (not (is_older_one (option_map (λ r. r.message) z) x.message)) (Some 0) (one_behind o))
 oldest_step x xs o None h e = refl
 oldest_step x xs o (Some q) h e =
@@ -70,7 +70,7 @@ foremost_at d (x ∷ xs) s =
 
 youngest_step : (x : Standing) (xs : List Standing) (o : Option ℕ) (z : Option Standing) → NoneBefore x.since xs
     → z ≡ element_at xs o →
-    Some (behind Oldest x z) ≡ element_at (x ∷ xs)
+    Some (last_by_rule Oldest x z) ≡ element_at (x ∷ xs)
     (cond (is_older_or_none (option_map (λ r. r.message) z) x.message) (Some 0) (one_behind o))
 youngest_step x xs o None h e = refl
 youngest_step x xs o (Some q) h e =

@@ -8,7 +8,7 @@ use Rattle.cm_model.specs.declared.message.Tag.{Tag}
 use Rattle.cm_model.specs.declared.rule.Rule.{Rule}
 use Rattle.cm_model.specs.declared.rule.Rule.TheVariants.{First, Oldest}
 use Rattle.cm_model.specs.Router.{Since, Standing, is_before, same_since, is_older, is_preferred, goes_before}
-use Rattle.cm_model.specs.Router.{ahead, foremost, behind, hindmost}
+use Rattle.cm_model.specs.Router.{first_by_rule, foremost, last_by_rule, hindmost}
 use Rattle.cm_model.specs.Order.{put, in_order}
 use Rattle.cm_model.proofs.Order.{same_not_before, before_itself, not_both_before, before_transitive, not_before_transitive}
 
@@ -105,7 +105,7 @@ not_ahead_of : (rule : Rule) (x q r : Standing) → goes_before rule q r ≡ tru
 not_ahead_of rule x q r h k = not_going_before-transitive rule q r x (not_both_go_before rule q r h) k
 
 ahead_swap : (rule : Rule) (r q : Standing) (o : Option Standing) → is_before q.since r.since ≡ true
-    → ahead rule r (Some (ahead rule q o)) ≡ ahead rule q (Some (ahead rule r o))
+    → first_by_rule rule r (Some (first_by_rule rule q o)) ≡ first_by_rule rule q (Some (first_by_rule rule r o))
 ahead_swap rule r q None b =
     ⊎_elim
     (λ (e : goes_before rule q r ≡ true). let f : goes_before rule r q ≡ false = not_both_go_before rule q r e in
@@ -136,7 +136,7 @@ ahead_swap rule r q (Some x) b =
     (cases_Bool (goes_before rule q r))
 
 behind_swap : (rule : Rule) (r q : Standing) (o : Option Standing) → is_before q.since r.since ≡ true
-    → behind rule r (Some (behind rule q o)) ≡ behind rule q (Some (behind rule r o))
+    → last_by_rule rule r (Some (last_by_rule rule q o)) ≡ last_by_rule rule q (Some (last_by_rule rule r o))
 behind_swap rule r q None b =
     ⊎_elim
     (λ (e : goes_before rule q r ≡ true). let f : goes_before rule r q ≡ false = not_both_go_before rule q r e in
@@ -167,11 +167,11 @@ behind_swap rule r q (Some x) b =
     (cases_Bool (goes_before rule q r))
 
 foremost-put : (rule : Rule) (r : Standing) (xs : List Standing)
-    → foremost rule (put r xs) ≡ Some (ahead rule r (foremost rule xs))
+    → foremost rule (put r xs) ≡ Some (first_by_rule rule r (foremost rule xs))
 foremost-put rule r [] = refl
 foremost-put rule r (x ∷ xs) =
     ⊎_elim (λ (e : is_before x.since r.since ≡ true). rw e
-    (ap (λ o. Some (ahead rule x o)) (foremost-put rule r xs)
+    (ap (λ o. Some (first_by_rule rule x o)) (foremost-put rule r xs)
     ∙ ap (λ q. Some q) (sym (ahead_swap rule r x (foremost rule xs) e))))
     (λ (e : is_before x.since r.since ≡ false). rw e refl) (cases_Bool (is_before x.since r.since))
 
@@ -179,14 +179,14 @@ foremost-put rule r (x ∷ xs) =
 pub foremost-in_order : (rule : Rule) (xs : List Standing) → foremost rule (in_order xs) ≡ foremost rule xs
 foremost-in_order rule [] = refl
 foremost-in_order rule (x ∷ xs) = foremost-put rule x (in_order xs)
-    ∙ ap (λ o. Some (ahead rule x o)) (foremost-in_order rule xs)
+    ∙ ap (λ o. Some (first_by_rule rule x o)) (foremost-in_order rule xs)
 
 hindmost-put : (rule : Rule) (r : Standing) (xs : List Standing)
-    → hindmost rule (put r xs) ≡ Some (behind rule r (hindmost rule xs))
+    → hindmost rule (put r xs) ≡ Some (last_by_rule rule r (hindmost rule xs))
 hindmost-put rule r [] = refl
 hindmost-put rule r (x ∷ xs) =
     ⊎_elim (λ (e : is_before x.since r.since ≡ true). rw e
-    (ap (λ o. Some (behind rule x o)) (hindmost-put rule r xs)
+    (ap (λ o. Some (last_by_rule rule x o)) (hindmost-put rule r xs)
     ∙ ap (λ q. Some q) (sym (behind_swap rule r x (hindmost rule xs) e))))
     (λ (e : is_before x.since r.since ≡ false). rw e refl) (cases_Bool (is_before x.since r.since))
 
@@ -194,4 +194,4 @@ hindmost-put rule r (x ∷ xs) =
 pub hindmost-in_order : (rule : Rule) (xs : List Standing) → hindmost rule (in_order xs) ≡ hindmost rule xs
 hindmost-in_order rule [] = refl
 hindmost-in_order rule (x ∷ xs) = hindmost-put rule x (in_order xs)
-    ∙ ap (λ o. Some (behind rule x o)) (hindmost-in_order rule xs)
+    ∙ ap (λ o. Some (last_by_rule rule x o)) (hindmost-in_order rule xs)

@@ -9,7 +9,7 @@ use Rattle.cm_model.specs.declared.message.Event.TheVariants.{Delivered}
 use Rattle.cm_model.specs.Processor.{Processor}
 use Rattle.cm_model.specs.Letters.{can_receive, chip_after_delivery}
 use Rattle.cm_model.specs.OneChip.{delivered, kept}
-use Rattle.cm_model.specs.Delivery.{HasGone, HasHandedOver}
+use Rattle.cm_model.specs.Delivery.{HasDelivered, HasHandedOver}
 
 -- of a buffer, what a whole chip delivers and what stays
 abbrev pub out_of : List Processor → List Message → List Message
@@ -27,13 +27,13 @@ pub record Scan (before : List Processor) (old : List Message) (told : List Even
     (now : List Message) (place : ℕ) (events : List Event) : Type 0 where
   pub seen : List Message
   pub rest : List Message
-  pub gone : HasGone before seen chip
+  pub gone : HasDelivered before seen chip
   pub all : seen ++ rest ≡ old
   pub stay : now ≡ staying_of before seen ++ rest
   pub at : length (staying_of before seen) ≡ place
   pub log_is : events ≡ told ++ delivery_events here (out_of before seen)
 
-pub scan_begins : (chip : List Processor) (ms : List Message) (told : List Event) (here : ℕ) → HasGone chip [] chip
+pub scan_begins : (chip : List Processor) (ms : List Message) (told : List Event) (here : ℕ) → HasDelivered chip [] chip
     → Scan chip ms told here chip ms 0 told
 scan_begins chip ms told here gone = record {
   seen = [];
@@ -56,7 +56,7 @@ next_removed (z ∷ xs) x ys = ap (λ w. z ∷ w) (next_removed xs x ys)
 
 -- what the step does, whatever was seen before
 abbrev pub HandsOver : Bool → List Processor → Message → List Processor → List Processor → Type 0
-HandsOver was_delivered before m chip after = (seen : List Message) → HasGone before seen chip
+HandsOver was_delivered before m chip after = (seen : List Message) → HasDelivered before seen chip
     → HasHandedOver was_delivered before seen m after
 
 accepted_at : (before : List Processor) (old : List Message) (told : List Event) (here : ℕ) (after : List Processor)
@@ -137,7 +137,7 @@ pub record IsScanned (before : List Processor) (old : List Message) (told : List
 
 scanned_at : (before : List Processor) (old : List Message) (told : List Event) (here : ℕ) (chip : List Processor)
     (now : List Message) (place : ℕ) (events : List Event) (seen rest : List Message)
-    → HasGone before seen chip → seen ++ rest ≡ old → now ≡ staying_of before seen ++ rest
+    → HasDelivered before seen chip → seen ++ rest ≡ old → now ≡ staying_of before seen ++ rest
     → length (staying_of before seen) ≡ place
     → events ≡ told ++ delivery_events here (out_of before seen) → length now ≤ place
     → IsScanned before old told here chip now events

@@ -64,24 +64,24 @@ goes_before rule r q =
     || (not (is_preferred rule q.message r.message) && is_before r.since q.since)
 
 -- of a record and perhaps another, the one that goes first
-abbrev pub ahead : Rule → Standing → Option Standing → Standing
-ahead rule r None = r
-ahead rule r (Some q) = if goes_before rule q r then q else r
+abbrev pub first_by_rule : Rule → Standing → Option Standing → Standing
+first_by_rule rule r None = r
+first_by_rule rule r (Some q) = if goes_before rule q r then q else r
 
 -- of a set, the record that goes first
 abbrev pub foremost : Rule → List Standing → Option Standing
 foremost rule [] = None
-foremost rule (r ∷ rs) = Some (ahead rule r (foremost rule rs))
+foremost rule (r ∷ rs) = Some (first_by_rule rule r (foremost rule rs))
 
 -- of a record and perhaps another, the one that goes last
-abbrev pub behind : Rule → Standing → Option Standing → Standing
-behind rule r None = r
-behind rule r (Some q) = if goes_before rule q r then r else q
+abbrev pub last_by_rule : Rule → Standing → Option Standing → Standing
+last_by_rule rule r None = r
+last_by_rule rule r (Some q) = if goes_before rule q r then r else q
 
 -- of a set, the record that goes last
 abbrev pub hindmost : Rule → List Standing → Option Standing
 hindmost rule [] = None
-hindmost rule (r ∷ rs) = Some (behind rule r (hindmost rule rs))
+hindmost rule (r ∷ rs) = Some (last_by_rule rule r (hindmost rule rs))
 
 -- the message has to cross this dimension
 abbrev pub has_to_cross : ℕ → Message → Bool

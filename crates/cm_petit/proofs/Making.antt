@@ -18,7 +18,7 @@ use Rattle.cm_model.proofs.Each.{length-each_from, get_or-each_from}
 use Rattle.cm_router.specs.Idle.{IsIdle, IsPassedOver}
 use Rattle.cm_router.specs.Logs.{Log, log_room, log_rooms_of, HaveLogRoom}
 use Rattle.cm_router.proofs.Rooms.{room_at, room_written, room_of_others}
-use Rattle.cm_petit.specs.Routers.{events_of, part_of, part_from}
+use Rattle.cm_petit.specs.Routers.{events_of, part_from_logs, part_from}
 
 -- a row that reads as this at each place is what is made of the numbers from the first on
 pub row_is : {X : Type 0} (d : X) (first count : ℕ) (g : ℕ → ℕ → X) (xs : List X) → length xs ≡ count
@@ -210,7 +210,7 @@ made_more {f} {most} {first} {count} {i} {before} {now} c log after was number i
 -- all of them
 pub made_all : {f : ℕ → Cell → Cell} {most first count place : ℕ} {before now : Rows} (routing : Routing) (clock : ℕ)
     → AreMade f most first count before now place → count ≤ place
-    → part_of routing first count now.chips now.buffers now.logs clock ≡ record {
+    → part_from_logs routing first count now.chips now.buffers now.logs clock ≡ record {
       first = first;
       count = count;
       chips = each_from first count (λ c. (f c (cell_at before (c - first))).chip);

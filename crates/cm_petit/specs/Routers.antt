@@ -24,8 +24,8 @@ machine_from routing chips buffers logs clock = record {
 }
 
 -- the same, of the events of these logs
-abbrev pub machine_of : Routing → Chips → List (List Message) → List Log → ℕ → Machine
-machine_of routing chips buffers logs clock = machine_from routing chips buffers (events_of logs) clock
+abbrev pub machine_from_logs : Routing → Chips → List (List Message) → List Log → ℕ → Machine
+machine_from_logs routing chips buffers logs clock = machine_from routing chips buffers (events_of logs) clock
 
 -- the part of a machine of this routing that these are: so many chips, of which the first has this number
 abbrev pub part_from : Routing → ℕ → ℕ → Chips → List (List Message) → List (List Event) → ℕ → Part
@@ -40,8 +40,8 @@ part_from routing first count chips buffers logs clock = record {
 }
 
 -- the same, of the events of these logs
-abbrev pub part_of : Routing → ℕ → ℕ → Chips → List (List Message) → List Log → ℕ → Part
-part_of routing first count chips buffers logs clock =
+abbrev pub part_from_logs : Routing → ℕ → ℕ → Chips → List (List Message) → List Log → ℕ → Part
+part_from_logs routing first count chips buffers logs clock =
     part_from routing first count chips buffers (events_of logs) clock
 
 -- so many chips, with at most cap messages for each

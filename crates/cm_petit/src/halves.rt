@@ -9,7 +9,7 @@ ghost use Rattle.cm_blocks.specs.Parcels.{Blank, Mail, due};
 ghost use Rattle.cm_blocks.specs.Steps.{part_after, less, absorbed};
 ghost use Rattle.cm_router.specs.Routes.{routing_of};
 ghost use Rattle.cm_router.specs.Logs.{Log};
-ghost use Rattle.cm_petit.specs.Routers.{part_of};
+ghost use Rattle.cm_petit.specs.Routers.{part_from_logs};
 
 use cm_crossing::{Crossing, Sizes};
 use cm_message::Message;
@@ -32,9 +32,9 @@ pub fn cross(
     requires count { length crossing.old.buffers ≡ 2 ^ span }
     requires within { All (λ ms. length ms ≤ sizes.room) crossing.old.buffers }
     ensures value { (clock : ℕ) (chips : Chips) (logs : List Log)
-        → part_of (routing_of routing.now) first (2 ^ span) chips crossing.new.buffers logs clock
+        → part_from_logs (routing_of routing.now) first (2 ^ span) chips crossing.new.buffers logs clock
         ≡ part_after sizes.dims sizes.room (Cross dim) Blank
-        (part_of (routing_of routing.now) first (2 ^ span) chips crossing.old.buffers logs clock) }
+        (part_from_logs (routing_of routing.now) first (2 ^ span) chips crossing.old.buffers logs clock) }
     ensures count { length crossing.new.buffers ≡ 2 ^ span }
     ensures within { All (λ ms. length ms ≤ sizes.room) crossing.new.buffers }
 {
@@ -57,12 +57,12 @@ pub fn leave(
     requires lanes { length leavers.old ≡ length crossing.old.buffers }
     requires within { All (λ ms. length ms ≤ sizes.room) crossing.old.buffers }
     ensures value { (count clock : ℕ) (chips : Chips) (logs : List Log) → length crossing.old.buffers ≡ count
-        → part_of (routing_of routing.now) first count chips crossing.new.buffers logs clock
+        → part_from_logs (routing_of routing.now) first count chips crossing.new.buffers logs clock
         ≡ less sizes.room (Cross dim)
-        (part_of (routing_of routing.now) first count chips crossing.old.buffers logs clock) }
+        (part_from_logs (routing_of routing.now) first count chips crossing.old.buffers logs clock) }
     ensures going { (count clock : ℕ) (chips : Chips) (logs : List Log) → length crossing.old.buffers ≡ count
         → Mail leavers.new ≡ due sizes.dims sizes.room (Cross dim)
-        (part_of (routing_of routing.now) first count chips crossing.old.buffers logs clock) }
+        (part_from_logs (routing_of routing.now) first count chips crossing.old.buffers logs clock) }
     ensures count { length crossing.new.buffers ≡ length crossing.old.buffers }
     ensures within { All (λ ms. length ms ≤ sizes.room) crossing.new.buffers }
     ensures space { (c : ℕ) → c < length crossing.old.buffers → is_cut (routing_of routing.now) (first + c) dim ≡ false
@@ -78,9 +78,9 @@ pub fn take_in(sizes: Sizes, crossing: &mut Crossing, leavers: &mut [Option<Mess
     requires space { (c : ℕ) → c < length crossing.old.buffers
         → (slice_index_or leavers.old c None ≡ None) ⊎ (length (list_at crossing.old.buffers c) < sizes.room) }
     ensures value { (routing : Routes) (dim first count clock : ℕ) (chips : Chips) (logs : List Log)
-        → length crossing.old.buffers ≡ count → part_of routing first count chips crossing.new.buffers logs clock
+        → length crossing.old.buffers ≡ count → part_from_logs routing first count chips crossing.new.buffers logs clock
         ≡ absorbed sizes.dims sizes.room (Cross dim) (Mail leavers.old)
-        (part_of routing first count chips crossing.old.buffers logs clock) }
+        (part_from_logs routing first count chips crossing.old.buffers logs clock) }
     ensures blank { All (λ leaver. leaver ≡ None) leavers.new }
     ensures count { length crossing.new.buffers ≡ length crossing.old.buffers }
     ensures within { All (λ ms. length ms ≤ sizes.room) crossing.new.buffers }

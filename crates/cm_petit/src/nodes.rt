@@ -13,7 +13,7 @@ ghost use Rattle.cm_blocks.specs.Steps.{part_after};
 ghost use Rattle.cm_router.specs.Routes.{routing_of};
 ghost use Rattle.cm_router.specs.Buffer.{buffers_of, holding};
 ghost use Rattle.cm_router.specs.Logs.{log_rooms_of, HaveLogRoom, LoseAtMost};
-ghost use Rattle.cm_petit.specs.Routers.{machine_of, part_of};
+ghost use Rattle.cm_petit.specs.Routers.{machine_from_logs, part_from_logs};
 ghost use Rattle.cm_petit.specs.Nodes.{AreNodes, node_at, exchanged};
 
 use cm_crossing::Sizes;
@@ -34,9 +34,9 @@ pub fn cycle_of_nodes(
     requires cube { routing.now.cuts.dims ≡ sizes.dims }
     requires nodes { AreNodes sizes.dims sizes.room run.old nodes.old logs.old }
     requires log_room { HaveLogRoom (4 + sizes.room) (log_rooms_of logs.old) }
-    ensures value { machine_of (routing_of routing.now) run.new (buffers_of nodes.new) logs.new (clock + 1)
+    ensures value { machine_from_logs (routing_of routing.now) run.new (buffers_of nodes.new) logs.new (clock + 1)
         ≡ after_act sizes.dims sizes.room
-        (machine_of (routing_of routing.now) run.old (buffers_of nodes.old) logs.old clock) act.Cycle }
+        (machine_from_logs (routing_of routing.now) run.old (buffers_of nodes.old) logs.old clock) act.Cycle }
     ensures nodes { AreNodes sizes.dims sizes.room run.new nodes.new logs.new }
     ensures log_room { LoseAtMost (4 + sizes.room) (log_rooms_of logs.old) (log_rooms_of logs.new) }
 {
@@ -58,9 +58,9 @@ fn inject_into_nodes(
     requires nodes { AreNodes sizes.dims sizes.room run.old nodes.old logs.old }
     requires log_room { HaveLogRoom 4 (log_rooms_of logs.old) }
     ensures value { (routing : Routes)
-        → part_of routing 0 (2 ^ sizes.dims) run.new (buffers_of nodes.new) logs.new clock
+        → part_from_logs routing 0 (2 ^ sizes.dims) run.new (buffers_of nodes.new) logs.new clock
         ≡ part_after sizes.dims sizes.room Inject Blank
-        (part_of routing 0 (2 ^ sizes.dims) run.old (buffers_of nodes.old) logs.old clock) }
+        (part_from_logs routing 0 (2 ^ sizes.dims) run.old (buffers_of nodes.old) logs.old clock) }
     ensures nodes { AreNodes sizes.dims sizes.room run.new nodes.new logs.new }
     ensures log_room { LoseAtMost 4 (log_rooms_of logs.old) (log_rooms_of logs.new) }
 {
@@ -137,9 +137,9 @@ fn deliver_from_nodes(sizes: Sizes, run: &mut Run, nodes: &mut [Node], logs: &mu
     requires nodes { AreNodes sizes.dims sizes.room run.old nodes.old logs.old }
     requires log_room { HaveLogRoom sizes.room (log_rooms_of logs.old) }
     ensures value { (routing : Routes) (clock : ℕ)
-        → part_of routing 0 (2 ^ sizes.dims) run.new (buffers_of nodes.new) logs.new (clock + 1)
+        → part_from_logs routing 0 (2 ^ sizes.dims) run.new (buffers_of nodes.new) logs.new (clock + 1)
         ≡ part_after sizes.dims sizes.room Deliver Blank
-        (part_of routing 0 (2 ^ sizes.dims) run.old (buffers_of nodes.old) logs.old clock) }
+        (part_from_logs routing 0 (2 ^ sizes.dims) run.old (buffers_of nodes.old) logs.old clock) }
     ensures nodes { AreNodes sizes.dims sizes.room run.new nodes.new logs.new }
     ensures log_room { LoseAtMost sizes.room (log_rooms_of logs.old) (log_rooms_of logs.new) }
 {

@@ -9,7 +9,7 @@ ghost use Rattle.cm_blocks.specs.Parcels.{Blank};
 ghost use Rattle.cm_blocks.specs.Steps.{part_after};
 ghost use Rattle.cm_router.specs.Routes.{routing_of};
 ghost use Rattle.cm_router.specs.Logs.{log_rooms_of, HaveLogRoom, LoseAtMost};
-ghost use Rattle.cm_petit.specs.Routers.{machine_of, part_of, AreRouters};
+ghost use Rattle.cm_petit.specs.Routers.{machine_from_logs, part_from_logs, AreRouters};
 
 use cm_crossing::{Crossing, Sizes};
 use cm_element::Run;
@@ -31,9 +31,9 @@ pub fn cycle(
     requires routers { AreRouters (2 ^ sizes.dims) sizes.room run.old crossing.old.buffers logs.old }
     requires log_room { HaveLogRoom (4 + sizes.room) (log_rooms_of logs.old) }
     requires counter { clock.old < 2 ^ 63 }
-    ensures value { machine_of (routing_of routing.now) run.new crossing.new.buffers logs.new clock.new
+    ensures value { machine_from_logs (routing_of routing.now) run.new crossing.new.buffers logs.new clock.new
         ≡ after_act sizes.dims sizes.room
-        (machine_of (routing_of routing.now) run.old crossing.old.buffers logs.old clock.old) act.Cycle }
+        (machine_from_logs (routing_of routing.now) run.old crossing.old.buffers logs.old clock.old) act.Cycle }
     ensures counter { clock.new ≡ clock.old + 1 }
     ensures routers { AreRouters (2 ^ sizes.dims) sizes.room run.new crossing.new.buffers logs.new }
     ensures log_room { LoseAtMost (4 + sizes.room) (log_rooms_of logs.old) (log_rooms_of logs.new) }
@@ -64,9 +64,9 @@ pub fn inject(
     requires routers { AreRouters (length run.old) sizes.room run.old crossing.old.buffers logs.old }
     requires log_room { HaveLogRoom 4 (log_rooms_of logs.old) }
     ensures value { (routing : Routes)
-        → part_of routing first (length run.old) run.new crossing.new.buffers logs.new clock
+        → part_from_logs routing first (length run.old) run.new crossing.new.buffers logs.new clock
         ≡ part_after sizes.dims sizes.room Inject Blank
-        (part_of routing first (length run.old) run.old crossing.old.buffers logs.old clock) }
+        (part_from_logs routing first (length run.old) run.old crossing.old.buffers logs.old clock) }
     ensures routers { AreRouters (length run.old) sizes.room run.new crossing.new.buffers logs.new }
     ensures log_room { LoseAtMost 4 (log_rooms_of logs.old) (log_rooms_of logs.new) }
 {
@@ -94,9 +94,9 @@ pub fn deliver(
     requires routers { AreRouters (length run.old) sizes.room run.old crossing.old.buffers logs.old }
     requires log_room { HaveLogRoom sizes.room (log_rooms_of logs.old) }
     ensures value { (routing : Routes) (clock : ℕ)
-        → part_of routing first (length run.old) run.new crossing.new.buffers logs.new (clock + 1)
+        → part_from_logs routing first (length run.old) run.new crossing.new.buffers logs.new (clock + 1)
         ≡ part_after sizes.dims sizes.room Deliver Blank
-        (part_of routing first (length run.old) run.old crossing.old.buffers logs.old clock) }
+        (part_from_logs routing first (length run.old) run.old crossing.old.buffers logs.old clock) }
     ensures routers { AreRouters (length run.old) sizes.room run.new crossing.new.buffers logs.new }
     ensures log_room { LoseAtMost sizes.room (log_rooms_of logs.old) (log_rooms_of logs.new) }
 {

@@ -17,9 +17,9 @@ use Rattle.cm_model.specs.Wiring.{way_of}
 use Rattle.cm_model.specs.Buffers.{outgoing}
 use Rattle.cm_model.proofs.Each.{length-each_from}
 use Rattle.cm_blocks.specs.Counts.{is_delivery, deliveries, events_in}
-use Rattle.cm_blocks.specs.Parts.{Part, part, block, size, chip_in, buffer_in}
+use Rattle.cm_blocks.specs.Parts.{Part, part, block, block_size, chip_in, buffer_in}
 use Rattle.cm_blocks.specs.Parcels.{Parcel, Blank, Edge, due, sender, sender_over, edge_row}
-use Rattle.cm_blocks.specs.Rounds.{is_round, is_vertical, rounds, before_round, steps_between, ahead}
+use Rattle.cm_blocks.specs.Rounds.{is_round, is_vertical, rounds, before_round, steps_between, steps_after_round}
 use Rattle.cm_blocks.specs.Steps.{part_after, part_after_all, less, absorbed}
 use Rattle.cm_blocks.proofs.Rounding.{blocks_begin, blocks_go_on}
 use Rattle.cm_blocks.proofs.Filling.{leaving_then_taking_in}
@@ -120,7 +120,7 @@ over_columns n k dir.West row long = long
 over_columns n k dir.South row long = long
 
 -- what is due is of the round's kind
-due_of_kind : (n k room : ℕ) (step : Step) (s : Part) → is_round n k step ≡ true → s.count ≡ size n k
+due_of_kind : (n k room : ℕ) (step : Step) (s : Part) → is_round n k step ≡ true → s.count ≡ block_size n k
     → IsOfKind n k (kind_of step) (due n room step s)
 unfolding due
 due_of_kind n k room (Instruct nano) s round count =
@@ -147,7 +147,7 @@ giver_is_sender n k Inject b round = absurd (let wrong : false ≡ true = round 
 giver_is_sender n k (Cross d) b round = refl
 giver_is_sender n k Deliver b round = absurd (let wrong : false ≡ true = round in cc)
 
-pub count_of_block : (n k b : ℕ) (machine : Machine) → (block n k b machine).count ≡ size n k
+pub count_of_block : (n k b : ℕ) (machine : Machine) → (block n k b machine).count ≡ block_size n k
 unfolding part
 count_of_block n k b machine = refl
 
@@ -183,7 +183,7 @@ begun_own run b old new within below cut gone =
       dims = gone.same.dims;
       room_is = gone.same.room;
       part = part_is;
-      log_room = room_left (events_in room (local_after n k acts None)) (events_in room (ahead n k acts 0))
+      log_room = room_left (events_in room (local_after n k acts None)) (events_in room (steps_after_round n k acts 0))
           (cycles_in acts * (4 + room)) old.kept.log_rooms new.kept.log_rooms ((events_shared room).first n k acts)
           cut.log_room gone.log_room;
       clock = let f = deliveries_shared.first n k acts in let c = cut.clock in omega (arith, f, c, counted);
@@ -297,8 +297,8 @@ pub record StandsSent (run : Run) (r b : ℕ) (round : Round) (one : KeptBlock) 
   pub dims : one.kept.dims ≡ run.n
   pub room_is : one.kept.room ≡ run.room
   pub part : one.kept.part ≡ less run.room (step_of round) (block run.n run.k b (before run r))
-  pub log_room : HaveLogRoom (events_in run.room (ahead run.n run.k run.acts r)) one.kept.log_rooms
-  pub clock : one.kept.part.clock + deliveries (ahead run.n run.k run.acts r) < 2 ^ 63
+  pub log_room : HaveLogRoom (events_in run.room (steps_after_round run.n run.k run.acts r)) one.kept.log_rooms
+  pub clock : one.kept.part.clock + deliveries (steps_after_round run.n run.k run.acts r) < 2 ^ 63
   pub space : HaveSpaceFor round.kind one.kept.room one.kept.part
 
 pub sent : (run : Run) (r b : ℕ) (round : Round) (old new : KeptBlock) (e : Course Parcel) → StandsBefore run r b old
@@ -313,9 +313,9 @@ sent run r b round old new e st is =
       dims = is.same.dims ∙ st.dims;
       room_is = is.same.room ∙ st.room_is;
       part = part_is;
-      log_room = subst (λ (rooms : List ℕ). HaveLogRoom (events_in run.room (ahead run.n run.k run.acts r)) rooms)
+      log_room = subst (λ (rooms : List ℕ). HaveLogRoom (events_in run.room (steps_after_round run.n run.k run.acts r)) rooms)
           (sym is.log_room) st.log_room;
-      clock = subst (λ (c : ℕ). c + deliveries (ahead run.n run.k run.acts r) < 2 ^ 63) (sym clock_is) st.clock;
+      clock = subst (λ (c : ℕ). c + deliveries (steps_after_round run.n run.k run.acts r) < 2 ^ 63) (sym clock_is) st.clock;
       space = is.space;
     }
 
@@ -373,7 +373,7 @@ module _ (run : Run) (r b : ℕ) (phase : Phase) (one : KeptBlock)
       log_room = subst (λ (xs : List Step). HaveLogRoom (events_in one.kept.room xs) one.kept.log_rooms)
           followed_it.between
           (less_room (events_in one.kept.room (steps_between one.kept.dims one.k run.acts r))
-          (events_in one.kept.room (ahead one.kept.dims one.k run.acts r)) one.kept.log_rooms
+          (events_in one.kept.room (steps_after_round one.kept.dims one.k run.acts r)) one.kept.log_rooms
           (let f = (events_shared one.kept.room).next one.kept.dims one.k r run.acts in omega (arith, f)) st.log_room);
       clock = subst (λ (xs : List Step). one.kept.part.clock + deliveries xs < 2 ^ 63) followed_it.between
           (let f = deliveries_shared.next one.kept.dims one.k r run.acts in let c = st.clock in omega (arith, f, c));
@@ -406,20 +406,20 @@ module _ (run : Run) (r b : ℕ) (phase : Phase) (one : KeptBlock)
       (absorbed n room (step_of (round_of phase)) (due_now giver_end) one.kept.part)
       ∙ ap (λ (c : ℕ). c + deliveries (local_after n k acts (Some (round_of phase))))
       (clock_stands n room (step_of (round_of phase)) (due_now giver_end) one.kept.part) in
-      let shared : deliveries (local_after n k acts (Some (round_of phase))) + deliveries (ahead n k acts (r + 1))
-      ≡ deliveries (ahead n k acts r) =
-      ap (λ steps. deliveries steps + deliveries (ahead n k acts (r + 1))) (sym followed_it.between)
+      let shared : deliveries (local_after n k acts (Some (round_of phase))) + deliveries (steps_after_round n k acts (r + 1))
+      ≡ deliveries (steps_after_round n k acts r) =
+      ap (λ steps. deliveries steps + deliveries (steps_after_round n k acts (r + 1))) (sym followed_it.between)
       ∙ deliveries_shared.next n k r acts in
-      let events : events_in room (local_after n k acts (Some (round_of phase))) + events_in room (ahead n k acts (r + 1))
-      ≡ events_in room (ahead n k acts r) =
-      ap (λ steps. events_in room steps + events_in room (ahead n k acts (r + 1))) (sym followed_it.between)
+      let events : events_in room (local_after n k acts (Some (round_of phase))) + events_in room (steps_after_round n k acts (r + 1))
+      ≡ events_in room (steps_after_round n k acts r) =
+      ap (λ steps. events_in room steps + events_in room (steps_after_round n k acts (r + 1))) (sym followed_it.between)
       ∙ (events_shared room).next n k r acts in record {
         blocks = got.same.blocks;
         dims = got.same.dims;
         room_is = got.same.room;
         part = part_is;
         log_room = room_left (events_in room (local_after n k acts (Some (round_of phase))))
-            (events_in room (ahead n k acts (r + 1))) (events_in room (ahead n k acts r)) one.kept.log_rooms
+            (events_in room (steps_after_round n k acts (r + 1))) (events_in room (steps_after_round n k acts r)) one.kept.log_rooms
             new.kept.log_rooms events st.log_room got.log_room;
         clock = let c = st.clock in omega (arith, counted, shared, c);
       }

@@ -3,7 +3,7 @@ use Rattle.std.specs.Prelude.{◌≡◌, ℕ, ◌+◌, ◌-◌, ◌*◌, ◌/◌
 use Rattle.cm_blocks.specs.Counts.{deliveries, events_in}
 use Rattle.cm_blocks.specs.Parts.{block}
 use Rattle.cm_blocks.specs.Parcels.{Parcel}
-use Rattle.cm_blocks.specs.Rounds.{ahead}
+use Rattle.cm_blocks.specs.Rounds.{steps_after_round}
 use Rattle.cm_array.specs.Acts.{cycles_in}
 use Rattle.cm_router.specs.Logs.{HaveLogRoom}
 use Rattle.cm_subcube.specs.Blocks.{KeptBlock}
@@ -26,8 +26,8 @@ pub record StandsBefore (run : Run) (r b : ℕ) (one : KeptBlock) : Type 0 where
   pub dims : one.kept.dims ≡ run.n
   pub room_is : one.kept.room ≡ run.room
   pub part : one.kept.part ≡ block run.n run.k b (before run r)
-  pub log_room : HaveLogRoom (events_in run.room (ahead run.n run.k run.acts r)) one.kept.log_rooms
-  pub clock : one.kept.part.clock + deliveries (ahead run.n run.k run.acts r) < 2 ^ 63
+  pub log_room : HaveLogRoom (events_in run.room (steps_after_round run.n run.k run.acts r)) one.kept.log_rooms
+  pub clock : one.kept.part.clock + deliveries (steps_after_round run.n run.k run.acts r) < 2 ^ 63
 
 -- the number of a worker's block: worker w of so many has blocks w, count + w, and so on
 abbrev pub number : ℕ → ℕ → ℕ → ℕ

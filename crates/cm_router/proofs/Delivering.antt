@@ -21,7 +21,7 @@ use Rattle.cm_model.specs.Whole.{IsChip}
 use Rattle.cm_model.specs.Letters.{can_receive, has_arrived, is_for, is_among, processor_after_delivery}
 use Rattle.cm_model.specs.Letters.{chip_after_delivery}
 use Rattle.cm_model.specs.OneChip.{is_accepted, arrived_for, delivered, kept}
-use Rattle.cm_model.specs.Delivery.{arrived_in, HasGone, HasHandedOver}
+use Rattle.cm_model.specs.Delivery.{arrived_in, HasDelivered, HasHandedOver}
 use Rattle.cm_model.proofs.Each.{is_each, same_each_below, get_or-each_below}
 use Rattle.cm_model.proofs.Bits.{bit-bit_and, bit-bit_not}
 use Rattle.cm_model.proofs.Scan.{out_of}
@@ -74,7 +74,7 @@ still_open b m chip p h is known =
 
 -- such a chip is that after the delivery of one message more
 chip_more : (b : Bool) (before : List Processor) (seen : List Message) (m : Message) (chip : List Processor)
-    → HasGone before seen chip → (b ≡ true → can_receive chip m.proc ≡ true)
+    → HasDelivered before seen chip → (b ≡ true → can_receive chip m.proc ≡ true)
     → chip_handed b m chip ≡ chip_after_delivery (out_of before seen ++ (if b then m ∷ [] else [])) before
 chip_more true before seen m chip gone receives =
     let out : List Message = out_of before seen in
@@ -91,7 +91,7 @@ chip_more false before seen m chip gone receives = gone.chip_is ∙ rw append-ni
 
 -- a message is delivered if it has arrived and its processor can receive, else kept
 pub handed_over : (b : Bool) (before : List Processor) (seen : List Message) (m : Message) (chip : List Processor)
-    → HasGone before seen chip → b ≡ (has_arrived m && can_receive chip m.proc)
+    → HasDelivered before seen chip → b ≡ (has_arrived m && can_receive chip m.proc)
     → (has_arrived m ≡ true → IsChip chip × (m.proc < 16)) → HasHandedOver b before seen m (chip_handed b m chip)
 handed_over b before seen m chip gone is known =
     let accepted : is_accepted (can_receive before) (arrived_in [] seen) m ≡ b = grind (arith, gone.open m.proc) in
@@ -123,7 +123,7 @@ unfolding chip_after_delivery
 nobody_yet chip whole = is_each no_processor 16 (λ p. processor_at chip p) chip whole.count (λ p h. refl)
 
 -- none of the messages gone through yet
-pub nothing_seen : (chip : List Processor) → IsChip chip → HasGone chip [] chip
+pub nothing_seen : (chip : List Processor) → IsChip chip → HasDelivered chip [] chip
 nothing_seen chip whole = record {
   whole = whole;
   chip_is = nobody_yet chip whole;
@@ -170,7 +170,7 @@ bit-without_one plane k p below here =
     (bit-bit_not ((1 * 2 ^ k) % 65536) p (mod-lt (1 * 2 ^ k) (lit< tt)) here ∙ ap not (bit-one k p below))
 
 -- a chip of whose buffer some messages have been gone through is whole
-pub gone_is_whole : {before : List Processor} {seen : List Message} {chip : List Processor} → HasGone before seen chip
+pub gone_is_whole : {before : List Processor} {seen : List Message} {chip : List Processor} → HasDelivered before seen chip
     → IsChip chip
 gone_is_whole gone = rw gone.chip_is (IsChip-after_delivery _ _ gone.whole)
 

@@ -13,18 +13,18 @@ use Rattle.cm_model.specs.Processor.{Processor}
 use Rattle.cm_model.specs.Array.{list_at}
 use Rattle.cm_model.specs.Letters.{messages_sent}
 use Rattle.cm_model.proofs.Each.{length-each_from, get_or-each_below, is_each}
-use Rattle.cm_router.specs.Rows.{teller, told_by, with_row}
+use Rattle.cm_router.specs.Rows.{teller, events_of_chip, with_row}
 
-pub told_by-append : (c : ℕ) (row more : List Event) → told_by c (row ++ more) ≡ told_by c row ++ told_by c more
-told_by-append c row more = filter-append (λ e. teller e == c) row more
+pub events_of_chip-append : (c : ℕ) (row more : List Event) → events_of_chip c (row ++ more) ≡ events_of_chip c row ++ events_of_chip c more
+events_of_chip-append c row more = filter-append (λ e. teller e == c) row more
 
 pub length-with_row : (logs : List (List Event)) (row : List Event) → length (with_row logs row) ≡ length logs
-length-with_row logs row = length-each_from 0 (length logs) (λ c. list_at logs c ++ told_by c row)
+length-with_row logs row = length-each_from 0 (length logs) (λ c. list_at logs c ++ events_of_chip c row)
 
 -- a chip's log
 pub with_row_at : (logs : List (List Event)) (row : List Event) (c : ℕ) → c < length logs
-    → list_at (with_row logs row) c ≡ list_at logs c ++ told_by c row
-with_row_at logs row c inside = get_or-each_below (length logs) (λ k. list_at logs k ++ told_by k row) c [] inside
+    → list_at (with_row logs row) c ≡ list_at logs c ++ events_of_chip c row
+with_row_at logs row c inside = get_or-each_below (length logs) (λ k. list_at logs k ++ events_of_chip k row) c [] inside
 
 -- a row that tells nothing
 pub with_row-nil : (logs : List (List Event)) → with_row logs [] ≡ logs
@@ -34,14 +34,14 @@ with_row-nil logs = sym (is_each [] (length logs) (λ c. list_at logs c ++ []) l
 -- ---- what one chip tells
 
 -- of what another chip tells a chip tells nothing
-told_elsewhere : (c k : ℕ) (es : List Event) → k ≢ c → All (λ e. teller e ≡ c) es → told_by k es ≡ []
+told_elsewhere : (c k : ℕ) (es : List Event) → k ≢ c → All (λ e. teller e ≡ c) es → events_of_chip k es ≡ []
 told_elsewhere c k [] other all = refl
 told_elsewhere c k (e ∷ es) other all =
     let not_it : (teller e == k) ≡ false = grind (arith, nat_tests, All-head (λ x. teller x ≡ c) e es all) in
     rw not_it (told_elsewhere c k es other (All-tail (λ x. teller x ≡ c) e es all))
 
 -- and of what it tells itself all
-told_here : (c : ℕ) (es : List Event) → All (λ e. teller e ≡ c) es → told_by c es ≡ es
+told_here : (c : ℕ) (es : List Event) → All (λ e. teller e ≡ c) es → events_of_chip c es ≡ es
 told_here c [] all = refl
 told_here c (e ∷ es) all =
     let it : (teller e == c) ≡ true = grind (arith, nat_tests, All-head (λ x. teller x ≡ c) e es all) in
@@ -53,8 +53,8 @@ pub told_more : (logs : List (List Event)) (row es : List Event) (c : ℕ) → c
 told_more logs row es c inside all =
     with_row_at logs (row ++ es) c inside
     ∙ ap (λ (xs : List Event). list_at logs c ++ xs)
-    (told_by-append c row es ∙ ap (λ (xs : List Event). told_by c row ++ xs) (told_here c es all))
-    ∙ sym (append_assoc (list_at logs c) (told_by c row) es)
+    (events_of_chip-append c row es ∙ ap (λ (xs : List Event). events_of_chip c row ++ xs) (told_here c es all))
+    ∙ sym (append_assoc (list_at logs c) (events_of_chip c row) es)
     ∙ ap (λ (xs : List Event). xs ++ es) (sym (with_row_at logs row c inside))
 
 pub told_no_more : (logs : List (List Event)) (row es : List Event) (c k : ℕ) → k ≢ c
@@ -64,8 +64,8 @@ told_no_more logs row es c k other all =
     (λ (inside : k < length logs).
     with_row_at logs (row ++ es) k inside
     ∙ ap (λ (xs : List Event). list_at logs k ++ xs)
-    (told_by-append k row es ∙ ap (λ (xs : List Event). told_by k row ++ xs) (told_elsewhere c k es other all)
-    ∙ append-nil (told_by k row))
+    (events_of_chip-append k row es ∙ ap (λ (xs : List Event). events_of_chip k row ++ xs) (told_elsewhere c k es other all)
+    ∙ append-nil (events_of_chip k row))
     ∙ sym (with_row_at logs row k inside))
     (λ (past : length logs ≤ k).
     get_or_past (with_row logs (row ++ es)) k [] (omega (arith, length-with_row logs (row ++ es)))

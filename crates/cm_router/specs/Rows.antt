@@ -12,9 +12,9 @@ teller (Injected m) = m.tag.chip
 teller (Delivered chip m) = chip
 
 -- what a chip tells in a row of events, in their order
-abbrev pub told_by : ℕ → List Event → List Event
-told_by c row = filter (λ e. teller e == c) row
+abbrev pub events_of_chip : ℕ → List Event → List Event
+events_of_chip c row = filter (λ e. teller e == c) row
 
 -- logs by chip, behind each of which stands what a row tells of its chip
 abbrev pub with_row : List (List Event) → List Event → List (List Event)
-with_row logs row = each_from 0 (length logs) (λ c. list_at logs c ++ told_by c row)
+with_row logs row = each_from 0 (length logs) (λ c. list_at logs c ++ events_of_chip c row)

@@ -9,7 +9,7 @@ ghost use Rattle.std.specs.List.{All};
 ghost use Rattle.cm_model.specs.Chip.{IsPlane};
 ghost use Rattle.cm_model.specs.Array.{Chips, chip_at};
 ghost use Rattle.cm_model.specs.Letters.{has_arrived, can_receive, chip_after_delivery};
-ghost use Rattle.cm_model.specs.Delivery.{HasGone, HasHandedOver};
+ghost use Rattle.cm_model.specs.Delivery.{HasDelivered, HasHandedOver};
 ghost use Rattle.cm_router.specs.Logs.{log_room};
 ghost use Rattle.cm_router.specs.Deliveries.{chip_handed, run_after, AreBefore};
 
@@ -68,7 +68,7 @@ impl Deliveries {
     pub fn receivers(&self, run: &Run, place: u16) -> Plane
         requires place { place < length run.now }
         requires before { AreBefore place self.now }
-        ensures gone { HasGone (chip_at (run_after self.now run.now) place) []
+        ensures gone { HasDelivered (chip_at (run_after self.now run.now) place) []
             (chip_at (run_after self.now run.now) place) }
         ensures value { IsPlane result (can_receive (chip_at (run_after self.now run.now) place)) }
         ensures chips { length (run_after self.now run.now) ≡ length run.now }
@@ -90,10 +90,10 @@ impl Deliveries {
     ) -> bool
         requires room { length self.old < 128 }
         requires log_room { 0 < log_room log.old }
-        ensures step { (before chip : List Processor) (seen : List Message) → HasGone before seen chip
+        ensures step { (before chip : List Processor) (seen : List Message) → HasDelivered before seen chip
             → IsPlane receivers.old (can_receive chip)
             → HasHandedOver result before seen message.now (chip_handed result message.now chip) }
-        ensures receivers { (before chip : List Processor) (seen : List Message) → HasGone before seen chip
+        ensures receivers { (before chip : List Processor) (seen : List Message) → HasDelivered before seen chip
             → IsPlane receivers.old (can_receive chip)
             → IsPlane receivers.new (can_receive (chip_handed result message.now chip)) }
         ensures later { (run : Chips) → run_after self.new run ≡ slice_set (run_after self.old run) place
@@ -176,7 +176,8 @@ pub fn pass_over(run: &Run)
 /// Whether a processor can receive, of those that can. Where it cannot, a message for it is kept.
 pub fn receives(receivers: Plane, proc: Proc) -> bool
     ensures kept { IsFalse result → (before chip : List Processor) (seen : List Message) (m : Message) → m.proc ≡ proc
-        → IsPlane receivers (can_receive chip) → HasGone before seen chip → HasHandedOver false before seen m chip }
+        → IsPlane receivers (can_receive chip) → HasDelivered before seen chip
+        → HasHandedOver false before seen m chip }
 {
     is_one(receivers, proc)
 }
@@ -184,5 +185,5 @@ pub fn receives(receivers: Plane, proc: Proc) -> bool
 /// A message that has not arrived is kept, whoever can receive.
 pub fn who_has_not_arrived_is_kept()
     ensures law { (before : List Processor) (seen : List Message) (m : Message) (chip : List Processor)
-        → has_arrived m ≡ false → HasGone before seen chip → HasHandedOver false before seen m chip }
+        → has_arrived m ≡ false → HasDelivered before seen chip → HasHandedOver false before seen m chip }
 {}

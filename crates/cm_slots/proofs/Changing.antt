@@ -10,7 +10,7 @@ use Rattle.std.proofs.lemmas.List.Elements.{All-set}
 use Rattle.std.proofs.lemmas.Option.{slice_get-map, slice_get-get_or, slice_get_past}
 use Rattle.cm_slots.specs.declared.tile.Tile.{Tile}
 use Rattle.cm_slots.specs.Slots.{is_taken, AreSlots}
-use Rattle.cm_slots.specs.Tiles.{slots_of, standing_at, IsShaped, IsQuiet, IsTile, IsPut, HasChanged}
+use Rattle.cm_slots.specs.Tiles.{slots_of, numbers_standing_at, IsShaped, IsQuiet, IsTile, IsPut, HasChanged}
 use Rattle.cm_slots.specs.Runs.{no_tile, tile_at, numbers_at, tickets_of, IsChanged}
 use Rattle.cm_slots.specs.declared.ticket.Ticket.{Ticket}
 use Rattle.cm_slots.specs.Tickets.{ticket_of, ticket_in}
@@ -55,31 +55,31 @@ pub changed : (place : ℕ) (numbers : List ℕ) (old new : Tile) → IsTile old
     → AreSlots (slots_of new place) numbers → ((i j : ℕ) → i ≢ place → slots_of new i j ≡ slots_of old i j)
     → HasChanged place numbers old new
 changed place numbers old new whole shape awake here others =
-    let kept : (i : ℕ) → i < 64 → i ≢ place → AreSlots (slots_of new i) (standing_at old i) = λ i h e.
+    let kept : (i : ℕ) → i < 64 → i ≢ place → AreSlots (slots_of new i) (numbers_standing_at old i) = λ i h e.
     let was = whole.queues i h in
     record { fits = was.fits; each = λ j. others i j e ∙ was.each j; taken = was.taken } in
     record {
       whole = record {
         shape = shape;
         queues = λ i h. ⊎_elim (λ (e : i ≡ place). rw e (stands new place numbers here))
-            (λ (e : i ≢ place). stands new i (standing_at old i) (kept i h e)) (cases_eq i place);
+            (λ (e : i ≢ place). stands new i (numbers_standing_at old i) (kept i h e)) (cases_eq i place);
         quiet = λ asleep. absurd (cc (awake, asleep));
       };
       here = standing_is new place numbers here;
-      others = λ i h e. standing_is new i (standing_at old i) (kept i h e);
+      others = λ i h e. standing_is new i (numbers_standing_at old i) (kept i h e);
     }
 
 -- the last that closes up is nobody
 pub taken_out : (place slot later : ℕ) (old now new : Tile) → place < 64 → IsTile old
-    → slot < length (standing_at old place) → slot < later → slots_of old place later ≡ 0
+    → slot < length (numbers_standing_at old place) → slot < later → slots_of old place later ≡ 0
     → IsPut place (later - 1) 0 now new → IsClosing slot later (slots_of old place) (slots_of now place)
     → ((i j : ℕ) → i ≢ place → slots_of now i j ≡ slots_of old i j)
-    → HasChanged place (remove (standing_at old place) slot) old new
+    → HasChanged place (remove (numbers_standing_at old place) slot) old new
 taken_out place slot later old now new inside whole there order none put closing others =
     let are = whole.queues place inside in
-    changed place (remove (standing_at old place) slot) old new whole put.shape put.awake
-    (removed slot later (slots_of old place) (slots_of new place) (standing_at old place) are there
-    ((ends_at later (slots_of old place) (standing_at old place) are).0 none)
+    changed place (remove (numbers_standing_at old place) slot) old new whole put.shape put.awake
+    (removed slot later (slots_of old place) (slots_of new place) (numbers_standing_at old place) are there
+    ((ends_at later (slots_of old place) (numbers_standing_at old place) are).0 none)
     (one_more_closed slot later (slots_of old place) (slots_of now place) (slots_of new place) order
     (put.here ∙ sym (closing.ahead later (omega arith) ∙ none)) put.same closing))
     (λ i j e. put.others i j e ∙ others i j e)

@@ -15,7 +15,7 @@ use Rattle.cm_slots.specs.Queues.{place_of_leaver}
 use Rattle.cm_slots.specs.Slots.{crosses, AreSlots, IsCarried}
 use Rattle.cm_slots.specs.Tickets.{ticket_of, has_to_go}
 use Rattle.cm_slots.specs.Choice.{is_lower_one, lowest_place, is_lower_or_none, highest_place, place_by}
-use Rattle.cm_slots.specs.Choice.{mark_of, key_of, place_found, IsLeast, IsFound}
+use Rattle.cm_slots.specs.Choice.{mark_of, slot_key, place_found, IsLeast, IsFound}
 use Rattle.cm_slots.proofs.Numbers.{has_to_go_is}
 
 -- ---- who is carried from a place on
@@ -31,14 +31,14 @@ one_more_carried_from p k old now new here next next_is new_is same was = grind 
 
 -- ---- the least key
 
-key_of-most : (d place slot : ℕ) → place < 15 → key_of d place slot ≤ 2097151
-key_of-most d place slot h = grind arith
+slot_key-most : (d place slot : ℕ) → place < 15 → slot_key d place slot ≤ 2097151
+slot_key-most d place slot h = grind arith
 
-pub least_first : (d : ℕ) (slots : ℕ → ℕ) (least was : ℕ) → was ≡ 2097151 → least ≡ min (key_of d 0 (slots 0)) was
+pub least_first : (d : ℕ) (slots : ℕ → ℕ) (least was : ℕ) → was ≡ 2097151 → least ≡ min (slot_key d 0 (slots 0)) was
     → IsLeast d 0 slots least
 least_first d slots least was most is =
-    let low : key_of d 0 (slots 0) ≤ 2097151 = key_of-most d 0 (slots 0) (omega arith) in
-    let same : least ≡ key_of d 0 (slots 0) = omega (arith, is, low, most) in
+    let low : slot_key d 0 (slots 0) ≤ 2097151 = slot_key-most d 0 (slots 0) (omega arith) in
+    let same : least ≡ slot_key d 0 (slots 0) = omega (arith, is, low, most) in
     record {
       at = 0;
       there = omega arith;
@@ -46,11 +46,11 @@ least_first d slots least was most is =
       all = λ j h. let none : j ≡ 0 = omega arith in rw none (omega (arith, same));
     }
 
-pub least_more : (d k : ℕ) (slots : ℕ → ℕ) (least was : ℕ) → least ≡ min (key_of d (suc k) (slots (suc k))) was
+pub least_more : (d k : ℕ) (slots : ℕ → ℕ) (least was : ℕ) → least ≡ min (slot_key d (suc k) (slots (suc k))) was
     → IsLeast d k slots was → IsLeast d (suc k) slots least
 least_more d k slots least was is before =
-    let next : ℕ = key_of d (suc k) (slots (suc k)) in
-    let all : (j : ℕ) → j ≤ suc k → least ≤ key_of d j (slots j) = λ j h.
+    let next : ℕ = slot_key d (suc k) (slots (suc k)) in
+    let all : (j : ℕ) → j ≤ suc k → least ≤ slot_key d j (slots j) = λ j h.
     ⊎_elim (λ (e : j ≡ suc k). rw e (omega (arith, is)))
     (λ (e : j ≢ suc k). omega (arith, is, before.all j (omega (arith, e)))) (cases_eq j (suc k)) in
     ⊎_elim
@@ -215,10 +215,10 @@ module _ (d room reach : ℕ) (slots : ℕ → ℕ) (xs : List ℕ) (are : AreSl
   blank : (j : ℕ) → length xs ≤ j → crosses d (slots j) ≡ false
   blank j l = rw (are.each j, get_or_past xs j 0 l) (bit-zero (16 + d))
 
-  crossing_key : (j : ℕ) → crosses d (slots j) ≡ true → key_of d j (slots j) ≡ mark_of j (slots j)
+  crossing_key : (j : ℕ) → crosses d (slots j) ≡ true → slot_key d j (slots j) ≡ mark_of j (slots j)
   crossing_key j e = rw e refl
 
-  staying_key : (j : ℕ) → crosses d (slots j) ≡ false → key_of d j (slots j) ≡ 2097151 - mark_of j (slots j)
+  staying_key : (j : ℕ) → crosses d (slots j) ≡ false → slot_key d j (slots j) ≡ 2097151 - mark_of j (slots j)
   staying_key j e = rw e refl
 
   -- one that has to cross has the least key

@@ -25,7 +25,7 @@ use Rattle.cm_slots.specs.Tickets.{has_to_go, has_come, ticket_of}
 use Rattle.cm_slots.specs.Choice.{place_by, exchanged_by}
 use Rattle.cm_slots.specs.declared.tile.Tile.{Tile}
 use Rattle.cm_slots.specs.Slots.{is_taken, is_arrival, leaver_at, comers, AreSlots}
-use Rattle.cm_slots.specs.Tiles.{slots_of, standing_at, IsTile}
+use Rattle.cm_slots.specs.Tiles.{slots_of, numbers_standing_at, IsTile}
 use Rattle.cm_slots.specs.Runs.{no_tile, tile_at, leavers_at, numbers_at, tickets_of, queues_in, AreTiles, AreWithin}
 use Rattle.cm_slots.specs.Moves.{ticket_over, queues_over, AreMovable, slot_over, AreFirst, HasMoved}
 use Rattle.cm_slots.proofs.Standing.{standing_is, stands}
@@ -187,7 +187,7 @@ behind_blank slots xs are few j = are.each (suc j) ∙ get_or_past xs (suc j) 0 
 -- ---- of a tile
 
 pub has_moved : (dims : ℕ) (first : Option (List ℕ)) (old new : Tile) → IsTile old
-    → ((i : ℕ) → i < 64 → length (standing_at old i) ≤ 1)
+    → ((i : ℕ) → i < 64 → length (numbers_standing_at old i) ≤ 1)
     → ((i : ℕ) → i < 64 → leaver_at first i ≢ 0 → is_taken (leaver_at first i) ≡ true) → new.rest ≡ old.rest
     → length new.first ≡ 64 → (new.awake ≡ false → first ≡ None)
     → ((i : ℕ) → i < 64 → slice_index new.first i ≡ slot_over dims (leaver_at first (bit_xor i (dims % 64))))
@@ -196,7 +196,7 @@ has_moved dims first old new whole few taken same long asleep each =
     let comes : ℕ → ℕ = λ i. slot_over dims (leaver_at first (bit_xor i (dims % 64))) in
     let are : (i : ℕ) → i < 64 → AreSlots (slots_of new i) (comers (comes i)) = λ i h.
     alone (slots_of new i) (comes i) (each i h)
-    (λ j. rw same (behind_blank (slots_of old i) (standing_at old i) (whole.queues i h) (few i h) j))
+    (λ j. rw same (behind_blank (slots_of old i) (numbers_standing_at old i) (whole.queues i h) (few i h) j))
     (slot_over_taken dims (leaver_at first (bit_xor i (dims % 64)))
     (taken (bit_xor i (dims % 64)) (xor_lt 6 i (dims % 64) h (omega arith)))) in
     record {
@@ -234,7 +234,7 @@ module _ (tiles : List Tile) (firsts : List (Option (List ℕ))) (whole : All Is
   pub first_taken : (t : ℕ) → t < length tiles → (i : ℕ) → i < 64 → leaver_at (leavers_at firsts t) i ≢ 0
       → is_taken (leaver_at (leavers_at firsts t) i) ≡ true
   first_taken t h i l = rw ((are t h).each i l)
-      (taken_in (slots_of (tile_at tiles t) i) (standing_at (tile_at tiles t) i) ((whole t no_tile h).queues i l) 0)
+      (taken_in (slots_of (tile_at tiles t) i) (numbers_standing_at (tile_at tiles t) i) ((whole t no_tile h).queues i l) 0)
 
   -- who stood at the chip across stands at a chip
   pub chip_moved : (dims : ℕ) (new : List Tile) (c : ℕ) → AreWithin 1 tiles → bit_xor c dims / 64 < length tiles
@@ -248,7 +248,7 @@ module _ (tiles : List Tile) (firsts : List (Option (List ℕ))) (whole : All Is
       let stand = (whole (other / 64) no_tile there).queues (other % 64) (omega arith) in
       let first : leaver_at (leavers_at firsts (other / 64)) (other % 64) ≡ slots 0 =
       (are (other / 64) there).each (other % 64) (omega arith) in
-      let comes : standing_at (tile_at new (c / 64)) (c % 64) ≡ comers (slot_over dims (slots 0)) =
+      let comes : numbers_standing_at (tile_at new (c / 64)) (c % 64) ≡ comers (slot_over dims (slots 0)) =
       moved.each (c % 64) (omega arith) ∙ rw (← tile, ← place, first) refl in
       rw comes (map-comers-over dims (slots 0) (taken_in slots (numbers_at tiles other) stand 0))
       ∙ ap (λ (xs : List ℕ). map (ticket_over dims) (map ticket_of xs))

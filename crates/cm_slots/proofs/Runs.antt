@@ -13,7 +13,7 @@ use Rattle.cm_slots.specs.declared.tile.Tile.{Tile}
 use Rattle.cm_slots.specs.declared.order.Order.{Order}
 use Rattle.cm_slots.specs.Slots.{comers, AreSlots, is_taken, slot_behind}
 use Rattle.cm_slots.specs.Choice.{staying_by, exchanged_by}
-use Rattle.cm_slots.specs.Tiles.{slots_of, IsShaped, IsQuiet, HasTakenIn, standing_at, IsTile, HasGone, stayers_by}
+use Rattle.cm_slots.specs.Tiles.{slots_of, IsShaped, IsQuiet, HasTakenIn, numbers_standing_at, IsTile, HasTicketLeft, stayers_by}
 use Rattle.cm_slots.specs.Runs.{no_tile, tile_at, tile_across, place_across, arriving, number_leaving, numbers_at}
 use Rattle.cm_slots.specs.Runs.{tickets_of, HaveLeft, HaveTakenIn, AreWithin, AreLeavers}
 use Rattle.cm_slots.proofs.Standing.{nobody_comes, standing_is, stands}
@@ -88,7 +88,7 @@ across_in dims d t h l =
 module _ {order : Order} {room d : ℕ} {old left : List Tile} {leaving : List (Option (List ℕ))}
     (gone : HaveLeft order room d old left leaving) where
   -- who leaves a chip
-  pub gone_at : (c : ℕ) → c / 64 < length old → HasGone order room d (numbers_at old c) (number_leaving leaving c)
+  pub gone_at : (c : ℕ) → c / 64 < length old → HasTicketLeft order room d (numbers_at old c) (number_leaving leaving c)
       (slot_behind (tile_at left (c / 64)).rest (c % 64))
   gone_at c h = (gone.each (c / 64) h).gone (c % 64) (omega arith)
 
@@ -108,13 +108,13 @@ module _ {order : Order} {room d : ℕ} {old left : List Tile} {leaving : List (
   -- who comes, by tile and place, is taken in behind who stays
   module _ {coming : ℕ → ℕ → ℕ} {new : List Tile} (come : HaveTakenIn room coming left new) where
     slots_after : (t i : ℕ) → t < length old → i < 64 → AreSlots (slots_of (tile_at new t) i)
-        (stayers_by order room d (standing_at (tile_at old t) i) ++ comers (coming t i))
+        (stayers_by order room d (numbers_standing_at (tile_at old t) i) ++ comers (coming t i))
     slots_after t i h l =
         let has = (gone.each t h).gone i l in
         (come.each t (omega (arith, gone.long))).came i _ l has.few has.stay
 
-    standing_after : (t i : ℕ) → t < length old → i < 64 → standing_at (tile_at new t) i
-        ≡ stayers_by order room d (standing_at (tile_at old t) i) ++ comers (coming t i)
+    standing_after : (t i : ℕ) → t < length old → i < 64 → numbers_standing_at (tile_at new t) i
+        ≡ stayers_by order room d (numbers_standing_at (tile_at old t) i) ++ comers (coming t i)
     standing_after t i h l = standing_is (tile_at new t) i _ (slots_after t i h l)
 
     pub whole_after : All IsTile new
@@ -132,7 +132,7 @@ module _ {order : Order} {room d : ℕ} {old left : List Tile} {leaving : List (
         let few = ((gone.each t inside).gone i l).few in
         rw (
           standing_after t i inside l,
-          length-append (stayers_by order room d (standing_at (tile_at old t) i))
+          length-append (stayers_by order room d (numbers_standing_at (tile_at old t) i))
               (comers (coming t i)),
         ) (grind arith)
 
@@ -147,7 +147,7 @@ module _ {order : Order} {room d : ℕ} {old left : List Tile} {leaving : List (
     -- nobody comes
     module _ (nobody : (t i : ℕ) → coming t i ≡ 0) where
       closed_at : (t i : ℕ) → t < length old → i < 64
-          → standing_at (tile_at new t) i ≡ stayers_by order room d (standing_at (tile_at old t) i)
+          → numbers_standing_at (tile_at new t) i ≡ stayers_by order room d (numbers_standing_at (tile_at old t) i)
       closed_at t i h l = standing_after t i h l ∙ rw (nobody t i) (append-nil _)
 
       pub closed_up : (c : ℕ) → c / 64 < length old

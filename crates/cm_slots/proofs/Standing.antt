@@ -19,7 +19,7 @@ use Rattle.cm_slots.specs.Choice.{place_by, IsFound}
 use Rattle.cm_slots.specs.Slots.{crosses, is_taken, slot_across, comers, first_of, slot_behind, leaver_in, AreSlots}
 use Rattle.cm_slots.specs.Slots.{IsCarried}
 use Rattle.cm_slots.specs.declared.tile.Tile.{Tile}
-use Rattle.cm_slots.specs.Tiles.{slots_of, standing_at, IsTile, HasGone}
+use Rattle.cm_slots.specs.Tiles.{slots_of, numbers_standing_at, IsTile, HasTicketLeft}
 use Rattle.cm_slots.proofs.Carrying.{first_of-is}
 use Rattle.cm_slots.proofs.Choosing.{Goes, NobodyGoes, chosen_is, place_by-nobody}
 use Rattle.cm_slots.proofs.Numbers.{going_is, going_taken, same_place}
@@ -33,15 +33,15 @@ ends_first : (slots : ℕ → ℕ) (xs : List ℕ) → AreSlots slots xs → fir
 ends_first slots xs are =
     first_of-is (λ j. slots j == 0) 15 (length xs) are.fits (grind (arith, are.taken)) (grind (arith, get_or_past))
 
-pub standing_is : (tile : Tile) (i : ℕ) (xs : List ℕ) → AreSlots (slots_of tile i) xs → standing_at tile i ≡ xs
-unfolding standing_at
+pub standing_is : (tile : Tile) (i : ℕ) (xs : List ℕ) → AreSlots (slots_of tile i) xs → numbers_standing_at tile i ≡ xs
+unfolding numbers_standing_at
 standing_is tile i xs are =
     let slots : ℕ → ℕ = slots_of tile i in
     let long : first_of (λ j. slots j == 0) 15 ≡ length xs = ends_first slots xs are in
     rw long (sym (is_each 0 (length xs) slots xs refl (λ j h. sym (are.each j))))
 
 pub stands : (tile : Tile) (i : ℕ) (xs : List ℕ) → AreSlots (slots_of tile i) xs
-    → AreSlots (slots_of tile i) (standing_at tile i)
+    → AreSlots (slots_of tile i) (numbers_standing_at tile i)
 stands tile i xs are = rw (standing_is tile i xs are) are
 
 -- a slot is 0 where no more stand in front of it
@@ -53,10 +53,10 @@ nobody slots xs are blank = nil_from_length xs (omega (arith, (ends_at 0 slots x
 
 -- where a row is 0 in each lane, no more than those before it stand anywhere
 pub row_ends : (at : ℕ) (tile : Tile) → IsTile tile
-    → ((i : ℕ) → i < 64 → slots_of tile i at ≡ 0) ↔ ((i : ℕ) → i < 64 → length (standing_at tile i) ≤ at)
+    → ((i : ℕ) → i < 64 → slots_of tile i at ≡ 0) ↔ ((i : ℕ) → i < 64 → length (numbers_standing_at tile i) ≤ at)
 row_ends at tile whole = (
-  λ blank i h. (ends_at at (slots_of tile i) (standing_at tile i) (whole.queues i h)).0 (blank i h),
-  λ few i h. (ends_at at (slots_of tile i) (standing_at tile i) (whole.queues i h)).1 (few i h),
+  λ blank i h. (ends_at at (slots_of tile i) (numbers_standing_at tile i) (whole.queues i h)).0 (blank i h),
+  λ few i h. (ends_at at (slots_of tile i) (numbers_standing_at tile i) (whole.queues i h)).1 (few i h),
 )
 
 -- nobody comes where nobody stands
@@ -81,7 +81,7 @@ module _ (order : Order) (d room at : ℕ) (slots : ℕ → ℕ) (xs : List ℕ)
   taken = grind (arith, get_or_past, are.taken at)
 
   pub somebody_goes : at < length xs → place_by order room d (map ticket_of xs) ≡ Some at
-      → HasGone order room d xs leaver left
+      → HasTicketLeft order room d xs leaver left
   somebody_goes there who =
       let some : here ≢ 0 = grind (arith, are.taken at) in
       let found : element_at xs (Some at) ≡ Some here =
@@ -94,7 +94,7 @@ module _ (order : Order) (d room at : ℕ) (slots : ℕ → ℕ) (xs : List ℕ)
       }
 
   pub all_stay : length xs ≤ at → length xs < room → place_by order room d (map ticket_of xs) ≡ None
-      → HasGone order room d xs leaver left
+      → HasTicketLeft order room d xs leaver left
   all_stay past few who =
       let none : here ≡ 0 = grind (arith, get_or_past) in
       record {
@@ -109,7 +109,7 @@ module _ (d room reach : ℕ) (slots : ℕ → ℕ) (xs : List ℕ) (are : AreSl
     (less : reach ≤ room) (most : room ≤ 15) (fits : length xs ≤ reach) (full : length xs ≡ reach → reach ≡ room) where
   -- in the order of arrival: who leaves as it arrives across, and who stays
   pub has_gone : (here leaver : ℕ) (left : ℕ → ℕ) → IsCarried (leaver_in d (reach - 1) slots) slots here left
-      → leaver ≡ slot_across d here → HasGone Arrival room d xs leaver left
+      → leaver ≡ slot_across d here → HasTicketLeft Arrival room d xs leaver left
   unfolding place_of_leaver
   has_gone here leaver left carried is =
       let test : ℕ → Bool = λ j. crosses d (slots j) in
@@ -140,7 +140,7 @@ module _ (d room reach : ℕ) (slots : ℕ → ℕ) (xs : List ℕ) (are : AreSl
   -- by number
   pub has_gone_by_number : (place here leaver : ℕ) (left : ℕ → ℕ) → IsFound d (reach - 1) slots place
       → IsCarried (min place (reach - 1)) slots here left → leaver ≡ slot_across d here
-      → HasGone Number room d xs leaver left
+      → HasTicketLeft Number room d xs leaver left
   has_gone_by_number place here leaver left found carried is =
       ⊎_elim
       (λ (goes : Goes d room (min place (reach - 1)) xs).
@@ -153,7 +153,7 @@ module _ (d room reach : ℕ) (slots : ℕ → ℕ) (xs : List ℕ) (are : AreSl
 
 -- nobody leaves where nobody stands
 pub nobody_goes : (order : Order) (d room : ℕ) (tile : Tile) (i : ℕ) → AreSlots (slots_of tile i) [] → 0 < room
-    → HasGone order room d (standing_at tile i) 0 (slot_behind tile.rest i)
+    → HasTicketLeft order room d (numbers_standing_at tile i) 0 (slot_behind tile.rest i)
 nobody_goes order d room tile i are some =
     rw (standing_is tile i [] are)
     (all_stay order d room 0 (slots_of tile i) [] are (omega arith) 0 0 (slot_behind tile.rest i)

@@ -19,7 +19,7 @@ use Rattle.cm_slots.specs.declared.order.Order.{Order}
 use Rattle.cm_slots.specs.Tickets.{ticket_of}
 use Rattle.cm_slots.specs.Choice.{exchanged_by}
 use Rattle.cm_slots.specs.Tiles.{slots_of, IsTile, IsQuiet}
-use Rattle.cm_slots.specs.Runs.{no_tile, tile_at, tickets_of, queues_in, AreEmpty, tile_across, numbers_at, AreTiles}
+use Rattle.cm_slots.specs.Runs.{no_tile, tile_at, tickets_of, queues_in, AreEmptyTiles, tile_across, numbers_at, AreTiles}
 use Rattle.cm_slots.specs.Runs.{IsChanged, AreWithin}
 use Rattle.cm_slots.specs.declared.ticket.Ticket.{Ticket}
 use Rattle.cm_slots.specs.Queues.{place_of_leaver}
@@ -42,7 +42,7 @@ new_is_blank i (suc j) =
     (λ (l : 14 ≤ j). rw (get_or_past (replicate 14 blank_row) j [] l) (get_or_past [] i 0 (omega arith)))
     (cases_lt j 14)
 
-module _ {count : ℕ} {tiles : List Tile} (empty : AreEmpty count tiles) where
+module _ {count : ℕ} {tiles : List Tile} (empty : AreEmptyTiles count tiles) where
   pub empty_quiet : (t : ℕ) → t < count → IsQuiet (tile_at tiles t)
   empty_quiet t h i l =
       record { fits = omega arith; each = λ j. empty.blank t i j h; taken = λ j m. absurd (omega arith) }
@@ -56,7 +56,7 @@ module _ {count : ℕ} {tiles : List Tile} (empty : AreEmpty count tiles) where
         quiet = λ asleep. quiet;
       })
 
-pub empty_queues : (chips count : ℕ) (tiles : List Tile) → AreEmpty count tiles
+pub empty_queues : (chips count : ℕ) (tiles : List Tile) → AreEmptyTiles count tiles
     → queues_in chips tiles ≡ each_from 0 chips (λ c. [])
 empty_queues chips count tiles empty = same_each_below [] chips (tickets_of tiles) (λ c. [])
     (λ c h. ⊎_elim (λ (l : c / 64 < count). quiet_tickets c tiles (empty_quiet empty (c / 64) l))
@@ -80,7 +80,7 @@ no_tiles chips tiles leaving few none rows = record {
 
 -- and after they have been made
 pub tiles_made : (chips : ℕ) (tiles : List Tile) (leaving : List (Option (List ℕ))) → chips ≤ 4096
-    → AreEmpty ((chips + 63) / 64) tiles → length leaving ≡ (chips + 63) / 64 → AreTiles chips tiles leaving
+    → AreEmptyTiles ((chips + 63) / 64) tiles → length leaving ≡ (chips + 63) / 64 → AreTiles chips tiles leaving
 tiles_made chips tiles leaving few empty rows = record {
   few = few;
   count = λ some. empty.long;

@@ -69,8 +69,8 @@ mark_of place slot = slot % 65536 * 16 + place
 
 -- what slots are ordered by: who has to cross dimension d from the lowest number on, behind them the others from the
 -- highest number on
-abbrev pub key_of : ℕ → ℕ → ℕ → ℕ
-key_of d place slot = if crosses d slot then mark_of place slot else 2097151 - mark_of place slot
+abbrev pub slot_key : ℕ → ℕ → ℕ → ℕ
+slot_key d place slot = if crosses d slot then mark_of place slot else 2097151 - mark_of place slot
 
 -- the place that a key tells, where the last slot holds this: of a chip that is not full nobody leaves who has not to
 abbrev pub place_found : ℕ → ℕ → ℕ
@@ -80,8 +80,8 @@ place_found key last = if nat_lt key 1048576 then key % 16 else if last == 0 the
 pub record IsLeast (d count : ℕ) (slots : ℕ → ℕ) (least : ℕ) : Type 0 where
   pub at : ℕ
   pub there : at ≤ count
-  pub is : least ≡ key_of d at (slots at)
-  pub all : (j : ℕ) → j ≤ count → least ≤ key_of d j (slots j)
+  pub is : least ≡ slot_key d at (slots at)
+  pub all : (j : ℕ) → j ≤ count → least ≤ slot_key d j (slots j)
 
 -- the place of who leaves so many slots and one
 pub record IsFound (d count : ℕ) (slots : ℕ → ℕ) (place : ℕ) : Type 0 where

@@ -7,7 +7,7 @@ use Rattle.cm_model.specs.Array.{list_at}
 use Rattle.cm_slots.specs.declared.ticket.Ticket.{Ticket}
 use Rattle.cm_slots.specs.declared.tile.Tile.{Tile}
 use Rattle.cm_slots.specs.Slots.{leaver_at, comers}
-use Rattle.cm_slots.specs.Tiles.{slots_of, standing_at, IsTile}
+use Rattle.cm_slots.specs.Tiles.{slots_of, numbers_standing_at, IsTile}
 
 -- a ticket that crosses all dimensions d of which bit d is set: these bits flip
 abbrev pub ticket_over : ℕ → Ticket → Ticket
@@ -35,4 +35,4 @@ pub record AreFirst (tile : Tile) (first : Option (List ℕ)) : Type 0 where
 pub record HasMoved (dims : ℕ) (first : Option (List ℕ)) (new : Tile) : Type 0 where
   pub whole : IsTile new
   pub each : (i : ℕ) → i < 64
-      → standing_at new i ≡ comers (slot_over dims (leaver_at first (bit_xor i (dims % 64))))
+      → numbers_standing_at new i ≡ comers (slot_over dims (leaver_at first (bit_xor i (dims % 64))))

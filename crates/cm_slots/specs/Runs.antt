@@ -9,7 +9,7 @@ use Rattle.cm_slots.specs.declared.order.Order.{Order}
 use Rattle.cm_slots.specs.declared.tile.Tile.{Tile}
 use Rattle.cm_slots.specs.Tickets.{ticket_of, ticket_in}
 use Rattle.cm_slots.specs.Slots.{is_taken, leaver_at}
-use Rattle.cm_slots.specs.Tiles.{slots_of, standing_at, IsShaped, IsTile, HasLeft, HasTakenIn}
+use Rattle.cm_slots.specs.Tiles.{slots_of, numbers_standing_at, IsShaped, IsTile, HasLeft, HasTakenIn}
 
 -- what is read where there is no tile
 abbrev pub no_tile : Tile
@@ -40,8 +40,8 @@ abbrev pub number_leaving : List (Option (List ℕ)) → ℕ → ℕ
 number_leaving leaving c = leaver_at (leavers_at leaving (c / 64)) (c % 64)
 
 -- the ticket of who leaves a chip; none where nobody does
-abbrev pub ticket_leaving : List (Option (List ℕ)) → ℕ → Option Ticket
-ticket_leaving leaving c = ticket_in (number_leaving leaving c)
+abbrev pub ticket_leaving_chip : List (Option (List ℕ)) → ℕ → Option Ticket
+ticket_leaving_chip leaving c = ticket_in (number_leaving leaving c)
 
 -- who leaves has been taken out of all tiles
 pub record HaveLeft (order : Order) (room d : ℕ) (old new : List Tile) (leaving : List (Option (List ℕ))) : Type 0 where
@@ -56,7 +56,7 @@ pub record HaveTakenIn (room : ℕ) (coming : ℕ → ℕ → ℕ) (old new : Li
 
 -- the numbers that stand at a chip, from the front
 abbrev pub numbers_at : List Tile → ℕ → List ℕ
-numbers_at tiles c = standing_at (tile_at tiles (c / 64)) (c % 64)
+numbers_at tiles c = numbers_standing_at (tile_at tiles (c / 64)) (c % 64)
 
 -- the tickets that stand at a chip, from the front
 abbrev pub tickets_of : List Tile → ℕ → List Ticket
@@ -64,7 +64,7 @@ tickets_of tiles c = map ticket_of (numbers_at tiles c)
 
 -- no more stand at any place than this
 abbrev pub AreWithin : ℕ → List Tile → Type 0
-AreWithin most tiles = (t i : ℕ) → t < length tiles → i < 64 → length (standing_at (tile_at tiles t) i) ≤ most
+AreWithin most tiles = (t i : ℕ) → t < length tiles → i < 64 → length (numbers_standing_at (tile_at tiles t) i) ≤ most
 
 -- who leaves each tile: nobody, or 64 lanes, each 0 or with a ticket
 pub record AreLeavers (leaving : List (Option (List ℕ))) : Type 0 where
@@ -98,7 +98,7 @@ pub record IsChanged (chip : ℕ) (tickets : List Ticket) (old new : List Tile) 
   pub others : (c : ℕ) → c / 64 < length old → c ≢ chip → tickets_of new c ≡ tickets_of old c
 
 -- so many tiles, all of whose slots are 0
-pub record AreEmpty (count : ℕ) (tiles : List Tile) : Type 0 where
+pub record AreEmptyTiles (count : ℕ) (tiles : List Tile) : Type 0 where
   pub long : length tiles ≡ count
   pub shape : All IsShaped tiles
   pub blank : (t i j : ℕ) → t < count → slots_of (tile_at tiles t) i j ≡ 0

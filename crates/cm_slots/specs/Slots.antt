@@ -70,7 +70,7 @@ abbrev pub standing_in : (ℕ → ℕ) → List ℕ
 standing_in slots = each_from 0 (first_of (λ j. slots j == 0) 15) slots
 
 -- a row and fourteen behind it, each of 64 lanes
-pub record AreRows (first : List ℕ) (rest : List (List ℕ)) : Type 0 where
+pub record AreSlotRows (first : List ℕ) (rest : List (List ℕ)) : Type 0 where
   pub long : length first ≡ 64
   pub tall : length rest ≡ 14
   pub wide : All (λ row. length row ≡ 64) rest

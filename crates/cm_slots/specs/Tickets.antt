@@ -27,8 +27,8 @@ abbrev pub queue_after_dimension : ℕ → ℕ → List Ticket → Option Ticket
 queue_after_dimension room d ts coming = after_exchange (has_to_go d) room ts coming
 
 -- a queue after dimension d, where this other one stands across it
-abbrev pub exchanged : ℕ → ℕ → List Ticket → List Ticket → List Ticket
-exchanged room d here there = queue_after_dimension room d here (ticket_going room d there)
+abbrev pub queue_exchanged : ℕ → ℕ → List Ticket → List Ticket → List Ticket
+queue_exchanged room d here there = queue_after_dimension room d here (ticket_going room d there)
 
 -- ---- numbers
 

@@ -6,22 +6,22 @@ use Rattle.cm_slots.specs.declared.order.Order.{Order}
 use Rattle.cm_slots.specs.Tickets.{ticket_of, ticket_in}
 use Rattle.cm_slots.specs.Slots.{is_taken, comers, leaver_at, slot_in, slot_behind, standing_in}
 use Rattle.cm_slots.specs.Choice.{place_by, going_by}
-use Rattle.cm_slots.specs.Slots.{AreRows, AreSlots}
+use Rattle.cm_slots.specs.Slots.{AreSlotRows, AreSlots}
 
 -- the slots of the chip at place i
 abbrev pub slots_of : Tile → ℕ → ℕ → ℕ
 slots_of tile i = slot_in tile.first tile.rest i
 
 -- what stands there
-unfoldable pub standing_at : Tile → ℕ → List ℕ
-standing_at tile i = standing_in (slots_of tile i)
+unfoldable pub numbers_standing_at : Tile → ℕ → List ℕ
+numbers_standing_at tile i = standing_in (slots_of tile i)
 
 -- of a queue of numbers, with room for so many, who stays in dimension d
 abbrev pub stayers_by : Order → ℕ → ℕ → List ℕ → List ℕ
 stayers_by order room d numbers = without numbers (place_by order room d (map ticket_of numbers))
 
 -- of such a queue who leaves arrives across as this one, 0 where nobody does, and these slots hold who stays
-pub record HasGone (order : Order) (room d : ℕ) (numbers : List ℕ) (leaver : ℕ) (slots : ℕ → ℕ) : Type 0 where
+pub record HasTicketLeft (order : Order) (room d : ℕ) (numbers : List ℕ) (leaver : ℕ) (slots : ℕ → ℕ) : Type 0 where
   pub going : ticket_in leaver ≡ going_by order room d (map ticket_of numbers)
   pub taken : leaver ≢ 0 → is_taken leaver ≡ true
   pub few : length (stayers_by order room d numbers) < room
@@ -29,7 +29,7 @@ pub record HasGone (order : Order) (room d : ℕ) (numbers : List ℕ) (leaver :
 
 -- fifteen rows of 64 lanes
 abbrev pub IsShaped : Tile → Type 0
-IsShaped tile = AreRows tile.first tile.rest
+IsShaped tile = AreSlotRows tile.first tile.rest
 
 -- all slots are 0
 abbrev pub IsQuiet : Tile → Type 0
@@ -38,7 +38,7 @@ IsQuiet tile = (i : ℕ) → i < 64 → AreSlots (slots_of tile i) []
 -- each chip's slots hold what stands there, one behind the other; none holds anything in a tile that is not awake
 pub record IsTile (tile : Tile) : Type 0 where
   pub shape : IsShaped tile
-  pub queues : (i : ℕ) → i < 64 → AreSlots (slots_of tile i) (standing_at tile i)
+  pub queues : (i : ℕ) → i < 64 → AreSlots (slots_of tile i) (numbers_standing_at tile i)
   pub quiet : tile.awake ≡ false → IsQuiet tile
 
 -- of each chip with room for so many who leaves in dimension d is among the leavers, and the slots behind
@@ -47,7 +47,7 @@ pub record HasLeft (order : Order) (room d : ℕ) (old new : Tile) (leavers : Op
   pub shape : IsShaped new
   pub long : IfSome leavers (λ row. length row ≡ 64)
   pub gone : (i : ℕ) → i < 64
-      → HasGone order room d (standing_at old i) (leaver_at leavers i) (slot_behind new.rest i)
+      → HasTicketLeft order room d (numbers_standing_at old i) (leaver_at leavers i) (slot_behind new.rest i)
   pub quiet : leavers ≡ None → IsQuiet new
 
 -- at each chip the slots hold who stood in those behind the first, and behind them who comes, by its place
@@ -68,5 +68,5 @@ pub record IsPut (place slot number : ℕ) (old new : Tile) : Type 0 where
 -- these stand at one chip now, and at the others who stood there
 pub record HasChanged (place : ℕ) (numbers : List ℕ) (old new : Tile) : Type 0 where
   pub whole : IsTile new
-  pub here : standing_at new place ≡ numbers
-  pub others : (i : ℕ) → i < 64 → i ≢ place → standing_at new i ≡ standing_at old i
+  pub here : numbers_standing_at new place ≡ numbers
+  pub others : (i : ℕ) → i < 64 → i ≢ place → numbers_standing_at new i ≡ numbers_standing_at old i

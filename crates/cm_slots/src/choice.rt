@@ -2,8 +2,8 @@
 //! by a step that does the same at all chips, and then one pass lets out who stands at its chip's place.
 
 ghost use Rattle.std.specs.Prelude.{◌≡◌, ℕ, ◌<◌, ◌≤◌, length, min, slice_index, if◌then◌else◌, nat_lt, nat_le};
-ghost use Rattle.cm_slots.specs.Slots.{slot_in, slot_behind, IsCarried, AreRows};
-ghost use Rattle.cm_slots.specs.Choice.{key_of, place_found, IsLeast, IsFound};
+ghost use Rattle.cm_slots.specs.Slots.{slot_in, slot_behind, IsCarried, AreSlotRows};
+ghost use Rattle.cm_slots.specs.Choice.{slot_key, place_found, IsLeast, IsFound};
 
 use crate::rows::{Row, WIDTH, has_to_cross};
 
@@ -21,7 +21,7 @@ const NOBODY: u32 = 15;
 pub(crate) fn places(first: &Row, rest: &[Row], count: usize, dim: u8) -> Row
     requires dimension { dim < 12 }
     requires count { count ≤ 14 }
-    requires shape { AreRows first.now rest.now }
+    requires shape { AreSlotRows first.now rest.now }
     ensures value { (i : ℕ) → i < 64
         → IsFound dim count (slot_in first.now rest.now i) (slice_index result i) }
     ensures long { length result ≡ 64 }
@@ -43,7 +43,7 @@ fn lower(least: &mut Row, row: &Row, dim: u8, place: u32)
     requires place { place < 15 }
     requires long { length least.old ≡ 64 }
     requires wide { length row.now ≡ 64 }
-    ensures value { (i : ℕ) → i < 64 → slice_index least.new i ≡ min (key_of dim place (slice_index row.now i))
+    ensures value { (i : ℕ) → i < 64 → slice_index least.new i ≡ min (slot_key dim place (slice_index row.now i))
         (slice_index least.old i) }
     ensures long { length least.new ≡ 64 }
 {
@@ -59,7 +59,7 @@ fn lower(least: &mut Row, row: &Row, dim: u8, place: u32)
 fn key(slot: u32, dim: u8, place: u32) -> u32
     requires dimension { dim < 12 }
     requires place { place < 15 }
-    ensures value { result ≡ key_of dim place slot }
+    ensures value { result ≡ slot_key dim place slot }
 {
     let mark = slot % 65536 * 16 + place;
     if has_to_cross(slot, dim) {
@@ -90,11 +90,11 @@ fn find(least: &mut Row, last: &Row)
 /// further on. The first row holds who leaves then, and in the rest the others close up.
 pub(crate) fn leave_from(first: &mut Row, rest: &mut [Row], count: usize, places: &Row)
     requires count { count ≤ 14 }
-    requires shape { AreRows first.old rest.old }
+    requires shape { AreSlotRows first.old rest.old }
     requires places { length places.now ≡ 64 }
     ensures value { (i : ℕ) → i < 64 → IsCarried (min (slice_index places.now i) count)
         (slot_in first.old rest.old i) (slice_index first.new i) (slot_behind rest.new i) }
-    ensures shape { AreRows first.new rest.new }
+    ensures shape { AreSlotRows first.new rest.new }
 {
     for k in 0..count {
         pass_from(first, &mut rest[k], places, k as u32);

@@ -6,7 +6,7 @@ ghost use Rattle.cm_model.specs.Each.{each_from};
 ghost use Rattle.cm_slots.specs.Queues.{stayers_of};
 ghost use Rattle.cm_slots.specs.Tickets.{has_to_go, ticket_going};
 ghost use Rattle.cm_slots.specs.Tiles.{IsShaped, IsQuiet, IsTile};
-ghost use Rattle.cm_slots.specs.Runs.{HaveTakenIn, tile_at, leavers_at, tickets_of, ticket_leaving, AreWithin};
+ghost use Rattle.cm_slots.specs.Runs.{HaveTakenIn, tile_at, leavers_at, tickets_of, ticket_leaving_chip, AreWithin};
 ghost use Rattle.cm_slots.specs.Runs.{AreLeavers};
 
 use crate::order::Order;
@@ -25,7 +25,7 @@ pub(crate) fn take_out(tiles: &mut [Tile], leaving: &mut [Option<Row>], sizes: S
     ensures value { (c : ℕ) → c / 64 < length tiles.old
         → tickets_of tiles.new c ≡ stayers_of (has_to_go dim) sizes.room (tickets_of tiles.old c) }
     ensures going { (c : ℕ) → c / 64 < length tiles.old
-        → ticket_leaving leaving.new c ≡ ticket_going sizes.room dim (tickets_of tiles.old c) }
+        → ticket_leaving_chip leaving.new c ≡ ticket_going sizes.room dim (tickets_of tiles.old c) }
     ensures leavers { AreLeavers leaving.new }
     ensures whole { All IsTile tiles.new }
     ensures space { AreWithin (sizes.room - 1) tiles.new }
@@ -53,7 +53,7 @@ fn close_up(tiles: &mut [Tile], leaving: &[Option<Row>], sizes: Sizes)
 pub(crate) fn write_down(leaving: &[Option<Row>], leavers: &mut [Option<Ticket>])
     requires enough { 0 < length leaving.now → length leavers.old ≤ length leaving.now * 64 }
     requires leavers { AreLeavers leaving.now }
-    ensures value { leavers.new ≡ each_from 0 (length leavers.old) (ticket_leaving leaving.now) }
+    ensures value { leavers.new ≡ each_from 0 (length leavers.old) (ticket_leaving_chip leaving.now) }
 {
     for c in 0..leavers.len() {
         leavers[c] = leaver(leaving, c);
@@ -64,7 +64,7 @@ pub(crate) fn write_down(leaving: &[Option<Row>], leavers: &mut [Option<Ticket>]
 fn leaver(leaving: &[Option<Row>], chip: usize) -> Option<Ticket>
     requires chip { 0 < length leaving.now → chip / 64 < length leaving.now }
     requires leavers { AreLeavers leaving.now }
-    ensures value { result ≡ ticket_leaving leaving.now chip }
+    ensures value { result ≡ ticket_leaving_chip leaving.now chip }
 {
     if leaving.is_empty() {
         return None;

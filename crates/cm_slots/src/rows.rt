@@ -4,7 +4,7 @@
 ghost use Rattle.std.specs.Prelude.{◌≡◌, ◌≢◌, ◌↔◌, ℕ, ◌+◌, ◌<◌, ◌≤◌, ◌==◌, ◌++◌, IsTrue, List, length, slice_index};
 ghost use Rattle.std.specs.Prelude.{if◌then◌else◌, true, false, IsFalse};
 ghost use Rattle.cm_slots.specs.Slots.{crosses, comers, slot_in, slot_behind, leaver_in, IsCarried, AreSlots};
-ghost use Rattle.cm_slots.specs.Slots.{IsBlank, AreRows, AreTaken, is_arrival, is_taken};
+ghost use Rattle.cm_slots.specs.Slots.{IsBlank, AreSlotRows, AreTaken, is_arrival, is_taken};
 
 /// So many chips stand side by side.
 pub(crate) const WIDTH: usize = 64;
@@ -26,10 +26,10 @@ type Lanes = [u32; LANES];
 pub(crate) fn leave(first: &mut Row, rest: &mut [Row], count: usize, dim: u8)
     requires dimension { dim < 12 }
     requires count { count ≤ 14 }
-    requires shape { AreRows first.old rest.old }
+    requires shape { AreSlotRows first.old rest.old }
     ensures value { (i : ℕ) → i < 64 → IsCarried (leaver_in dim count (slot_in first.old rest.old i))
         (slot_in first.old rest.old i) (slice_index first.new i) (slot_behind rest.new i) }
-    ensures shape { AreRows first.new rest.new }
+    ensures shape { AreSlotRows first.new rest.new }
 {
     for b in 0..WIDTH / LANES {
         leave_lanes(first, rest, count, dim, b * LANES);
@@ -41,12 +41,12 @@ fn leave_lanes(first: &mut Row, rest: &mut [Row], count: usize, dim: u8, at: usi
     requires dimension { dim < 12 }
     requires count { count ≤ 14 }
     requires at { at + 16 ≤ 64 }
-    requires shape { AreRows first.old rest.old }
+    requires shape { AreSlotRows first.old rest.old }
     ensures value { (j : ℕ) → j < 16 → IsCarried (leaver_in dim count (slot_in first.old rest.old (at + j)))
         (slot_in first.old rest.old (at + j)) (slice_index first.new (at + j)) (slot_behind rest.new (at + j)) }
     ensures before { (i j : ℕ) → i < at → slot_in first.new rest.new i j ≡ slot_in first.old rest.old i j }
     ensures behind { (i j : ℕ) → at + 16 ≤ i → slot_in first.new rest.new i j ≡ slot_in first.old rest.old i j }
-    ensures shape { AreRows first.new rest.new }
+    ensures shape { AreSlotRows first.new rest.new }
 {
     let mut carried = lanes_from(first, at);
     for k in 0..count {
@@ -58,12 +58,12 @@ fn leave_lanes(first: &mut Row, rest: &mut [Row], count: usize, dim: u8, at: usi
 /// Takes in who comes to each chip, which the first row holds: behind all who stand in so many slots.
 pub(crate) fn take_in(first: &mut Row, rest: &mut [Row], count: usize)
     requires count { count ≤ 14 }
-    requires shape { AreRows first.old rest.old }
+    requires shape { AreSlotRows first.old rest.old }
     requires taken { AreTaken first.old }
     ensures value { (i : ℕ) (xs : List ℕ) → i < 64 → length xs ≤ count → length xs < 15
         → AreSlots (slot_behind rest.old i) xs
         → AreSlots (slot_in first.new rest.new i) (xs ++ comers (slice_index first.old i)) }
-    ensures shape { AreRows first.new rest.new }
+    ensures shape { AreSlotRows first.new rest.new }
 {
     for b in 0..WIDTH / LANES {
         take_in_lanes(first, rest, count, b * LANES);
@@ -74,7 +74,7 @@ pub(crate) fn take_in(first: &mut Row, rest: &mut [Row], count: usize)
 fn take_in_lanes(first: &mut Row, rest: &mut [Row], count: usize, at: usize)
     requires count { count ≤ 14 }
     requires at { at + 16 ≤ 64 }
-    requires shape { AreRows first.old rest.old }
+    requires shape { AreSlotRows first.old rest.old }
     requires taken { (j : ℕ) → j < 16 → slice_index first.old (at + j) ≢ 0
         → is_taken (slice_index first.old (at + j)) ≡ true }
     ensures value { (j : ℕ) (xs : List ℕ) → j < 16 → length xs ≤ count → length xs < 15
@@ -82,7 +82,7 @@ fn take_in_lanes(first: &mut Row, rest: &mut [Row], count: usize, at: usize)
         → AreSlots (slot_in first.new rest.new (at + j)) (xs ++ comers (slice_index first.old (at + j))) }
     ensures before { (i j : ℕ) → i < at → slot_in first.new rest.new i j ≡ slot_in first.old rest.old i j }
     ensures behind { (i j : ℕ) → at + 16 ≤ i → slot_in first.new rest.new i j ≡ slot_in first.old rest.old i j }
-    ensures shape { AreRows first.new rest.new }
+    ensures shape { AreSlotRows first.new rest.new }
 {
     let mut carried = lanes_from(first, at);
     for k in (0..count).rev() {

@@ -7,7 +7,7 @@ ghost use Rattle.std.specs.List.{All, list_any, slice_get};
 ghost use Rattle.cm_model.specs.Each.{each_from};
 ghost use Rattle.cm_model.specs.Array.{each_chip, list_at};
 ghost use Rattle.cm_slots.specs.Queues.{stayers_of};
-ghost use Rattle.cm_slots.specs.Tickets.{has_to_go, has_come, ticket_going, exchanged};
+ghost use Rattle.cm_slots.specs.Tickets.{has_to_go, has_come, ticket_going, queue_exchanged};
 ghost use Rattle.cm_slots.specs.Choice.{exchanged_by_number};
 ghost use Rattle.cm_slots.specs.Moves.{ticket_over, queues_over, AreMovable};
 
@@ -204,7 +204,7 @@ impl Slots {
         requires count { length self.old ≡ 2 ^ span }
         requires within { All (λ ts. length ts ≤ sizes.room) self.old }
         ensures value { self.new ≡ each_chip span
-            (λ c. exchanged sizes.room dim (list_at self.old c) (list_at self.old (bit_xor c (2 ^ dim)))) }
+            (λ c. queue_exchanged sizes.room dim (list_at self.old c) (list_at self.old (bit_xor c (2 ^ dim)))) }
         ensures within { All (λ ts. length ts ≤ sizes.room) self.new }
     {
         if sizes.room == 1 {

@@ -5,7 +5,8 @@ ghost use Rattle.std.specs.Prelude.{List, slice_index, slice_set, None, false, I
 ghost use Rattle.std.specs.List.{list_any};
 ghost use Rattle.cm_slots.specs.declared.order.Order.TheVariants.{Arrival, Number};
 ghost use Rattle.cm_slots.specs.Slots.{is_taken, is_arrival, leaver_at, slot_behind, AreSlots, IsBlank, AreTaken};
-ghost use Rattle.cm_slots.specs.Tiles.{slots_of, standing_at, IsShaped, IsQuiet, IsTile, HasLeft, HasTakenIn, IsPut};
+ghost use Rattle.cm_slots.specs.Tiles.{slots_of, numbers_standing_at, IsShaped, IsQuiet, IsTile, HasLeft, HasTakenIn};
+ghost use Rattle.cm_slots.specs.Tiles.{IsPut};
 ghost use Rattle.cm_slots.specs.Tiles.{HasChanged};
 ghost use Rattle.cm_slots.specs.Runs.{place_across};
 ghost use Rattle.cm_slots.specs.Moves.{AreFirst, HasMoved, slot_over};
@@ -57,7 +58,7 @@ impl Tile {
     pub fn leave(&mut self, leavers: &mut Option<Row>, sizes: Sizes, dim: u8, order: Order)
         requires dimension { dim < 12 }
         requires whole { IsTile self.old }
-        requires within { (i : ℕ) → i < 64 → length (standing_at self.old i) ≤ sizes.room }
+        requires within { (i : ℕ) → i < 64 → length (numbers_standing_at self.old i) ≤ sizes.room }
         ensures value { HasLeft order sizes.room dim self.old self.new leavers.new }
     {
         if self.is_quiet() {
@@ -77,7 +78,7 @@ impl Tile {
     fn let_leave(&mut self, leavers: &mut Option<Row>, sizes: Sizes, dim: u8)
         requires dimension { dim < 12 }
         requires whole { IsTile self.old }
-        requires within { (i : ℕ) → i < 64 → length (standing_at self.old i) ≤ sizes.room }
+        requires within { (i : ℕ) → i < 64 → length (numbers_standing_at self.old i) ≤ sizes.room }
         ensures value { HasLeft Arrival sizes.room dim self.old self.new leavers.new }
     {
         let reach = self.reach(sizes);
@@ -90,7 +91,7 @@ impl Tile {
     fn let_leave_by_number(&mut self, leavers: &mut Option<Row>, sizes: Sizes, dim: u8)
         requires dimension { dim < 12 }
         requires whole { IsTile self.old }
-        requires within { (i : ℕ) → i < 64 → length (standing_at self.old i) ≤ sizes.room }
+        requires within { (i : ℕ) → i < 64 → length (numbers_standing_at self.old i) ≤ sizes.room }
         ensures value { HasLeft Number sizes.room dim self.old self.new leavers.new }
     {
         let reach = self.reach(sizes);
@@ -105,9 +106,9 @@ impl Tile {
         requires whole { IsTile self.now }
         ensures some { 0 < result }
         ensures most { result ≤ sizes.room }
-        ensures few { (i : ℕ) → i < 64 → length (standing_at self.now i) ≤ sizes.room
-            → (length (standing_at self.now i) ≤ result)
-            × (length (standing_at self.now i) ≡ result → result ≡ sizes.room) }
+        ensures few { (i : ℕ) → i < 64 → length (numbers_standing_at self.now i) ≤ sizes.room
+            → (length (numbers_standing_at self.now i) ≤ result)
+            × (length (numbers_standing_at self.now i) ≡ result → result ≡ sizes.room) }
     {
         let room = usize::from(sizes.room);
         if !self.is_within(room - 1) {
@@ -169,7 +170,7 @@ impl Tile {
     /// Puts down at each chip who stood in the first slot across these dimensions, and nobody else.
     pub fn put_down(&mut self, first: &Option<Row>, dims: u16)
         requires whole { IsTile self.old }
-        requires few { (i : ℕ) → i < 64 → length (standing_at self.old i) ≤ 1 }
+        requires few { (i : ℕ) → i < 64 → length (numbers_standing_at self.old i) ≤ 1 }
         requires long { IfSome first.now (λ row. length row ≡ 64) }
         requires taken { (i : ℕ) → i < 64 → leaver_at first.now i ≢ 0 → is_taken (leaver_at first.now i) ≡ true }
         ensures value { HasMoved dims first.now self.new }
@@ -246,7 +247,7 @@ impl Tile {
     pub fn has_arrival_at(&self, place: usize) -> bool
         requires place { place < 64 }
         requires whole { IsTile self.now }
-        ensures value { result ≡ list_any is_arrival (standing_at self.now place) }
+        ensures value { result ≡ list_any is_arrival (numbers_standing_at self.now place) }
     {
         for k in 0..ROOM {
             let slot = self.slot(place, k);
@@ -260,7 +261,7 @@ impl Tile {
     /// Whether no chip has more tickets than this.
     pub fn is_within(&self, room: usize) -> bool
         requires whole { IsTile self.now }
-        ensures within { IsTrue result ↔ ((i : ℕ) → i < 64 → length (standing_at self.now i) ≤ room) }
+        ensures within { IsTrue result ↔ ((i : ℕ) → i < 64 → length (numbers_standing_at self.now i) ≤ room) }
     {
         if room == 0 {
             self.is_quiet()
@@ -275,7 +276,7 @@ impl Tile {
     pub fn len(&self, place: usize) -> usize
         requires place { place < 64 }
         requires whole { IsTile self.now }
-        ensures value { result ≡ length (standing_at self.now place) }
+        ensures value { result ≡ length (numbers_standing_at self.now place) }
         ensures most { result ≤ 15 }
     {
         let mut len = 0;
@@ -290,7 +291,7 @@ impl Tile {
         requires place { place < 64 }
         requires slot { slot < 15 }
         requires whole { IsTile self.now }
-        ensures taken { IsTrue result ↔ slot < length (standing_at self.now place) }
+        ensures taken { IsTrue result ↔ slot < length (numbers_standing_at self.now place) }
     {
         self.slot(place, slot) != 0
     }
@@ -313,9 +314,9 @@ impl Tile {
     pub fn arrive(&mut self, place: usize, number: u32)
         requires place { place < 64 }
         requires whole { IsTile self.old }
-        requires space { length (standing_at self.old place) < 15 }
+        requires space { length (numbers_standing_at self.old place) < 15 }
         requires taken { is_taken number ≡ true }
-        ensures value { HasChanged place (standing_at self.old place ++ number ∷ []) self.old self.new }
+        ensures value { HasChanged place (numbers_standing_at self.old place ++ number ∷ []) self.old self.new }
     {
         let len = self.len(place);
         self.put(place, len, number);
@@ -325,9 +326,10 @@ impl Tile {
     pub fn replace(&mut self, place: usize, slot: usize, number: u32)
         requires place { place < 64 }
         requires whole { IsTile self.old }
-        requires there { slot < length (standing_at self.old place) }
+        requires there { slot < length (numbers_standing_at self.old place) }
         requires taken { is_taken number ≡ true }
-        ensures value { HasChanged place (slice_set (standing_at self.old place) slot number) self.old self.new }
+        ensures value { HasChanged place
+            (slice_set (numbers_standing_at self.old place) slot number) self.old self.new }
     {
         self.put(place, slot, number);
     }
@@ -336,8 +338,8 @@ impl Tile {
     pub fn remove(&mut self, place: usize, slot: usize)
         requires place { place < 64 }
         requires whole { IsTile self.old }
-        requires there { slot < length (standing_at self.old place) }
-        ensures value { HasChanged place (remove (standing_at self.old place) slot) self.old self.new }
+        requires there { slot < length (numbers_standing_at self.old place) }
+        ensures value { HasChanged place (remove (numbers_standing_at self.old place) slot) self.old self.new }
     {
         for later in slot + 1..ROOM {
             let next = self.slot(place, later);

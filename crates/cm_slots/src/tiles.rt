@@ -6,9 +6,9 @@ ghost use Rattle.std.specs.Prelude.{map, remove, slice_set, ◌+◌, ◌/◌, ve
 ghost use Rattle.std.specs.List.{All, list_any, slice_get};
 ghost use Rattle.cm_model.specs.Each.{each_from};
 ghost use Rattle.cm_model.specs.Array.{each_chip, list_at};
-ghost use Rattle.cm_slots.specs.Runs.{AreEmpty, AreKept, queues_in};
+ghost use Rattle.cm_slots.specs.Runs.{AreEmptyTiles, AreKept, queues_in};
 ghost use Rattle.cm_slots.specs.Queues.{stayers_of};
-ghost use Rattle.cm_slots.specs.Tickets.{has_to_go, has_come, ticket_going, exchanged};
+ghost use Rattle.cm_slots.specs.Tickets.{has_to_go, has_come, ticket_going, queue_exchanged};
 ghost use Rattle.cm_slots.specs.Choice.{exchanged_by_number};
 ghost use Rattle.cm_slots.specs.Moves.{ticket_over, queues_over, AreMovable};
 
@@ -194,7 +194,7 @@ impl Tiles {
         requires count { length self.old ≡ 2 ^ span }
         requires within { All (λ ts. length ts ≤ sizes.room) self.old }
         ensures value { self.new ≡ each_chip span
-            (λ c. exchanged sizes.room dim (list_at self.old c) (list_at self.old (bit_xor c (2 ^ dim)))) }
+            (λ c. queue_exchanged sizes.room dim (list_at self.old c) (list_at self.old (bit_xor c (2 ^ dim)))) }
         ensures within { All (λ ts. length ts ≤ sizes.room) self.new }
     {
         cross(
@@ -299,7 +299,7 @@ fn put_all(tiles: &mut Vec<Tile>, leaving: &mut Vec<Option<Row>>, chips: usize)
 fn put_empty(tiles: &mut Vec<Tile>, count: usize)
     requires none { length tiles.old.items ≡ 0 }
     requires space { count ≤ vec_capacity tiles.old }
-    ensures value { AreEmpty count tiles.new.items }
+    ensures value { AreEmptyTiles count tiles.new.items }
     ensures capacity { vec_capacity tiles.old ≤ vec_capacity tiles.new }
 {
     for _t in 0..count {
@@ -321,7 +321,7 @@ fn put_nobody(leaving: &mut Vec<Option<Row>>, count: usize)
 
 /// Puts an empty tile in the place of each.
 fn empty_all(tiles: &mut [Tile])
-    ensures value { AreEmpty (length tiles.old) tiles.new }
+    ensures value { AreEmptyTiles (length tiles.old) tiles.new }
 {
     for tile in tiles.iter_mut() {
         *tile = Tile::new();

@@ -7,7 +7,7 @@ use Rattle.std.proofs.lemmas.List.Elements.{All-append, All-cons, All-nil}
 use Rattle.std.proofs.lemmas.List.FromFn.{map-range_with_len_more}
 use Rattle.cm_model.specs.Machine.{Machine}
 use Rattle.cm_model.specs.Each.{each_from}
-use Rattle.cm_blocks.specs.Parts.{Part, part, block, size}
+use Rattle.cm_blocks.specs.Parts.{Part, part, block, block_size}
 use Rattle.std.proofs.Math.Nat.{pow-le-pow_right}
 use Rattle.cm_blocks.proofs.Mailing.{block-fits}
 use Rattle.cm_array.specs.Cuts.{KeptPart}
@@ -19,8 +19,8 @@ pub IsBlock-cut : (n k b : ℕ) (machine : Machine) (kept : KeptPart) → k ≤ 
 unfolding part
 IsBlock-cut n k b machine kept within below dims is = record {
   within = subst (λ (d : ℕ). k ≤ d - d / 2) (sym dims) within;
-  count = ap (λ (s : Part). s.count) is ∙ ap (λ (d : ℕ). size d k) (sym dims);
-  band = (b, (ap (λ (s : Part). s.first) is ∙ ap (λ (d : ℕ). b * size d k) (sym dims), below));
+  count = ap (λ (s : Part). s.count) is ∙ ap (λ (d : ℕ). block_size d k) (sym dims);
+  band = (b, (ap (λ (s : Part). s.first) is ∙ ap (λ (d : ℕ). b * block_size d k) (sym dims), below));
 }
 
 -- one block more
@@ -45,7 +45,7 @@ unfolding each_from
 none_yet f blocks none = ap (map (λ (x : KeptBlock). x.kept.part)) none
 
 -- a block lies within the machine, whose chips are few
-pub band_fits : (n k b wide : ℕ) → n ≤ 12 → k ≤ n - n / 2 → b < 2 ^ k → wide ≡ size n k
+pub band_fits : (n k b wide : ℕ) → n ≤ 12 → k ≤ n - n / 2 → b < 2 ^ k → wide ≡ block_size n k
     → (b * wide + wide ≤ 2 ^ n) × (2 ^ n ≤ 4096)
 band_fits n k b wide small within below is =
     let most : 2 ^ n ≤ 2 ^ 12 = pow-le-pow_right (omega arith) small in (

@@ -11,7 +11,7 @@ use Rattle.cm_model.specs.declared.act.Act.TheVariants as act
 use Rattle.cm_model.specs.Steps.{Step, Instruct, Look, Inject, Cross, Deliver, Phase, steps_of}
 use Rattle.cm_model.specs.Steps.{all_steps, phases, steps_in}
 use Rattle.cm_model.proofs.Parts.{steps_in-phases_from}
-use Rattle.cm_blocks.specs.Rounds.{is_round, until, beyond, until_round, steps_until, steps_between, ahead}
+use Rattle.cm_blocks.specs.Rounds.{is_round, until, beyond, until_round, steps_until, steps_between, steps_after_round}
 use Rattle.cm_blocks.specs.Counts.{is_injection, is_delivery, injections, deliveries, events_in}
 use Rattle.cm_array.specs.Acts.{is_cycle, cycles_in}
 use Rattle.cm_subcube.specs.Local.{local_after}
@@ -56,18 +56,20 @@ steps_until-first n k acts =
     until-steps n k 0 (phases n acts) ∙ ap (until_round n k) (steps_in-phases_from n 0 acts)
 
 -- those between a round and the next, of those behind it
-pub steps_between-ahead : (n k r : ℕ) (acts : List Act) → steps_between n k acts r ≡ until_round n k (ahead n k acts r)
-steps_between-ahead n k r acts = until-steps n k 0 (beyond (λ phase. is_round n k phase.step) r (phases n acts))
+pub steps_between-steps_after_round : (n k r : ℕ) (acts : List Act) → steps_between n k acts r
+    ≡ until_round n k (steps_after_round n k acts r)
+steps_between-steps_after_round n k r acts = until-steps n k 0 (beyond (λ phase. is_round n k phase.step) r (phases n acts))
 
 -- those behind the first round
-ahead-first : (n k : ℕ) (acts : List Act) → ahead n k acts 0 ≡ beyond (is_round n k) 0 (all_steps n acts)
-ahead-first n k acts =
+steps_after_round-first : (n k : ℕ) (acts : List Act) → steps_after_round n k acts 0 ≡ beyond (is_round n k) 0 (all_steps n acts)
+steps_after_round-first n k acts =
     beyond-steps n k 0 (phases n acts) ∙ ap (beyond (is_round n k) 0) (steps_in-phases_from n 0 acts)
 
 -- those behind the next round
-ahead-next : (n k r : ℕ) (acts : List Act) → ahead n k acts (r + 1) ≡ beyond (is_round n k) 0 (ahead n k acts r)
-ahead-next n k r acts =
-    ap (ahead n k acts) (let e : r + 1 ≡ suc r = omega arith in e)
+steps_after_round-next : (n k r : ℕ) (acts : List Act) → steps_after_round n k acts (r + 1)
+    ≡ beyond (is_round n k) 0 (steps_after_round n k acts r)
+steps_after_round-next n k r acts =
+    ap (steps_after_round n k acts) (let e : r + 1 ≡ suc r = omega arith in e)
     ∙ ap steps_in (beyond-more (λ (phase : Phase). is_round n k phase.step) r (phases n acts))
     ∙ beyond-steps n k 0 (beyond (λ phase. is_round n k phase.step) r (phases n acts))
 
@@ -104,13 +106,14 @@ module _ (p : Step → Bool) (over : (nano : Nano) → p (Instruct nano) ≡ fal
   pub IsSharedOut-steps : IsSharedOut (count_by p) 1
   IsSharedOut-steps = record {
     first = λ n k acts.
-        ap (λ (z : List Step). count_by p (local_after n k acts None) + count_by p z) (ahead-first n k acts)
+        ap (λ (z : List Step). count_by p (local_after n k acts None) + count_by p z) (steps_after_round-first n k acts)
         ∙ shared (is_round n k) p (all_steps n acts) (none n k)
         ∙ count_by-all n acts ∙ (let e : cycles_in acts ≡ cycles_in acts * 1 = omega arith in e);
     next = λ n k r acts.
-        ap (λ (z : List Step). count_by p z + count_by p (ahead n k acts (r + 1))) (steps_between-ahead n k r acts)
-        ∙ ap (λ (z : List Step). count_by p (until_round n k (ahead n k acts r)) + count_by p z) (ahead-next n k r acts)
-        ∙ shared (is_round n k) p (ahead n k acts r) (none n k);
+        ap (λ (z : List Step). count_by p z + count_by p (steps_after_round n k acts (r + 1))) (steps_between-steps_after_round n k r acts)
+        ∙ ap (λ (z : List Step). count_by p (until_round n k (steps_after_round n k acts r)) + count_by p z)
+        (steps_after_round-next n k r acts)
+        ∙ shared (is_round n k) p (steps_after_round n k acts r) (none n k);
   }
 
 -- the weighed sum of two counts is shared out as they are
@@ -129,14 +132,14 @@ events_shared room =
       first = λ n k acts. grind (
         arith,
         weighed room (cycles_in acts * 1) (cycles_in acts * 1) (injections (local_after n k acts None))
-            (deliveries (local_after n k acts None)) (injections (ahead n k acts 0)) (deliveries (ahead n k acts 0))
+            (deliveries (local_after n k acts None)) (injections (steps_after_round n k acts 0)) (deliveries (steps_after_round n k acts 0))
             (i.first n k acts) (d.first n k acts),
         mul_comm room (cycles_in acts),
         mul-add (cycles_in acts) 4 room,
       );
       next = λ n k r acts.
-          weighed room (injections (ahead n k acts r)) (deliveries (ahead n k acts r))
+          weighed room (injections (steps_after_round n k acts r)) (deliveries (steps_after_round n k acts r))
           (injections (steps_between n k acts r)) (deliveries (steps_between n k acts r))
-          (injections (ahead n k acts (r + 1))) (deliveries (ahead n k acts (r + 1))) (i.next n k r acts)
+          (injections (steps_after_round n k acts (r + 1))) (deliveries (steps_after_round n k acts (r + 1))) (i.next n k r acts)
           (d.next n k r acts);
     }

@@ -16,10 +16,10 @@ use Rattle.cm_model.specs.Each.{each_from}
 use Rattle.cm_model.specs.Place.{chip_columns, columns}
 use Rattle.cm_model.proofs.Each.{is_each, length-each_from, same_each_below}
 use Rattle.cm_news.specs.Bands.{edge_bits}
-use Rattle.cm_blocks.specs.Parts.{Part, size}
+use Rattle.cm_blocks.specs.Parts.{Part, block_size}
 use Rattle.cm_blocks.specs.Parcels.{Parcel, Blank, Mail, Edge}
 use Rattle.cm_blocks.specs.Steps.{part_after, less, absorbed}
-use Rattle.cm_blocks.proofs.Bands.{band, size-band, block-row}
+use Rattle.cm_blocks.proofs.Bands.{band, block_size-band, block-row}
 use Rattle.cm_array.specs.Bands.{IsBand}
 use Rattle.cm_array.specs.Cuts.{KeptPart}
 use Rattle.cm_subcube.specs.declared.round.Kind.{Kind}
@@ -48,17 +48,17 @@ lane_of (Edge row) = []
 
 -- in a blank parcel of a dimension there is a place for each chip
 pub lanes_of_blank : (n k d : ℕ) (lane : List (Option Message)) → Mail lane ≡ blank_parcel n k (kind.Dim d)
-    → length lane ≡ size n k
+    → length lane ≡ block_size n k
 unfolding lane_of
 lanes_of_blank n k d lane is = ap (λ (p : Parcel). length (lane_of p)) is
-    ∙ length-each_from {X = Option Message} 0 (size n k) (λ c. None)
+    ∙ length-each_from {X = Option Message} 0 (block_size n k) (λ c. None)
 
 -- where no message is left in it, it is blank
-pub blank_again : (n k d : ℕ) (lane : List (Option Message)) → length lane ≡ size n k
+pub blank_again : (n k d : ℕ) (lane : List (Option Message)) → length lane ≡ block_size n k
     → All (λ leaver. leaver ≡ None) lane
     → Mail lane ≡ blank_parcel n k (kind.Dim d)
 blank_again n k d lane long none =
-    ap Mail (is_each None (size n k) (λ place. None) lane long (λ i l. none i None (omega (arith, l, long))))
+    ap Mail (is_each None (block_size n k) (λ place. None) lane long (λ i l. none i None (omega (arith, l, long))))
 
 -- ---- edges
 
@@ -66,7 +66,7 @@ blank_again n k d lane long none =
 pub IsBand-block : (k : ℕ) (kept : KeptPart) → IsBlock k kept → IsBand kept.dims kept.part
 IsBand-block k kept is = record {
   first = (is.band.0 * band kept.dims k, is.band.1.0 ∙ block-row kept.dims k is.band.0 is.within);
-  count = (band kept.dims k, is.count ∙ size-band kept.dims k is.within);
+  count = (band kept.dims k, is.count ∙ block_size-band kept.dims k is.within);
   some = subst (λ (count : ℕ). 0 < count) (sym is.count) (pow_pos (kept.dims - k));
 }
 

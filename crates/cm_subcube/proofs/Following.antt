@@ -21,7 +21,7 @@ use Rattle.cm_subcube.specs.Parcels.{IsExchangeBy}
 use Rattle.cm_subcube.specs.Rounds.{kind_over, kind_of, round_of, step_in, step_of}
 use Rattle.cm_subcube.specs.Local.{steps_behind, IsRoundOf}
 use Rattle.cm_subcube.specs.Laws.{IsFollowed}
-use Rattle.cm_subcube.proofs.Counting.{steps_between-ahead}
+use Rattle.cm_subcube.proofs.Counting.{steps_between-steps_after_round}
 
 -- ---- what stands behind an element
 
@@ -161,7 +161,7 @@ round_is_followed n k r acts phase at =
     (follow-acts n k acts 0 acts refl)
     at in
     record {
-      between = steps_between-ahead n k r acts ∙ ap (until_round n k) told.steps;
+      between = steps_between-steps_after_round n k r acts ∙ ap (until_round n k) told.steps;
       round = told.round;
       step = told.step;
       is_step = told.is_step;

@@ -13,7 +13,7 @@ use Rattle.cm_model.specs.Wiring.{Way, is_cut, way_of}
 use Rattle.cm_model.specs.Buffers.{leaving_place, outgoing}
 use Rattle.cm_model.proofs.Each.{get_or-each_from}
 use Rattle.cm_model.proofs.Wires.{is_cut-across}
-use Rattle.cm_blocks.specs.Parts.{Part, part, block, size, buffer_in}
+use Rattle.cm_blocks.specs.Parts.{Part, part, block, block_size, buffer_in}
 use Rattle.cm_blocks.specs.Parcels.{Parcel, mail_in, due, sender}
 use Rattle.cm_blocks.specs.Rounds.{is_round}
 use Rattle.cm_blocks.specs.Steps.{less}
@@ -34,13 +34,13 @@ unfolding part less due
 spared_over n cap k b d machine high c l cut =
     let from : ℕ = sender n k (Cross d) b in
     let sent : Part = block n k from machine in
-    let here : ℕ = b * size n k + c in
-    let there : bit_xor here (2 ^ d) ≡ from * size n k + c = high_across (n - k) b c d high l in
-    let joined : is_cut machine.routing (from * size n k + c) d ≡ true =
+    let here : ℕ = b * block_size n k + c in
+    let there : bit_xor here (2 ^ d) ≡ from * block_size n k + c = high_across (n - k) b c d high l in
+    let joined : is_cut machine.routing (from * block_size n k + c) d ≡ true =
     ap (λ (e : ℕ). is_cut machine.routing e d) (sym there) ∙ (is_cut-across machine.routing here d ∙ cut) in
-    get_or-each_from (from * size n k) (size n k)
+    get_or-each_from (from * block_size n k) (block_size n k)
     (λ e. outgoing (way_of machine.routing e d) cap d (buffer_in sent e)) c None l
-    ∙ nobody_leaves (way_of machine.routing (from * size n k + c) d) cap d (buffer_in sent (from * size n k + c)) joined
+    ∙ nobody_leaves (way_of machine.routing (from * block_size n k + c) d) cap d (buffer_in sent (from * block_size n k + c)) joined
 
 -- over NEWS no message comes
 over_news : (to : Dir) (s : Part) (parcel : Parcel) → SparesCuts (kind_over to) s parcel

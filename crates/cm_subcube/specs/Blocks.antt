@@ -2,7 +2,7 @@
 use Rattle.std.specs.Prelude.{◌≡◌, ℕ, ◌+◌, ◌-◌, ◌*◌, ◌/◌, ◌<◌, ◌≤◌, ◌^◌, List, IsTrue}
 use Rattle.cm_model.specs.Steps.{Step}
 use Rattle.cm_blocks.specs.Counts.{deliveries, events_in}
-use Rattle.cm_blocks.specs.Parts.{size}
+use Rattle.cm_blocks.specs.Parts.{block_size}
 use Rattle.cm_blocks.specs.Steps.{part_after_all}
 use Rattle.cm_router.specs.Logs.{HaveLogRoom, LoseAtMost}
 use Rattle.cm_array.specs.Cuts.{KeptPart}
@@ -15,8 +15,8 @@ pub record KeptBlock : Type 0 where
 -- a band of whole rows of chips, one of 2 ^ k
 pub record IsBlock (k : ℕ) (kept : KeptPart) : Type 0 where
   pub within : k ≤ kept.dims - kept.dims / 2
-  pub count : kept.part.count ≡ size kept.dims k
-  pub band : (b : ℕ) × ((kept.part.first ≡ b * size kept.dims k) × (b < 2 ^ k))
+  pub count : kept.part.count ≡ block_size kept.dims k
+  pub band : (b : ℕ) × ((kept.part.first ≡ b * block_size kept.dims k) × (b < 2 ^ k))
 
 -- a block of a machine with these dimensions and this room, whose logs take so many events each, and that can be read
 pub record IsFresh (n cap k events : ℕ) (block : KeptBlock) : Type 0 where

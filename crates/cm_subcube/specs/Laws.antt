@@ -5,7 +5,7 @@ use Rattle.cm_model.specs.Each.{each_from}
 use Rattle.cm_model.specs.Steps.{Step, IsStep, Phase}
 use Rattle.cm_model.specs.Machine.{Machine}
 use Rattle.cm_model.specs.Keeping.{IsMachine}
-use Rattle.cm_blocks.specs.Rounds.{is_round, rounds, steps_until, steps_between, ahead}
+use Rattle.cm_blocks.specs.Rounds.{is_round, rounds, steps_until, steps_between, steps_after_round}
 use Rattle.cm_blocks.specs.Counts.{deliveries, events_in}
 use Rattle.cm_blocks.specs.Parts.{Part, block}
 use Rattle.cm_blocks.specs.Parcels.{due, sender}
@@ -46,9 +46,9 @@ pub record RoundsAreFollowed : Type 0 where
 -- a count of steps, so many for each petit cycle of a run, is shared out among the steps from round to round
 pub record IsSharedOut (count : List Step → ℕ) (each : ℕ) : Type 0 where
   pub first : (n k : ℕ) (acts : List Act)
-      → count (local_after n k acts None) + count (ahead n k acts 0) ≡ cycles_in acts * each
+      → count (local_after n k acts None) + count (steps_after_round n k acts 0) ≡ cycles_in acts * each
   pub next : (n k r : ℕ) (acts : List Act)
-      → count (steps_between n k acts r) + count (ahead n k acts (r + 1)) ≡ count (ahead n k acts r)
+      → count (steps_between n k acts r) + count (steps_after_round n k acts (r + 1)) ≡ count (steps_after_round n k acts r)
 
 -- so are the events that logs need room for, and the deliveries, at which the counter goes on
 pub record LogsHaveRoom : Type 0 where

@@ -11,7 +11,7 @@ use Rattle.cm_model.specs.Each.{each_from}
 use Rattle.cm_model.specs.Place.{columns}
 use Rattle.cm_model.specs.Array.{list_at}
 use Rattle.cm_model.specs.Wiring.{is_cut}
-use Rattle.cm_blocks.specs.Parts.{Part, size}
+use Rattle.cm_blocks.specs.Parts.{Part, block_size}
 use Rattle.cm_blocks.specs.Parcels.{Parcel, Blank, Mail, Edge, mail_in}
 use Rattle.cm_news.specs.Bands.{edge_bits}
 use Rattle.cm_subcube.specs.declared.parcel.Load.{Load}
@@ -29,7 +29,7 @@ parcel_of (load.Edge row) = Edge (edge_bits row.items)
 abbrev pub blank_parcel : ℕ → ℕ → Kind → Parcel
 blank_parcel n k kind.North = Edge (each_from 0 (columns n) (λ column. false))
 blank_parcel n k kind.South = Edge (each_from 0 (columns n) (λ column. false))
-blank_parcel n k (kind.Dim d) = Mail (each_from 0 (size n k) (λ place. None))
+blank_parcel n k (kind.Dim d) = Mail (each_from 0 (block_size n k) (λ place. None))
 
 -- a dimension at which 2 ^ k blocks of a cube of n dimensions exchange
 pub record IsOuter (n k d : ℕ) : Type 0 where
@@ -98,7 +98,7 @@ HasColumns n (Edge row) = length row ≡ columns n
 -- one with a place for each chip of a block
 abbrev pub HasLanes : ℕ → ℕ → Parcel → Type 0
 HasLanes n k Blank = ⊥
-HasLanes n k (Mail lane) = length lane ≡ size n k
+HasLanes n k (Mail lane) = length lane ≡ block_size n k
 HasLanes n k (Edge row) = ⊥
 
 -- a parcel of a kind, whatever is in it

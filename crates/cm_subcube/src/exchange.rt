@@ -6,7 +6,7 @@ ghost use Rattle.cm_model.specs.Array.{list_at};
 ghost use Rattle.cm_model.specs.Place.{chip_columns};
 ghost use Rattle.cm_model.specs.Steps.{Instruct, Cross};
 ghost use Rattle.cm_news.specs.Bands.{edge_bits};
-ghost use Rattle.cm_blocks.specs.Parts.{size};
+ghost use Rattle.cm_blocks.specs.Parts.{block_size};
 ghost use Rattle.cm_blocks.specs.Parcels.{Edge, Mail, due};
 ghost use Rattle.cm_blocks.specs.Rounds.{is_vertical};
 ghost use Rattle.cm_blocks.specs.Steps.{less, absorbed};
@@ -76,7 +76,7 @@ impl Block {
     /// What leaves each chip in a dimension.
     fn send(&mut self, dim: u8, mail: &mut [Option<Message>])
         requires outer { IsOuter self.old.kept.dims self.old.k dim }
-        requires lanes { length mail.old ≡ size self.old.kept.dims self.old.k }
+        requires lanes { length mail.old ≡ block_size self.old.kept.dims self.old.k }
         ensures kept { self.new.kept ≡ record self.old.kept {
           part = less self.old.kept.room (Cross dim) self.old.kept.part;
           gathered = self.new.kept.gathered;
@@ -90,7 +90,7 @@ impl Block {
 
     /// What comes to each chip in a dimension.
     fn receive(&mut self, mail: &mut [Option<Message>])
-        requires lanes { length mail.old ≡ size self.old.kept.dims self.old.k }
+        requires lanes { length mail.old ≡ block_size self.old.kept.dims self.old.k }
         requires space { (c : ℕ) → c < self.old.kept.part.count → (slice_index_or mail.old c None ≡ None)
             ⊎ (length (list_at self.old.kept.part.buffers c) < self.old.kept.room) }
         ensures kept { (dim : ℕ) → self.new.kept ≡ record self.old.kept {

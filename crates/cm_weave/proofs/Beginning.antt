@@ -18,7 +18,7 @@ use Rattle.cm_model.specs.Steps as phased
 use Rattle.cm_model.proofs.Each.{length-each_from, get_or-each_below, is_each}
 use Rattle.cm_blocks.specs.Counts.{deliveries, events_in}
 use Rattle.cm_blocks.specs.Parts.{Part, block}
-use Rattle.cm_blocks.specs.Rounds.{is_round, before_round, ahead}
+use Rattle.cm_blocks.specs.Rounds.{is_round, before_round, steps_after_round}
 use Rattle.cm_blocks.specs.Steps.{part_after_all}
 use Rattle.cm_blocks.proofs.Rounding.{blocks_begin}
 use Rattle.cm_router.specs.Logs.{HaveLogRoom, LoseAtMost}
@@ -153,7 +153,7 @@ module _ (n cap k b : ℕ) (machine : Machine) (acts : List Act) (old : KeptBloc
         dims = gone.dims ∙ is.dims;
         room = gone.room ∙ is.room;
         part = part;
-        log_room = room_left (events_in cap (local_after n k acts None)) (events_in cap (ahead n k acts 0))
+        log_room = room_left (events_in cap (local_after n k acts None)) (events_in cap (steps_after_round n k acts 0))
             (cycles_in acts * (4 + cap)) old.kept.log_rooms new.kept.log_rooms
             ((events_shared cap).first n k acts) is.log_room lost;
         clock = omega (arith, clock, was, counts, late);

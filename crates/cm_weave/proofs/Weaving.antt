@@ -15,7 +15,7 @@ use Rattle.cm_model.specs.Steps as phased
 use Rattle.cm_blocks.specs.Counts.{deliveries, events_in}
 use Rattle.cm_blocks.specs.Parts.{Part, part, block}
 use Rattle.cm_blocks.specs.Parcels.{Parcel, due, sender as from_block}
-use Rattle.cm_blocks.specs.Rounds.{rounds, before_round, steps_between, ahead}
+use Rattle.cm_blocks.specs.Rounds.{rounds, before_round, steps_between, steps_after_round}
 use Rattle.cm_blocks.specs.Steps.{part_after_all, less, absorbed}
 use Rattle.cm_router.specs.Logs.{HaveLogRoom, LoseAtMost}
 use Rattle.cm_router.proofs.Rooms.{room_left, less_room}
@@ -294,7 +294,7 @@ module _ (n cap k : ℕ) (machine : Machine) (acts : List Act) (rounds_kept : Li
                 old.kept.log_rooms)
                 (subst (λ steps. HaveLogRoom (events_in cap steps) old.kept.log_rooms) there.followed.between
                 (less_room (events_in cap (steps_between n k acts stand.round))
-                (events_in cap (ahead n k acts stand.round)) old.kept.log_rooms
+                (events_in cap (steps_after_round n k acts stand.round)) old.kept.log_rooms
                 (omega (arith, events)) stood.log_room));
             clock = as_own (λ n1 k1 room1. old.kept.part.clock
                 + deliveries (local_after n1 k1 acts (Some round)) < 2 ^ 63)
@@ -372,26 +372,26 @@ module _ (n cap k : ℕ) (machine : Machine) (acts : List Act) (rounds_kept : Li
             old.kept.log_rooms new.kept.log_rooms) has.log_room)
 
         still_room_for : LoseAtMost 0 old.kept.log_rooms new.kept.log_rooms
-            → HaveLogRoom (events_in cap (ahead n k acts stand.round)) new.kept.log_rooms
+            → HaveLogRoom (events_in cap (steps_after_round n k acts stand.round)) new.kept.log_rooms
         still_room_for lost =
-            room_left 0 (events_in cap (ahead n k acts stand.round)) (events_in cap (ahead n k acts stand.round))
+            room_left 0 (events_in cap (steps_after_round n k acts stand.round)) (events_in cap (steps_after_round n k acts stand.round))
             old.kept.log_rooms new.kept.log_rooms (omega arith) stood.log_room lost
 
         rooms_by : (s : Step) → step ≡ s
-            → HaveLogRoom (events_in cap (ahead n k acts (gone_on s stand).round)) new.kept.log_rooms
+            → HaveLogRoom (events_in cap (steps_after_round n k acts (gone_on s stand).round)) new.kept.log_rooms
         rooms_by (Grip y) is = still_room_for (lost_by (Grip y) is)
         rooms_by (File y) is = still_room_for (lost_by (File y) is)
         rooms_by (Draw y) is = still_room_for (lost_by (Draw y) is)
         rooms_by (Clear y) is =
             room_left (events_in cap (local_after n k acts (Some round)))
-            (events_in cap (ahead n k acts (stand.round + 1))) (events_in cap (ahead n k acts stand.round))
+            (events_in cap (steps_after_round n k acts (stand.round + 1))) (events_in cap (steps_after_round n k acts stand.round))
             old.kept.log_rooms new.kept.log_rooms
-            (ap (λ steps. events_in cap steps + events_in cap (ahead n k acts (stand.round + 1)))
+            (ap (λ steps. events_in cap steps + events_in cap (steps_after_round n k acts (stand.round + 1)))
             (sym there.followed.between) ∙ (events_shared cap).next n k stand.round acts)
             stood.log_room (lost_by (Clear y) is)
 
         clock_by : (s : Step) → step ≡ s
-            → new.kept.part.clock + deliveries (ahead n k acts (gone_on s stand).round) < 2 ^ 63
+            → new.kept.part.clock + deliveries (steps_after_round n k acts (gone_on s stand).round) < 2 ^ 63
         clock_by (Grip y) is =
             let same = ap (λ (s : Part). s.clock) (part_by (Grip y) is) in let c = stood.clock in omega (arith, same, c)
         clock_by (File y) is =

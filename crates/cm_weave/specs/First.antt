@@ -4,7 +4,7 @@ use Rattle.cm_model.specs.declared.act.Act.{Act}
 use Rattle.cm_model.specs.Machine.{Machine}
 use Rattle.cm_blocks.specs.Counts.{deliveries, events_in}
 use Rattle.cm_blocks.specs.Parts.{block}
-use Rattle.cm_blocks.specs.Rounds.{ahead, before_round}
+use Rattle.cm_blocks.specs.Rounds.{steps_after_round, before_round}
 use Rattle.cm_blocks.specs.Steps.{part_after_all}
 use Rattle.cm_router.specs.Logs.{HaveLogRoom}
 use Rattle.cm_array.specs.Acts.{cycles_in}
@@ -32,8 +32,8 @@ pub record HasBegun (n cap k : ℕ) (machine : Machine) (acts : List Act) (b : �
   pub dims : one.kept.dims ≡ n
   pub room : one.kept.room ≡ cap
   pub part : one.kept.part ≡ part_after_all n cap (local_after n k acts None) (block n k b machine)
-  pub log_room : HaveLogRoom (events_in cap (ahead n k acts 0)) one.kept.log_rooms
-  pub clock : one.kept.part.clock + deliveries (ahead n k acts 0) < 2 ^ 63
+  pub log_room : HaveLogRoom (events_in cap (steps_after_round n k acts 0)) one.kept.log_rooms
+  pub clock : one.kept.part.clock + deliveries (steps_after_round n k acts 0) < 2 ^ 63
 
 -- of the blocks of a machine, those below a number have begun
 pub record AreBeginning (n cap k : ℕ) (machine : Machine) (acts : List Act) (first : ℕ) (blocks : List KeptBlock)

@@ -7,7 +7,7 @@ use Rattle.cm_model.specs.Steps.{Phase}
 use Rattle.cm_blocks.specs.Counts.{deliveries, events_in}
 use Rattle.cm_blocks.specs.Parts.{Part}
 use Rattle.cm_blocks.specs.Parcels.{Parcel}
-use Rattle.cm_blocks.specs.Rounds.{rounds, ahead}
+use Rattle.cm_blocks.specs.Rounds.{rounds, steps_after_round}
 use Rattle.cm_router.specs.Logs.{HaveLogRoom}
 use Rattle.cm_subcube.specs.declared.round.Round.{Round}
 use Rattle.cm_subcube.specs.Blocks.{KeptBlock}
@@ -63,8 +63,8 @@ pub record StandsThere (n cap k : ℕ) (machine : Machine) (acts : List Act) (b 
   pub room : block.kept.room ≡ cap
   pub part : block.kept.part ≡ part_at n cap k machine acts b stand
   pub space : HasSpaceIn cap stand.stage (slice_get (rounds n k acts) stand.round) block.kept.part
-  pub log_room : HaveLogRoom (events_in cap (ahead n k acts stand.round)) block.kept.log_rooms
-  pub clock : block.kept.part.clock + deliveries (ahead n k acts stand.round) < 2 ^ 63
+  pub log_room : HaveLogRoom (events_in cap (steps_after_round n k acts stand.round)) block.kept.log_rooms
+  pub clock : block.kept.part.clock + deliveries (steps_after_round n k acts stand.round) < 2 ^ 63
 
 -- nothing in it, by the number of a kind
 abbrev pub blank_of : ℕ → ℕ → ℕ → Parcel

@@ -18,9 +18,9 @@ use Rattle.cm_model.specs.Array.{output}
 use Rattle.cm_model.specs.Wiring.{way_of}
 use Rattle.cm_model.specs.Buffers.{outgoing}
 use Rattle.cm_model.proofs.Each.{length-each_from}
-use Rattle.cm_blocks.specs.Parts.{Part, part, block, size, chip_in, buffer_in}
+use Rattle.cm_blocks.specs.Parts.{Part, part, block, block_size, chip_in, buffer_in}
 use Rattle.cm_blocks.specs.Parcels.{Parcel, Blank, Edge, due, sender, sender_over, edge_row}
-use Rattle.cm_blocks.specs.Rounds.{is_round, is_vertical, rounds, before_round, steps_between, ahead}
+use Rattle.cm_blocks.specs.Rounds.{is_round, is_vertical, rounds, before_round, steps_between, steps_after_round}
 use Rattle.cm_blocks.specs.Steps.{part_after, part_after_all, less, absorbed}
 use Rattle.cm_blocks.proofs.Rounding.{blocks_begin, blocks_go_on}
 use Rattle.cm_blocks.proofs.Filling.{leaving_then_taking_in}
@@ -132,7 +132,7 @@ over_columns n k dir.West row long = long
 over_columns n k dir.South row long = long
 
 -- what is due is of the round's kind
-pub due_of_kind : (n k room : ℕ) (step : Step) (s : Part) → is_round n k step ≡ true → s.count ≡ size n k
+pub due_of_kind : (n k room : ℕ) (step : Step) (s : Part) → is_round n k step ≡ true → s.count ≡ block_size n k
     → IsOfKind n k (kind_of step) (due n room step s)
 unfolding due
 due_of_kind n k room (Instruct nano) s round count =
@@ -186,7 +186,7 @@ abbrev pub sent_at : ℕ → ℕ → ℕ → Option Phase → Part → Post
 sent_at n k room None s = blank_post n k
 sent_at n k room (Some phase) s = post_of n k (kind_of phase.step) (due n room phase.step s)
 
-count_of_block : (n k b : ℕ) (machine : Machine) → (block n k b machine).count ≡ size n k
+count_of_block : (n k b : ℕ) (machine : Machine) → (block n k b machine).count ≡ block_size n k
 unfolding part
 count_of_block n k b machine = refl
 
@@ -252,7 +252,7 @@ module _ (n k room : ℕ) (machine : Machine) (acts : List Act) (b : ℕ) (next 
         other = came ∙ ap (λ (p : Parcel). post_of n k (kind_of phase.step) p) (sym lane);
       })
       (subst (λ (xs : List Step). HaveLogRoom (events_in room xs) kept.kept.log_rooms) told.between
-      (less_room (events_in room (steps_between n k acts r)) (events_in room (ahead n k acts r)) kept.kept.log_rooms
+      (less_room (events_in room (steps_between n k acts r)) (events_in room (steps_after_round n k acts r)) kept.kept.log_rooms
       (let f = (events_shared room).next n k r acts in omega (arith, f)) at.log_room))
       (subst (λ (xs : List Step). kept.kept.part.clock + deliveries xs < 2 ^ 63) told.between
       (let f = deliveries_shared.next n k r acts in let c = at.clock in omega (arith, f, c)))
@@ -268,8 +268,8 @@ pub record HasSentAt (n k room : ℕ) (machine : Machine) (acts : List Act) (t b
   pub part : kept.kept.part ≡ without_sent room ahead_it (block n k b (before_round n room k machine acts t))
   pub sends : sent ≡ sent_at n k room ahead_it (block n k b (before_round n room k machine acts t))
   pub space : HaveSpaceAt room ahead_it kept.kept.part
-  pub log_room : HaveLogRoom (events_in room (ahead n k acts t)) kept.kept.log_rooms
-  pub clock : kept.kept.part.clock + deliveries (ahead n k acts t) < 2 ^ 63
+  pub log_room : HaveLogRoom (events_in room (steps_after_round n k acts t)) kept.kept.log_rooms
+  pub clock : kept.kept.part.clock + deliveries (steps_after_round n k acts t) < 2 ^ 63
 
 left_as_phase : (n k room t : ℕ) (acts : List Act) (one : Option Phase) (s : Part) → slice_get (rounds n k acts) t ≡ one
     → left_in room (option_map round_of one) s ≡ without_sent room one s
@@ -305,8 +305,8 @@ module _ (n k room t b : ℕ) (machine : Machine) (acts : List Act) (before : Op
     (rooms : kept.kept.room ≡ room) (is : slice_get (rounds n k acts) t ≡ one) where
   pub has_sent : gone_on n k room acts before post kept.kept.part ≡ block n k b (before_round n room k machine acts t)
       → (all_events all_cycles : ℕ)
-      → events_in room (local_after n k acts before) + events_in room (ahead n k acts t) ≡ all_events
-      → deliveries (local_after n k acts before) + deliveries (ahead n k acts t) ≡ all_cycles
+      → events_in room (local_after n k acts before) + events_in room (steps_after_round n k acts t) ≡ all_events
+      → deliveries (local_after n k acts before) + deliveries (steps_after_round n k acts t) ≡ all_cycles
       → HaveLogRoom all_events kept.kept.log_rooms → kept.kept.part.clock + all_cycles < 2 ^ 63
       → HasGone acts before (option_map round_of one) kept post new sent
       → HasSentAt n k room machine acts t b one new sent
@@ -345,7 +345,7 @@ module _ (n k room t b : ℕ) (machine : Machine) (acts : List Act) (before : Op
             ∙ ap (λ (s : Part). sent_by n k room (option_map round_of one) s) own_is
             ∙ sent_as_phase n k room t acts one now is;
         space = space_as_phase room one new (gone.same.room ∙ rooms) gone.space;
-        log_room = room_left (events_in room (local_after n k acts before)) (events_in room (ahead n k acts t))
+        log_room = room_left (events_in room (local_after n k acts before)) (events_in room (steps_after_round n k acts t))
             all_events kept.kept.log_rooms new.kept.log_rooms
             events log_room lost;
         clock = omega (arith, clock_now, cycles, clock);

@@ -12,7 +12,7 @@ use Rattle.cm_model.specs.Machine.{Machine}
 use Rattle.cm_model.specs.Steps.{Phase}
 use Rattle.cm_blocks.specs.Counts.{deliveries, events_in}
 use Rattle.cm_blocks.specs.Parts.{block}
-use Rattle.cm_blocks.specs.Rounds.{rounds, before_round, steps_between, ahead}
+use Rattle.cm_blocks.specs.Rounds.{rounds, before_round, steps_between, steps_after_round}
 use Rattle.cm_array.specs.Acts.{cycles_in}
 use Rattle.cm_subcube.specs.declared.round.Kind.{Kind}
 use Rattle.cm_subcube.specs.declared.round.Kind.TheVariants as kind
@@ -114,12 +114,12 @@ module _ (n k room : ℕ) (machine : Machine) (acts : List Act) (within : k ≤ 
       (later_turn n k room machine acts within b l r it.one (get_or blocks b x).kept.part (get_or posts b y)
       it.is stood.part stood.come
       ∙ ap (λ (j : ℕ). block n k b (before_round n room k machine acts j)) more)
-      (events_in room (ahead n k acts r)) (deliveries (ahead n k acts r))
-      (ap (λ steps. events_in room steps + events_in room (ahead n k acts (suc r))) (sym told.between)
-      ∙ ap (λ (j : ℕ). events_in room (steps_between n k acts r) + events_in room (ahead n k acts j)) (sym more)
+      (events_in room (steps_after_round n k acts r)) (deliveries (steps_after_round n k acts r))
+      (ap (λ steps. events_in room steps + events_in room (steps_after_round n k acts (suc r))) (sym told.between)
+      ∙ ap (λ (j : ℕ). events_in room (steps_between n k acts r) + events_in room (steps_after_round n k acts j)) (sym more)
       ∙ (events_shared room).next n k r acts)
-      (ap (λ steps. deliveries steps + deliveries (ahead n k acts (suc r))) (sym told.between)
-      ∙ ap (λ (j : ℕ). deliveries (steps_between n k acts r) + deliveries (ahead n k acts j)) (sym more)
+      (ap (λ steps. deliveries steps + deliveries (steps_after_round n k acts (suc r))) (sym told.between)
+      ∙ ap (λ (j : ℕ). deliveries (steps_between n k acts r) + deliveries (steps_after_round n k acts j)) (sym more)
       ∙ deliveries_shared.next n k r acts)
       stood.log_room stood.clock
       (subst (λ (next : Option Round). HasGone acts (Some (round_of it.one)) next (get_or blocks b x) (get_or posts b y)

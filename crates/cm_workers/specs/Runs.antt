@@ -7,7 +7,7 @@ use Rattle.cm_model.specs.Steps.{Phase}
 use Rattle.cm_blocks.specs.Counts.{deliveries, events_in}
 use Rattle.cm_blocks.specs.Parts.{Part, block}
 use Rattle.cm_blocks.specs.Parcels.{due, sender}
-use Rattle.cm_blocks.specs.Rounds.{rounds, before_round, ahead}
+use Rattle.cm_blocks.specs.Rounds.{rounds, before_round, steps_after_round}
 use Rattle.cm_blocks.specs.Steps.{less}
 use Rattle.cm_array.specs.Acts.{cycles_in}
 use Rattle.cm_router.specs.Logs.{HaveLogRoom}
@@ -53,11 +53,11 @@ HasSpaceIn n k room acts (suc r) s = HaveSpaceAt room (slice_get (rounds n k act
 -- the most events of a chip, and the petit cycles, that are still to come
 abbrev pub events_left : ℕ → ℕ → ℕ → List Act → ℕ → ℕ
 events_left n k room acts zero = cycles_in acts * (4 + room)
-events_left n k room acts (suc r) = events_in room (ahead n k acts r)
+events_left n k room acts (suc r) = events_in room (steps_after_round n k acts r)
 
 abbrev pub cycles_left : ℕ → ℕ → List Act → ℕ → ℕ
 cycles_left n k acts zero = cycles_in acts * 1
-cycles_left n k acts (suc r) = deliveries (ahead n k acts r)
+cycles_left n k acts (suc r) = deliveries (steps_after_round n k acts r)
 
 -- block b and its post when turn t of a run begins
 pub record StandsAt (n k room : ℕ) (machine : Machine) (acts : List Act) (t b : ℕ) (kept : KeptBlock)

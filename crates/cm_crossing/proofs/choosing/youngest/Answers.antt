@@ -1,7 +1,7 @@
 use Rattle.std.proofs.Common.{◌-◌, ◌<◌, length, sym, ◌∙◌, arith}
 use Rattle.std.proofs.lemmas.List.{length-map}
 use Rattle.cm_model.specs.Array.{list_at}
-use Rattle.cm_crossing.specs.Standing.{message_of, standing}
+use Rattle.cm_crossing.specs.Standing.{message_of_ticket, standing}
 use Rattle.cm_crossing.proofs.Places.{younger_found, younger_behind}
 use Rattle.cm_crossing.proofs.choosing.youngest.Goals as goal
 
@@ -14,7 +14,7 @@ loop-place-preserved-then-goes_last c =
     let inside : place - 1 < length ts = omega (arith, was.most, some) in
     record {
       value = younger_found (standing c.args.row.now ts) place c.loop-place.youngest some
-          (rw (length-map ts (message_of c.args.row.now)) inside) was.value
+          (rw (length-map ts (message_of_ticket c.args.row.now)) inside) was.value
           (sym c.goes_last.ensures.value ∙ c.if-goes_last.true);
       within = inside;
       most = omega (arith, inside);
@@ -29,7 +29,7 @@ loop-place-preserved c =
     let inside : place - 1 < length ts = omega (arith, was.most, some) in
     record {
       value = younger_behind (standing c.args.row.now ts) place c.loop-place.youngest some
-          (rw (length-map ts (message_of c.args.row.now)) inside) was.value
+          (rw (length-map ts (message_of_ticket c.args.row.now)) inside) was.value
           (sym c.goes_last.ensures.value ∙ c.if-goes_last.false);
       within = was.within;
       most = omega (arith, inside);

@@ -5,7 +5,7 @@ use Rattle.cm_model.specs.Wiring.{way_of}
 use Rattle.cm_model.proofs.Each.{length-each_from}
 use Rattle.cm_model.proofs.Flips.{across_below}
 use Rattle.cm_router.specs.Routes.{routing_of}
-use Rattle.cm_crossing.specs.Standing.{IsKept}
+use Rattle.cm_crossing.specs.Standing.{HasMessage}
 use Rattle.cm_crossing.proofs.Carrying.{gone_kept, kept_more}
 use Rattle.cm_crossing.proofs.Leaving.{space_across, crossed}
 use Rattle.cm_crossing.proofs.routed.cross_by_chip.Goals as goal
@@ -23,7 +23,7 @@ take_in_by_chip-requires c =
     ap length c.leave_by_chip.ensures.value ∙ (length-each_from 0 (length old) _ ∙ c.requires.count) in
     let lanes : length gone ≡ 2 ^ c.args.span =
     ap length c.leave_by_chip.ensures.going ∙ (length-each_from 0 (length old) _ ∙ c.requires.count) in
-    let kept : All (IsKept (length row)) gone =
+    let kept : All (HasMessage (length row)) gone =
     rw c.leave_by_chip.ensures.going
     (gone_kept room d (length row) (λ b. way_of routing (c.args.first + b) d) row old c.requires.kept (length old)) in
     record {

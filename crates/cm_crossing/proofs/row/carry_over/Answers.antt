@@ -5,7 +5,7 @@ use Rattle.std.proofs.lemmas.Option.{slice_get_within, get_or_from_slice_get}
 use Rattle.cm_model.specs.Array.{list_at}
 use Rattle.cm_model.proofs.Leaving.{past_none}
 use Rattle.cm_slots.specs.declared.ticket.Ticket.{Ticket}
-use Rattle.cm_crossing.specs.Standing.{message_of, no_ticket}
+use Rattle.cm_crossing.specs.Standing.{message_of_ticket, no_ticket}
 use Rattle.cm_crossing.proofs.Keeping.{written_again}
 use Rattle.cm_crossing.proofs.row.carry_over.Goals as goal
 
@@ -22,7 +22,7 @@ loop-ticket-preserved c =
     sym (was.ahead place (omega arith)) ∙ get_or_from_slice_get queue place t no_ticket (sym c.in-Some.ensures.value) in
     let new : Ticket = record { rel = c.message_of-message.result.rel; number = c.keep-number.result } in
     let here : list_at c.replace.new.self c.args.here ≡ set queue place new = grind (arith, elements) in
-    let more = map_more (message_of c.args.row.now) before place no_ticket (omega (arith, was.long)) in
+    let more = map_more (message_of_ticket c.args.row.now) before place no_ticket (omega (arith, was.long)) in
     record {
       items = rw (kept.items, was.items, append_assoc, more, same, c.message_of-message.ensures.value);
       long = grind (arith, elements);

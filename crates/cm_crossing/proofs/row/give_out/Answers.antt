@@ -11,7 +11,7 @@ use Rattle.cm_model.specs.Letters.{chip_after_delivery}
 use Rattle.cm_model.proofs.Leaving.{past_none}
 use Rattle.cm_model.proofs.Scan.{HandsOver, scan_ends}
 use Rattle.cm_router.specs.Deliveries.{run_after}
-use Rattle.cm_crossing.specs.Standing.{message_of}
+use Rattle.cm_crossing.specs.Standing.{message_of_ticket}
 use Rattle.cm_crossing.proofs.Carrying.{without_kept}
 use Rattle.cm_crossing.proofs.Keeping.{written_again, scan_taken, scan_passed, scan_to}
 use Rattle.cm_model.specs.Chip.{IsPlane}
@@ -54,7 +54,7 @@ loop-ticket-preserved-then-is_delivered c =
     let place = c.args.chip in
     let first : Chips = run_after c.args.deliveries.now run in
     let old : Chips = run_after c.loop-ticket.deliveries run in
-    let m = message_of c.args.row.now c.in-Some.ticket in
+    let m = message_of_ticket c.args.row.now c.in-Some.ticket in
     let chip : List Processor = chip_after_delivery (m ∷ []) (chip_at old place) in
     let put = step.later run in
     let now : chip_at (run_after c.is_delivered.new.deliveries run) place ≡ chip =
@@ -94,7 +94,7 @@ loop-ticket-preserved c =
     let place = c.args.chip in
     let first : Chips = run_after c.args.deliveries.now run in
     let old : Chips = run_after c.loop-ticket.deliveries run in
-    let m = message_of c.args.row.now c.in-Some.ticket in
+    let m = message_of_ticket c.args.row.now c.in-Some.ticket in
     let chip : List Processor = chip_at old place in
     let put = step.later run in
     let now : chip_at (run_after c.is_delivered.new.deliveries run) place ≡ chip =

@@ -3,7 +3,7 @@ use Rattle.cm_model.specs.Array.{chip_at, list_at}
 use Rattle.cm_model.specs.Chip.{IsPlane}
 use Rattle.cm_model.specs.Letters.{can_receive}
 use Rattle.cm_router.specs.Deliveries.{run_after, AreBefore}
-use Rattle.cm_crossing.specs.Standing.{standing, AreKept, IsWritten}
+use Rattle.cm_crossing.specs.Standing.{standing, HaveMessages, IsWritten}
 use Rattle.cm_model.proofs.Scan.{Scan}
 use Rattle.cm_crossing.proofs.row.give_out.Given as goal
 
@@ -21,7 +21,7 @@ invariant-loop-ticket l = record {
   receivers : IsPlane l.receivers (can_receive (chip_at (run_after l.deliveries l.run) l.chip));
   before : AreBefore (l.chip + 1) l.deliveries;
   room : length l.deliveries + (length (list_at l.slots l.chip) - l.place) ≤ 128;
-  kept : AreKept (length l.row) (list_at l.slots l.chip);
+  kept : HaveMessages (length l.row) (list_at l.slots l.chip);
   fewer : length (list_at l.slots l.chip) ≤ length (list_at l.fn.slots l.chip);
   others : IsWritten l.chip l.fn.slots l.slots;
   len : vec_len l.log + (length (list_at l.slots l.chip) - l.place)

@@ -3,7 +3,7 @@ use Rattle.std.proofs.lemmas.Grind.{elements}
 use Rattle.std.proofs.lemmas.List.{length-map}
 use Rattle.std.proofs.lemmas.List.Elements.{All-from_get_or}
 use Rattle.cm_model.specs.Array.{list_at}
-use Rattle.cm_crossing.specs.Standing.{standing, all_standing, AreKept, AreTogether, AreLaidOut}
+use Rattle.cm_crossing.specs.Standing.{standing, all_standing, HaveMessages, AreTogether, AreLaidOut}
 use Rattle.cm_crossing.proofs.Carrying.{standing_at}
 use Rattle.cm_crossing.proofs.Keeping.{laid_value, laid_kept, laid_together, laid_longer}
 use Rattle.cm_crossing.proofs.row.lay_out.Goals as goal
@@ -35,7 +35,7 @@ returns c =
       value = ext_get_or [] (all_standing spare c.loop-c.slots) (all_standing row c.args.slots.now)
           (grind (arith, length-map))
           (λ k l. simp standing_at (laid_value (laid k (rw (length-map c.loop-c.slots (standing spare)) at l))));
-      kept = All-from_get_or (AreKept (length spare)) c.loop-c.slots [] (λ k l. laid_kept (laid k l));
+      kept = All-from_get_or (HaveMessages (length spare)) c.loop-c.slots [] (λ k l. laid_kept (laid k l));
       together = All-from_get_or (AreTogether spare) c.loop-c.slots [] (λ k l. laid_together (laid k l));
       filled = omega (arith, was.len, c.chips-c-end.ensures.value);
       capacity = was.capacity;

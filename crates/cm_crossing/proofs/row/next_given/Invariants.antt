@@ -5,9 +5,9 @@ use Rattle.cm_model.specs.Array.{list_at}
 use Rattle.cm_model.specs.Chip.{IsPlane}
 use Rattle.cm_model.specs.Letters.{can_receive}
 use Rattle.cm_model.specs.Processor.{Processor}
-use Rattle.cm_model.specs.Delivery.{HasGone, HasHandedOver}
+use Rattle.cm_model.specs.Delivery.{HasDelivered, HasHandedOver}
 use Rattle.cm_slots.specs.declared.ticket.Ticket.{Ticket}
-use Rattle.cm_crossing.specs.Standing.{message_of}
+use Rattle.cm_crossing.specs.Standing.{message_of_ticket}
 use Rattle.cm_crossing.proofs.row.next_given.Given as goal
 
 abbrev pub decreases-loop-ticket : goal.decreases-loop-ticket
@@ -17,7 +17,7 @@ abbrev pub invariant-loop-ticket : goal.invariant-loop-ticket
 invariant-loop-ticket l = record {
   passed : (j : ℕ) (t : Ticket) → l.from ≤ j → j < l.place → Some t ≡ slice_get (list_at l.slots l.here) j
       → (before chip : List Processor) → IsPlane l.receivers (can_receive chip) → (seen : List Message)
-      → HasGone before seen chip → HasHandedOver false before seen (message_of l.row t) chip;
+      → HasDelivered before seen chip → HasHandedOver false before seen (message_of_ticket l.row t) chip;
   from : l.from ≤ l.place;
   within : l.place ≤ length (list_at l.slots l.here);
 }

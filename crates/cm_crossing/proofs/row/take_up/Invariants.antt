@@ -3,7 +3,7 @@ use Rattle.cm_bits.specs.Bit.{bit}
 use Rattle.cm_model.specs.declared.message.Event.TheVariants.{Injected}
 use Rattle.cm_model.specs.Array.{list_at}
 use Rattle.cm_model.specs.Letters.{messages_sent, is_among}
-use Rattle.cm_crossing.specs.Standing.{standing, AreKept, IsWritten}
+use Rattle.cm_crossing.specs.Standing.{standing, HaveMessages, IsWritten}
 use Rattle.cm_crossing.proofs.row.take_up.Given as goal
 
 abbrev pub decreases-loop-proc : goal.decreases-loop-proc
@@ -18,7 +18,7 @@ invariant-loop-proc l = record {
       ≡ standing l.row.items (list_at l.slots l.at) ++ messages_sent l.dims l.clock l.here l.chip l.senders;
   log : l.fn.log.items ++ map Injected (messages_sent l.dims l.clock l.here l.chip l.fn.senders)
       ≡ l.log.items ++ map Injected (messages_sent l.dims l.clock l.here l.chip l.senders);
-  kept : AreKept (length l.row.items) (list_at l.slots l.at);
+  kept : HaveMessages (length l.row.items) (list_at l.slots l.at);
   others : IsWritten l.at l.fn.slots l.slots;
   chips : length l.slots ≡ length l.fn.slots;
   room : length (list_at l.slots l.at) + length l.senders ≤ 15;

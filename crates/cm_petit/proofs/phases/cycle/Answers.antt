@@ -3,7 +3,7 @@ use Rattle.std.specs.List.{list_any}
 use Rattle.cm_model.specs.Letters.{has_arrived}
 use Rattle.cm_blocks.specs.Steps.{part_after}
 use Rattle.cm_router.specs.Routes.{routing_of}
-use Rattle.cm_petit.specs.Routers.{part_of}
+use Rattle.cm_petit.specs.Routers.{part_from_logs}
 use Rattle.cm_petit.proofs.Making.{delivering, made_none, made_past, made_all, delivering_nothing}
 use Rattle.cm_petit.proofs.Cycling.{injected_whole, delivered_whole, crossed_by_one_way, crossed_more, cycle_is}
 use Rattle.cm_petit.proofs.Cycling.{nothing_crosses}
@@ -35,7 +35,7 @@ returns-then-is_empty-clause-value c =
     let empty = λ (k : ℕ) (l : k < 2 ^ n).
     c.is_empty.ensures.none.0 c.if-is_empty.true k [] (omega (arith, are.buffer_count)) in
     let routing = routing_of c.args.routing.now in
-    let whole = part_of routing 0 (2 ^ n) c.inject.new.run c.inject.new.crossing.buffers c.inject.new.logs c.args.clock.now in
+    let whole = part_from_logs routing 0 (2 ^ n) c.inject.new.run c.inject.new.crossing.buffers c.inject.new.logs c.args.clock.now in
     cycle_is n c.args.sizes.room _
     (nothing_crosses n c.args.sizes.room _ _ c.args.sizes.bounds.some_room are.buffer_count empty
     (injected_whole _ _ _ refl refl

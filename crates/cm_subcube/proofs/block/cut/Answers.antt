@@ -1,5 +1,5 @@
 use Rattle.std.proofs.Common.{◌≡◌, ℕ, ◌*◌, ◌-◌, ◌^◌, ap, ◌∙◌, refl, arith, lit<}
-use Rattle.cm_blocks.specs.Parts.{part, size}
+use Rattle.cm_blocks.specs.Parts.{part, block_size}
 use Rattle.cm_subcube.proofs.Blocking.{IsBlock-cut, band_fits}
 use Rattle.cm_subcube.proofs.block.cut.Goals as goal
 
@@ -15,7 +15,7 @@ part_in-requires g c = (
 
 pub invariant_of-result : goal.invariant_of-result
 invariant_of-result g c =
-    let same : c.power_of_two-size.result ≡ size g.row.N c.args.k =
+    let same : c.power_of_two-size.result ≡ block_size g.row.N c.args.k =
     c.power_of_two-size.ensures.value ∙ ap (λ (d : ℕ). 2 ^ (d - c.args.k)) c.dims.ensures.value in
     IsBlock-cut g.row.N c.args.k c.args.b c.args.machine.now.machine c.in_ok-part.part
     c.requires.within c.requires.block
@@ -24,7 +24,7 @@ invariant_of-result g c =
 
 pub returns : goal.returns
 returns g c =
-    let same : c.power_of_two-size.result ≡ size g.row.N c.args.k =
+    let same : c.power_of_two-size.result ≡ block_size g.row.N c.args.k =
     c.power_of_two-size.ensures.value ∙ ap (λ (d : ℕ). 2 ^ (d - c.args.k)) c.dims.ensures.value in
     record {
       value = c.in_ok-part.ensures.value ∙ ap (λ (s : ℕ). part (c.args.b * s) s c.args.machine.now.machine) same;

@@ -1,6 +1,6 @@
 use Rattle.std.proofs.Common.{◌<◌, ◌++◌, ◌∙◌, length, sym, ap, arith}
 use Rattle.cm_model.specs.Array.{list_at}
-use Rattle.cm_router.specs.Rows.{told_by}
+use Rattle.cm_router.specs.Rows.{events_of_chip}
 use Rattle.cm_router.proofs.Telling.{with_row_at}
 use Rattle.cm_petit.specs.Routers.{events_of}
 use Rattle.cm_array.specs.Parts.{Kept}
@@ -31,6 +31,6 @@ returns-clause-value g c =
     omega (arith, c.requires.chip, length-events g.row.N g.row.CAP parts under) in
     let dealt = c.deref.ensures.value ∙ sym (list_at-events_of logs c.from.result c.index.result.now there c.index.ensures)
     ∙ ap (list_at (events_of logs)) c.from.ensures in
-    c.of.ensures.value ∙ (λ i. dealt i ++ told_by chip (c.deref-2.ensures.value i))
+    c.of.ensures.value ∙ (λ i. dealt i ++ events_of_chip chip (c.deref-2.ensures.value i))
     ∙ sym (with_row_at (events_of logs) parts.row.items chip inside)
     ∙ ap (λ (kept : Kept). list_at kept.machine.logs chip) c.self.view_is

@@ -2,7 +2,7 @@ use Rattle.std.proofs.Common.{◌≤◌, ◌∙◌, ap, map, arith}
 use Rattle.std.specs.Option.{option_map}
 use Rattle.std.specs.Vec.{with_items}
 use Rattle.cm_router.specs.Routes.{routing_of}
-use Rattle.cm_crossing.specs.Standing.{UnderWay, message_of}
+use Rattle.cm_crossing.specs.Standing.{UnderWay, message_of_ticket}
 use Rattle.cm_crossing.proofs.Carrying.{as_many}
 use Rattle.cm_crossing.proofs.Leaving.{whole_left, whole_left_long, whole_left_kept, whole_gone, whole_gone_kept}
 use Rattle.cm_crossing.proofs.Leaving.{whole_left_within, whole_left_space}
@@ -51,7 +51,7 @@ returns c =
           (routing_of c.args.routing.now) c.args.sizes.room c.args.dim c.args.first c.self.inside.slots
           c.leave.new.slots c.args.self.now.buffers are c.leave.ensures.value;
       going = c.read_off.ensures.value
-          ∙ ((λ i. map (λ t. option_map (message_of (c.deref-2.ensures.value i)) t) c.leave.new.leavers)
+          ∙ ((λ i. map (λ t. option_map (message_of_ticket (c.deref-2.ensures.value i)) t) c.leave.new.leavers)
           ∙ whole_gone c.deref.result.now c.self.inside.row.items c.deref.ensures.value
           (routing_of c.args.routing.now) c.args.sizes.room c.args.dim c.args.first c.self.inside.slots
           c.leave.new.slots c.args.self.now.buffers are c.leave.ensures.value c.leave.new.leavers c.leave.ensures.going);

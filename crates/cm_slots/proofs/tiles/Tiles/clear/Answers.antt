@@ -1,5 +1,5 @@
 use Rattle.std.proofs.Common.{length, ◌/◌, refl}
-use Rattle.cm_slots.specs.Runs.{AreEmpty}
+use Rattle.cm_slots.specs.Runs.{AreEmptyTiles}
 use Rattle.cm_slots.proofs.Views.{empty_quiet, empty_whole, empty_queues, as_many, tiles_kept}
 use Rattle.cm_slots.proofs.Views.{items-lent}
 use Rattle.cm_slots.proofs.Changing.{quiet_tickets}
@@ -8,7 +8,7 @@ use Rattle.cm_slots.proofs.tiles.Tiles.clear.Goals as goal
 pub invariant_of-self : goal.invariant_of-self
 invariant_of-self c =
     let new = c.empty_all.new.tiles in
-    let empty : AreEmpty (length c.self.inside.tiles.items) new =
+    let empty : AreEmptyTiles (length c.self.inside.tiles.items) new =
     rw c.deref_mut.ensures.value at c.empty_all.ensures.value in
     record {
       are = rw (items-lent c.self.inside.tiles new empty.long)
@@ -21,7 +21,7 @@ invariant_of-self c =
 pub returns : goal.returns
 returns c =
     let new = c.empty_all.new.tiles in
-    let empty : AreEmpty (length c.self.inside.tiles.items) new =
+    let empty : AreEmptyTiles (length c.self.inside.tiles.items) new =
     rw c.deref_mut.ensures.value at c.empty_all.ensures.value in
     record {
       value = rw (items-lent c.self.inside.tiles new empty.long, as_many c.self.invariant.are c.self.view_is)

@@ -1,7 +1,7 @@
 use Rattle.std.proofs.Common.{◌-◌, ◌/◌, [], None, length, ap, ◌∙◌, refl, arith}
 use Rattle.cm_slots.specs.Queues.{stayers_of}
 use Rattle.cm_slots.specs.Tickets.{has_to_go, ticket_going}
-use Rattle.cm_slots.specs.Runs.{tickets_of, ticket_leaving}
+use Rattle.cm_slots.specs.Runs.{tickets_of, ticket_leaving_chip}
 use Rattle.cm_slots.proofs.Views.{as_many, tiles_kept, mapped, within_view, within_everywhere}
 use Rattle.cm_slots.proofs.Views.{items-lent, place_of_leaver-nobody}
 use Rattle.std.proofs.lemmas.List.{get_or_past}
@@ -57,7 +57,7 @@ returns c =
           (rw c.deref_mut.ensures.value at c.take_out.ensures.value)
           (λ k past. nobody_past new.tiles k (omega (arith, past, long)) ∙ rw nobody refl));
       going = c.write_down.ensures.value ∙ rw (written, c.requires.count, as_many c.self.invariant.are c.self.view_is)
-          (mapped c.self.invariant.are c.self.view_is None (ticket_leaving new.leaving)
+          (mapped c.self.invariant.are c.self.view_is None (ticket_leaving_chip new.leaving)
           (λ ts. ticket_going c.args.sizes.room c.args.dim ts)
           (rw c.deref_mut.ensures.value at c.take_out.ensures.going)
           (λ k past. rw (get_or_past new.leaving (k / 64) None (omega (arith, past, rows, c.self.invariant.are.rows)), nobody)
