@@ -20,5 +20,5 @@ abbrev pub due_now : {T : Type 0} → Course T → T
 due_now course = slice_index_or course.due course.uses course.blank
 
 -- after that use
-abbrev pub one_more : {T : Type 0} → Course T → Course T
-one_more course = record course { uses = course.uses + 1 }
+abbrev pub one_use_more : {T : Type 0} → Course T → Course T
+one_use_more course = record course { uses = course.uses + 1 }

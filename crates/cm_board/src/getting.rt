@@ -1,7 +1,7 @@
 //! The end of a lane that gets.
 ghost use Rattle.std.specs.Prelude.{◌≡◌, ◌≤◌, [], false, length};
 ghost use Rattle.std.specs.Arc.{arc_value};
-ghost use Rattle.cm_board.specs.Courses.{HasMore, due_now, one_more, unused};
+ghost use Rattle.cm_board.specs.Courses.{HasMore, due_now, one_use_more, unused};
 ghost use Rattle.cm_board.specs.Rule.{receiver};
 
 use crate::table::{Draw, LaneSeat, LaneTable};
@@ -114,7 +114,7 @@ impl<T: Drop> Emptying<T> {
     /// Hands the parcel back, blank again.
     pub fn clear(self) -> ToEnd<T>
         requires parcel { self.parcel ≡ self.end.blank }
-        ensures end { result ≡ one_more self.end }
+        ensures end { result ≡ one_use_more self.end }
     {
         let Emptying { end, parcel } = self;
         let ToHold {

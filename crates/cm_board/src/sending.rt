@@ -1,7 +1,7 @@
 //! The end of a lane that sends.
 ghost use Rattle.std.specs.Prelude.{◌≡◌, ◌≤◌, [], false, length};
 ghost use Rattle.std.specs.Arc.{arc_value};
-ghost use Rattle.cm_board.specs.Courses.{HasMore, due_now, one_more, unused};
+ghost use Rattle.cm_board.specs.Courses.{HasMore, due_now, one_use_more, unused};
 ghost use Rattle.cm_board.specs.Rule.{sender};
 
 use crate::table::{Grip, LaneSeat, LaneTable};
@@ -114,7 +114,7 @@ impl<T: Drop> Filling<T> {
     /// Hands the parcel over.
     pub fn file(self) -> FromEnd<T>
         requires parcel { self.parcel ≡ due_now self.end }
-        ensures end { result ≡ one_more self.end }
+        ensures end { result ≡ one_use_more self.end }
     {
         let Filling { end, parcel } = self;
         let FromHold {

@@ -9,8 +9,8 @@ use Rattle.cm_exchange.specs.declared.step.Step.{Step}
 use Rattle.cm_exchange.specs.declared.step.Step.TheVariants.{Grip, File, Draw, Clear}
 use Rattle.cm_exchange.specs.Lanes.{Exchange, round_count}
 use Rattle.cm_exchange.specs.Worlds.{World, at_first, first_world, stand_of, IsFinished}
-use Rattle.cm_exchange.specs.Steps.{block_of, stage_of, gone_on, is_possible, world_after, Lead, IsReached}
-use Rattle.cm_exchange.specs.Laws.{IsExchange}
+use Rattle.cm_exchange.specs.Steps.{block_of, stage_of, stand_after, is_possible, world_after, Lead, IsReached}
+use Rattle.cm_exchange.specs.Laws.{HasItsKinds}
 use Rattle.cm_exchange.proofs.Soundness.{IsStand, IsSound, Can, can, sound-after, first-sound, next-is, reached-sound}
 
 -- the steps that a block has taken, and all
@@ -21,7 +21,7 @@ abbrev pub steps_in : World → ℕ
 steps_in world = sum_by steps_by world.stands
 
 one_step_more : (step : Step) (stand : Stand) → stand.stage ≡ stage_of step
-    → steps_by (gone_on step stand) ≡ steps_by stand + 1
+    → steps_by (stand_after step stand) ≡ steps_by stand + 1
 one_step_more (Grip b) stand e = omega (arith, e)
 one_step_more (File b) stand e = omega (arith, e)
 one_step_more (Draw b) stand e = omega (arith, e)
@@ -34,7 +34,7 @@ steps-after exchange world step sound h =
     let stand : Stand = stand_of world (block_of step) in
     let able : Can exchange world stand step = can exchange world stand step h in
     let more = one_step_more step stand able.stage in
-    let all = sum_by-set steps_by world.stands (block_of step) (gone_on step stand) at_first
+    let all = sum_by-set steps_by world.stands (block_of step) (stand_after step stand) at_first
     (subst (λ (z : ℕ). block_of step < z) (sym sound.stand_count) able.below) in
     omega (arith, more, all)
 
@@ -43,7 +43,7 @@ none_at_first zero = refl
 none_at_first (suc count) =
     sum_by-cons steps_by at_first (replicate count at_first) ∙ (let h = none_at_first count in omega (arith, h))
 
-lead-counts : (exchange : Exchange) (steps : List Step) (old last : World) → IsExchange exchange
+lead-counts : (exchange : Exchange) (steps : List Step) (old last : World) → HasItsKinds exchange
     → IsSound exchange old → Lead exchange steps old last → steps_in last ≡ steps_in old + length steps
 lead-counts exchange [] old last is sound lead =
     let e : steps_in last ≡ steps_in old = ap steps_in lead in omega (arith, e)
@@ -54,7 +54,7 @@ lead-counts exchange (step ∷ steps) old last is sound lead =
     (subst (IsSound exchange) (sym e.1) (sound-after exchange old step is sound e.0)) lead.2 in
     omega (arith, one, more)
 
-reached-counts : (exchange : Exchange) (steps : List Step) (world : World) → IsExchange exchange
+reached-counts : (exchange : Exchange) (steps : List Step) (world : World) → HasItsKinds exchange
     → IsReached exchange steps world → steps_in world ≡ length steps
 unfolding first_world
 reached-counts exchange steps world is reached =
@@ -107,7 +107,7 @@ stands-all exchange world sound i d l =
     subst (IsStand (round_count exchange)) (get_or_default world.stands i at_first d l)
     (sound.stands i (subst (λ (z : ℕ). i < z) sound.stand_count l))
 
-pub steps_are_counted : (exchange : Exchange) (steps : List Step) (world : World) → IsExchange exchange
+pub steps_are_counted : (exchange : Exchange) (steps : List Step) (world : World) → HasItsKinds exchange
     → IsReached exchange steps world →
     IsFinished exchange world ↔ (length steps ≡ 4 * round_count exchange * 2 ^ exchange.k)
 steps_are_counted exchange steps world is reached =
@@ -130,7 +130,7 @@ steps_are_counted exchange steps world is reached =
           omega (arith, all, stage)),
     )
 
-pub orders_come_to_an_end : (exchange : Exchange) (steps : List Step) (world : World) → IsExchange exchange
+pub orders_come_to_an_end : (exchange : Exchange) (steps : List Step) (world : World) → HasItsKinds exchange
     → IsReached exchange steps world → length steps ≤ 4 * round_count exchange * 2 ^ exchange.k
 orders_come_to_an_end exchange steps world is reached =
     let sound : IsSound exchange world = reached-sound exchange steps world is reached in

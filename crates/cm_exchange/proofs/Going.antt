@@ -14,7 +14,7 @@ use Rattle.cm_exchange.specs.Lanes.{Exchange, round_count, kind_at, kind_count, 
 use Rattle.cm_exchange.specs.Worlds.{World, at_first, stand_of, lane_of, IsFinished}
 use Rattle.cm_exchange.specs.Steps.{block_of, stage_of, kind_now, sender_of, is_moved, is_possible, IsReached, step_at}
 use Rattle.cm_exchange.specs.Steps.{next_step}
-use Rattle.cm_exchange.specs.Laws.{IsExchange, IsNext, ArePartners}
+use Rattle.cm_exchange.specs.Laws.{HasItsKinds, IsNext, ArePartners}
 use Rattle.cm_exchange.proofs.Partners.{lanes_have_two_ends}
 use Rattle.cm_exchange.proofs.Uses.{one_if, uses-next, uses-grow}
 use Rattle.cm_exchange.proofs.Rules.{Rules, if_filed, if_held, if_drawn, is_its}
@@ -124,7 +124,7 @@ able exchange world step c =
 
 -- ---- the block of the least round
 
-module _ (exchange : Exchange) (world : World) (is : IsExchange exchange) (sound : IsSound exchange world) (r : ℕ)
+module _ (exchange : Exchange) (world : World) (is : HasItsKinds exchange) (sound : IsSound exchange world) (r : ℕ)
     (below : r < round_count exchange)
     (least : (c : ℕ) → c < 2 ^ exchange.k → r ≤ (stand_of world c).round)
     (stuck : (c : ℕ) → c < 2 ^ exchange.k → is_possible exchange world (step_at c (stand_of world c).stage)
@@ -248,7 +248,7 @@ module _ (exchange : Exchange) (world : World) (is : IsExchange exchange) (sound
     by_stage (suc (suc (suc (suc stage)))) e m = absurd (omega (arith, e, m))
 
 -- if no block has a step, all are through
-all_through : (exchange : Exchange) (world : World) → IsExchange exchange → IsSound exchange world
+all_through : (exchange : Exchange) (world : World) → HasItsKinds exchange → IsSound exchange world
     → ((c : ℕ) → c < 2 ^ exchange.k → is_possible exchange world (step_at c (stand_of world c).stage) ≡ false)
     → (r : ℕ) → r ≤ round_count exchange → (c : ℕ) → c < 2 ^ exchange.k → r ≤ (stand_of world c).round
 all_through exchange world is sound stuck zero l c below = omega arith
@@ -284,7 +284,7 @@ is_next exchange world step sound h =
           omega (arith, low, own);
     }
 
-finished_if_none : (exchange : Exchange) (world : World) → IsExchange exchange → IsSound exchange world
+finished_if_none : (exchange : Exchange) (world : World) → HasItsKinds exchange → IsSound exchange world
     → next_step exchange world ≡ None → IsFinished exchange world
 unfolding next_step
 finished_if_none exchange world is sound h i d l =
@@ -316,7 +316,7 @@ none_if_finished exchange world sound finished = ⊎_elim
     absurd (omega (arith, end, within)))
     (either_found (next_step exchange world))
 
-pub worlds_are_never_stuck : (exchange : Exchange) (steps : List Step) (world : World) → IsExchange exchange
+pub worlds_are_never_stuck : (exchange : Exchange) (steps : List Step) (world : World) → HasItsKinds exchange
     → IsReached exchange steps world →
     ((next_step exchange world ≡ None) ↔ IsFinished exchange world)
     × ((step : Step) → next_step exchange world ≡ Some step → IsNext exchange world step)

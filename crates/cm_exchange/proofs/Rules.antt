@@ -11,7 +11,7 @@ use Rattle.cm_exchange.specs.declared.step.Step.{Step}
 use Rattle.cm_exchange.specs.declared.step.Step.TheVariants.{Grip, File, Draw, Clear}
 use Rattle.cm_exchange.specs.Lanes.{kind_at, uses}
 use Rattle.cm_exchange.specs.Worlds.{Lane, held_by}
-use Rattle.cm_exchange.specs.Steps.{stage_of, is_moved, moved, gone_on}
+use Rattle.cm_exchange.specs.Steps.{stage_of, is_moved, moved, stand_after}
 use Rattle.cm_exchange.proofs.Uses.{one_if, uses-next}
 
 -- one if a round is of the kind, at the stages of it at which the block has filed, holds its own lane,
@@ -93,7 +93,7 @@ is_sending (Clear b) = false
 
 pub sends-still : (kinds : List ℕ) (kind : ℕ) (step : Step) (stand : Stand) → stand.round < length kinds
     → stand.stage ≡ stage_of step → (is_sending step ≡ false) ⊎ (is_its kinds kind stand ≡ false)
-    → SendsAlike kinds kind stand (gone_on step stand)
+    → SendsAlike kinds kind stand (stand_after step stand)
 sends-still kinds kind (Grip b) stand l e (inl h) = absurd (let wrong : true ≡ false = h in cc)
 sends-still kinds kind (Grip b) stand l e (inr h) =
     let its : Bool = is_its kinds kind stand in
@@ -124,7 +124,7 @@ sends-still kinds kind (Clear b) stand l e h =
 
 pub gets-still : (kinds : List ℕ) (kind : ℕ) (step : Step) (stand : Stand) → stand.round < length kinds
     → stand.stage ≡ stage_of step → (is_sending step ≡ true) ⊎ (is_its kinds kind stand ≡ false)
-    → GetsAlike kinds kind stand (gone_on step stand)
+    → GetsAlike kinds kind stand (stand_after step stand)
 gets-still kinds kind (Grip b) stand l e h =
     record { cleared_is = refl; draws_is = sym (ap (λ (z : ℕ). if_drawn z (is_its kinds kind stand)) e) }
 gets-still kinds kind (File b) stand l e h =
@@ -154,7 +154,7 @@ pub rules-sent : (kinds : List ℕ) (kind : ℕ) (step : Step) (dues : List Parc
     → GetsAlike kinds kind receiver new_receiver
     → is_moved step (uses kinds kind stand.round) lane.word ≡ true
     → Rules kinds kind stand receiver lane.word
-    → Rules kinds kind (gone_on step stand) new_receiver (moved step dues (uses kinds kind stand.round) lane).word
+    → Rules kinds kind (stand_after step stand) new_receiver (moved step dues (uses kinds kind stand.round) lane).word
 rules-sent kinds kind (Grip b) dues lane stand receiver new_receiver e s i g may old =
     let its : Bool = is_its kinds kind stand in
     let f : if_filed stand.stage its ≡ 0 = ap (λ (z : ℕ). if_filed z its) e in
@@ -189,7 +189,7 @@ pub rules-got : (kinds : List ℕ) (kind : ℕ) (step : Step) (dues : List Parce
     → SendsAlike kinds kind sender new_sender
     → is_moved step (uses kinds kind stand.round) lane.word ≡ true
     → Rules kinds kind sender stand lane.word
-    → Rules kinds kind new_sender (gone_on step stand) (moved step dues (uses kinds kind stand.round) lane).word
+    → Rules kinds kind new_sender (stand_after step stand) (moved step dues (uses kinds kind stand.round) lane).word
 rules-got kinds kind (Grip b) dues lane stand sender new_sender l e s i g may old =
     absurd (let wrong : true ≡ false = s in cc)
 rules-got kinds kind (File b) dues lane stand sender new_sender l e s i g may old =

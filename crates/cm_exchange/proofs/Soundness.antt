@@ -12,11 +12,11 @@ use Rattle.cm_exchange.specs.declared.stand.Stand.{Stand}
 use Rattle.cm_exchange.specs.declared.step.Step.{Step}
 use Rattle.cm_exchange.specs.declared.step.Step.TheVariants.{Grip, File, Draw, Clear}
 use Rattle.cm_exchange.specs.Lanes.{Exchange, round_count, kind_count, due_list, giver, receiver}
-use Rattle.cm_exchange.specs.Worlds.{Lane, World, at_first, unused, first_world, stand_of, lane_number, lane_of}
+use Rattle.cm_exchange.specs.Worlds.{Lane, World, at_first, unused_lane, first_world, stand_of, lane_number, lane_of}
 use Rattle.cm_exchange.specs.Worlds.{held_by}
-use Rattle.cm_exchange.specs.Steps.{block_of, stage_of, kind_now, uses_now, sender_of, is_moved, moved, gone_on}
+use Rattle.cm_exchange.specs.Steps.{block_of, stage_of, kind_now, uses_now, sender_of, is_moved, moved, stand_after}
 use Rattle.cm_exchange.specs.Steps.{can_step, world_with, is_possible, world_after, next_world, Lead, IsReached}
-use Rattle.cm_exchange.specs.Laws.{IsExchange, ArePartners}
+use Rattle.cm_exchange.specs.Laws.{HasItsKinds, ArePartners}
 use Rattle.cm_exchange.proofs.Partners.{lanes_have_two_ends}
 use Rattle.cm_exchange.proofs.Rules.{Rules, SendsAlike, GetsAlike, sends-same, gets-same, rules-same, is_sending}
 use Rattle.cm_exchange.proofs.Rules.{is_its}
@@ -156,13 +156,13 @@ are_ends exchange stand (Clear b) l below =
       gets = λ e. refl;
     }
 
-gone_stands : (count : ℕ) (step : Step) (stand : Stand) → stand.round < count → IsStand count (gone_on step stand)
+gone_stands : (count : ℕ) (step : Step) (stand : Stand) → stand.round < count → IsStand count (stand_after step stand)
 gone_stands count (Grip b) stand l = record { stage = omega arith; within = omega (arith, l) }
 gone_stands count (File b) stand l = record { stage = omega arith; within = omega (arith, l) }
 gone_stands count (Draw b) stand l = record { stage = omega arith; within = omega (arith, l) }
 gone_stands count (Clear b) stand l = record { stage = omega arith; within = omega (arith, l) }
 
-module _ (exchange : Exchange) (world : World) (stand : Stand) (step : Step) (is : IsExchange exchange)
+module _ (exchange : Exchange) (world : World) (stand : Stand) (step : Step) (is : HasItsKinds exchange)
     (sound : IsSound exchange world) (able : Can exchange world stand step)
     (here : stand_of world (block_of step) ≡ stand) where
   abbrev k : ℕ
@@ -192,16 +192,16 @@ module _ (exchange : Exchange) (world : World) (stand : Stand) (step : Step) (is
   ends : AreEnds exchange stand step
   ends = are_ends exchange stand step kind_below able.below
 
-  stand_new : stand_of new b ≡ gone_on step stand
-  stand_new = get_or-set_same world.stands b (gone_on step stand) at_first
+  stand_new : stand_of new b ≡ stand_after step stand
+  stand_new = get_or-set_same world.stands b (stand_after step stand) at_first
       (subst (λ (z : ℕ). b < z) (sym sound.stand_count) able.below)
 
   stand_other : (c : ℕ) → c ≢ b → stand_of new c ≡ stand_of world c
-  stand_other c h = get_or-set_other world.stands b c (gone_on step stand) at_first h
+  stand_other c h = get_or-set_other world.stands b c (stand_after step stand) at_first h
 
   lane_new : lane_of k new kind sender ≡ moved step dues (uses_now exchange stand) lane
   lane_new = get_or-set_same world.lanes (lane_number k kind sender)
-      (moved step dues (uses_now exchange stand) lane) unused
+      (moved step dues (uses_now exchange stand) lane) unused_lane
       (subst (λ (z : ℕ). lane_number k kind sender < z) (sym sound.lane_count)
       (lane-within k kind sender kind_below ends.from))
 
@@ -209,7 +209,7 @@ module _ (exchange : Exchange) (world : World) (stand : Stand) (step : Step) (is
       → lane_of k new other c ≡ lane_of k world other c
   lane_other other c l h =
       get_or-set_other world.lanes (lane_number k kind sender) (lane_number k other c)
-      (moved step dues (uses_now exchange stand) lane) unused
+      (moved step dues (uses_now exchange stand) lane) unused_lane
       (λ e. let same = one-lane k other c kind sender l ends.from e in h same.0 same.1)
 
   its_false : (other : ℕ) → other ≢ kind → is_its exchange.kinds other stand ≡ false
@@ -309,7 +309,7 @@ module _ (exchange : Exchange) (world : World) (stand : Stand) (step : Step) (is
 
   sound_with : IsSound exchange new
   sound_with = record {
-    stand_count = length-set world.stands b (gone_on step stand) ∙ sound.stand_count;
+    stand_count = length-set world.stands b (stand_after step stand) ∙ sound.stand_count;
     lane_count =
         length-set world.lanes (lane_number k kind sender) (moved step dues (uses_now exchange stand) lane)
         ∙ sound.lane_count;
@@ -344,7 +344,7 @@ module _ (exchange : Exchange) (world : World) (stand : Stand) (step : Step) (is
         (either_pair other c kind sender);
   }
 
-pub sound-after : (exchange : Exchange) (world : World) (step : Step) → IsExchange exchange → IsSound exchange world
+pub sound-after : (exchange : Exchange) (world : World) (step : Step) → HasItsKinds exchange → IsSound exchange world
     → is_possible exchange world step ≡ true → IsSound exchange (world_after exchange world step)
 unfolding is_possible world_after
 sound-after exchange world step is sound h =
@@ -361,20 +361,20 @@ first-sound exchange =
     let stand : (b : ℕ) → b < 2 ^ k → get_or (replicate (2 ^ k) at_first) b at_first ≡ at_first =
     λ b l. get_or-replicate (2 ^ k) b at_first at_first l in
     let lane : (kind b : ℕ) → kind < kind_count k → b < 2 ^ k
-    → get_or (replicate all unused) (lane_number k kind b) unused ≡ unused =
-    λ kind b l m. get_or-replicate all (lane_number k kind b) unused unused (lane-within k kind b l m) in
+    → get_or (replicate all unused_lane) (lane_number k kind b) unused_lane ≡ unused_lane =
+    λ kind b l m. get_or-replicate all (lane_number k kind b) unused_lane unused_lane (lane-within k kind b l m) in
     record {
       stand_count = length-replicate (2 ^ k) at_first;
-      lane_count = length-replicate all unused;
+      lane_count = length-replicate all unused_lane;
       stands = λ b l. subst (IsStand (round_count exchange)) (sym (stand b l))
           (record { stage = omega arith; within = omega arith });
       rules = λ kind b l m.
           let from : giver k kind b < 2 ^ k = (lanes_have_two_ends k kind l).gives b m in
           subst (λ (z : Stand). Rules exchange.kinds kind z (get_or (replicate (2 ^ k) at_first) b at_first)
-          (get_or (replicate all unused) (lane_number k kind (giver k kind b)) unused).word)
+          (get_or (replicate all unused_lane) (lane_number k kind (giver k kind b)) unused_lane).word)
           (sym (stand (giver k kind b) from))
           (subst (λ (z : Stand). Rules exchange.kinds kind at_first z
-          (get_or (replicate all unused) (lane_number k kind (giver k kind b)) unused).word) (sym (stand b m))
+          (get_or (replicate all unused_lane) (lane_number k kind (giver k kind b)) unused_lane).word) (sym (stand b m))
           (subst (λ (z : Lane). Rules exchange.kinds kind at_first at_first z.word)
           (sym (lane kind (giver k kind b) l from))
           (record { word_is = omega arith; back = omega arith; ahead = omega arith })));
@@ -396,7 +396,7 @@ next-is exchange world then step h = by_test (is_possible exchange world step) h
   by_test true e p = (p, sym (ap some e))
   by_test false e p = absurd (let wrong : None ≡ Some then = e in cc)
 
-lead-sound : (exchange : Exchange) (steps : List Step) (old last : World) → IsExchange exchange → IsSound exchange old
+lead-sound : (exchange : Exchange) (steps : List Step) (old last : World) → HasItsKinds exchange → IsSound exchange old
     → Lead exchange steps old last → IsSound exchange last
 lead-sound exchange [] old last is sound lead = subst (IsSound exchange) (sym lead) sound
 lead-sound exchange (step ∷ steps) old last is sound lead =
@@ -404,13 +404,13 @@ lead-sound exchange (step ∷ steps) old last is sound lead =
     lead-sound exchange steps lead.0 last is
     (subst (IsSound exchange) (sym e.1) (sound-after exchange old step is sound e.0)) lead.2
 
-pub reached-sound : (exchange : Exchange) (steps : List Step) (world : World) → IsExchange exchange
+pub reached-sound : (exchange : Exchange) (steps : List Step) (world : World) → HasItsKinds exchange
     → IsReached exchange steps world → IsSound exchange world
 reached-sound exchange steps world is reached =
     lead-sound exchange steps (first_world exchange) world is (first-sound exchange) reached.lead
 
 pub lanes_hold_what_is_due : (exchange : Exchange) (steps : List Step) (world : World) (kind b : ℕ)
-    → IsExchange exchange → IsReached exchange steps world → kind < kind_count exchange.k → b < 2 ^ exchange.k →
+    → HasItsKinds exchange → IsReached exchange steps world → kind < kind_count exchange.k → b < 2 ^ exchange.k →
     (lane_of exchange.k world kind b).parcel
     ≡ held_by (due_list exchange kind b) (lane_of exchange.k world kind b).word
 lanes_hold_what_is_due exchange steps world kind b is reached l below =

@@ -8,13 +8,13 @@ use Rattle.cm_exchange.specs.Lanes.{Exchange, round_count, kind_count, receiver}
 use Rattle.cm_exchange.specs.Worlds.{World, stand_of, lane_of}
 use Rattle.cm_exchange.specs.Steps.{block_of, stage_of, kind_now, uses_now, is_moved, is_ready, is_possible}
 use Rattle.cm_exchange.specs.Steps.{IsReached}
-use Rattle.cm_exchange.specs.Laws.{IsExchange, ArePartners, word_for, AreTold}
+use Rattle.cm_exchange.specs.Laws.{HasItsKinds, ArePartners, word_for, AreTold}
 use Rattle.cm_exchange.proofs.Partners.{lanes_have_two_ends}
 use Rattle.cm_exchange.proofs.Uses.{one_if}
 use Rattle.cm_exchange.proofs.Rules.{Rules, if_filed, if_held, if_drawn, is_its}
 use Rattle.cm_exchange.proofs.Soundness.{IsSound, can, reached-sound}
 
-module _ (exchange : Exchange) (world : World) (is : IsExchange exchange) (sound : IsSound exchange world) where
+module _ (exchange : Exchange) (world : World) (is : HasItsKinds exchange) (sound : IsSound exchange world) where
   -- the rule of a block's own lane
   own_rule : (b : ℕ) → b < 2 ^ exchange.k → (stand_of world b).round < round_count exchange
       → Rules exchange.kinds (kind_now exchange (stand_of world b)) (stand_of world b)
@@ -92,7 +92,7 @@ module _ (exchange : Exchange) (world : World) (is : IsExchange exchange) (sound
       let one = its_one b in
       omega (arith, d, one, rule.word_is, rule.back, rule.ahead)
 
-pub words_tell_steps : (exchange : Exchange) (steps : List Step) (world : World) (step : Step) → IsExchange exchange
+pub words_tell_steps : (exchange : Exchange) (steps : List Step) (world : World) (step : Step) → HasItsKinds exchange
     → IsReached exchange steps world → AreTold exchange world step
 words_tell_steps exchange steps world step is reached =
     let sound : IsSound exchange world = reached-sound exchange steps world is reached in

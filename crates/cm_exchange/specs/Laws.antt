@@ -7,7 +7,7 @@ use Rattle.cm_exchange.specs.Steps.{block_of, stage_of, kind_now, uses_now, send
 use Rattle.cm_exchange.specs.Steps.{next_step, IsReached}
 
 -- each round of an exchange is of one of its kinds
-pub record IsExchange (exchange : Exchange) : Type 0 where
+pub record HasItsKinds (exchange : Exchange) : Type 0 where
   pub kinds : (r : ℕ) → r < round_count exchange → kind_at exchange.kinds r < kind_count exchange.k
 
 -- who gives to a block sends to it, and who gets from it is sent to
@@ -30,7 +30,7 @@ RoundsAreDueInOrder = (exchange : Exchange) (r b : ℕ) → r < round_count exch
 -- in every world that steps lead to, a lane that is full or that its receiver holds has in it what is due in this use,
 -- and any other has nothing
 abbrev pub LanesHoldWhatIsDue : Type 0
-LanesHoldWhatIsDue = (exchange : Exchange) (steps : List Step) (world : World) (kind b : ℕ) → IsExchange exchange
+LanesHoldWhatIsDue = (exchange : Exchange) (steps : List Step) (world : World) (kind b : ℕ) → HasItsKinds exchange
     → IsReached exchange steps world → kind < kind_count exchange.k → b < 2 ^ exchange.k →
     (lane_of exchange.k world kind b).parcel
     ≡ held_by (due_list exchange kind b) (lane_of exchange.k world kind b).word
@@ -53,7 +53,7 @@ pub record AreTold (exchange : Exchange) (world : World) (step : Step) : Type 0 
 
 -- in every world that an exchange reaches, the word of a lane tells of each step what `AreTold` names
 abbrev pub WordsTellSteps : Type 0
-WordsTellSteps = (exchange : Exchange) (steps : List Step) (world : World) (step : Step) → IsExchange exchange
+WordsTellSteps = (exchange : Exchange) (steps : List Step) (world : World) (step : Step) → HasItsKinds exchange
     → IsReached exchange steps world → AreTold exchange world step
 
 -- the next step can be taken, and no block below has one
@@ -63,18 +63,18 @@ pub record IsNext (exchange : Exchange) (world : World) (step : Step) : Type 0 w
 
 -- a world that steps lead to is finished, or has a next step
 abbrev pub WorldsAreNeverStuck : Type 0
-WorldsAreNeverStuck = (exchange : Exchange) (steps : List Step) (world : World) → IsExchange exchange
+WorldsAreNeverStuck = (exchange : Exchange) (steps : List Step) (world : World) → HasItsKinds exchange
     → IsReached exchange steps world →
     ((next_step exchange world ≡ None) ↔ IsFinished exchange world)
     × ((step : Step) → next_step exchange world ≡ Some step → IsNext exchange world step)
 
 -- it is finished after four steps of each block in each round, whatever their order
 abbrev pub StepsAreCounted : Type 0
-StepsAreCounted = (exchange : Exchange) (steps : List Step) (world : World) → IsExchange exchange
+StepsAreCounted = (exchange : Exchange) (steps : List Step) (world : World) → HasItsKinds exchange
     → IsReached exchange steps world →
     IsFinished exchange world ↔ (length steps ≡ 4 * round_count exchange * 2 ^ exchange.k)
 
 -- no order has more
 abbrev pub OrdersComeToAnEnd : Type 0
-OrdersComeToAnEnd = (exchange : Exchange) (steps : List Step) (world : World) → IsExchange exchange
+OrdersComeToAnEnd = (exchange : Exchange) (steps : List Step) (world : World) → HasItsKinds exchange
     → IsReached exchange steps world → length steps ≤ 4 * round_count exchange * 2 ^ exchange.k

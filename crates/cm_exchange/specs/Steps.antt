@@ -60,11 +60,11 @@ moved (Draw b) dues count lane = record { word = 4 * count + 3; parcel = lane.pa
 moved (Clear b) dues count lane = record { word = 4 * count + 4; parcel = None }
 
 -- the block after it
-abbrev pub gone_on : Step → Stand → Stand
-gone_on (Grip b) stand = record { round = stand.round; stage = 1 }
-gone_on (File b) stand = record { round = stand.round; stage = 2 }
-gone_on (Draw b) stand = record { round = stand.round; stage = 3 }
-gone_on (Clear b) stand = record { round = stand.round + 1; stage = 0 }
+abbrev pub stand_after : Step → Stand → Stand
+stand_after (Grip b) stand = record { round = stand.round; stage = 1 }
+stand_after (File b) stand = record { round = stand.round; stage = 2 }
+stand_after (Draw b) stand = record { round = stand.round; stage = 3 }
+stand_after (Clear b) stand = record { round = stand.round + 1; stage = 0 }
 
 -- a step of a block that stands so can be taken
 abbrev pub can_step : Exchange → World → Stand → Step → Bool
@@ -78,7 +78,7 @@ can_step exchange world stand step =
 -- the world after it
 abbrev pub world_with : Exchange → World → Stand → Step → World
 world_with exchange world stand step = record {
-  stands = slice_set world.stands (block_of step) (gone_on step stand);
+  stands = slice_set world.stands (block_of step) (stand_after step stand);
   lanes = slice_set world.lanes
       (lane_number exchange.k (kind_now exchange stand) (sender_of exchange stand step))
       (moved step (due_list exchange (kind_now exchange stand) (sender_of exchange stand step))

@@ -22,14 +22,14 @@ abbrev pub at_first : Stand
 at_first = record { round = 0; stage = 0 }
 
 -- a lane at the beginning: it is empty, and nothing was sent over it
-abbrev pub unused : Lane
-unused = record { word = 0; parcel = None }
+abbrev pub unused_lane : Lane
+unused_lane = record { word = 0; parcel = None }
 
 -- the world at the beginning: 2 ^ k blocks at their first round, and all lanes empty
 unfoldable pub first_world : Exchange → World
 first_world exchange = record {
   stands = replicate (2 ^ exchange.k) at_first;
-  lanes = replicate (kind_count exchange.k * 2 ^ exchange.k) unused;
+  lanes = replicate (kind_count exchange.k * 2 ^ exchange.k) unused_lane;
 }
 
 -- where block b stands
@@ -42,7 +42,7 @@ lane_number k kind b = kind * 2 ^ k + b
 
 -- the lane of a kind and a sender, in a world of 2 ^ k blocks
 abbrev pub lane_of : ℕ → World → ℕ → ℕ → Lane
-lane_of k world kind b = slice_index_or world.lanes (lane_number k kind b) unused
+lane_of k world kind b = slice_index_or world.lanes (lane_number k kind b) unused_lane
 
 -- what a lane holds, by its word: what is due in this use where it is full or its receiver holds it, else nothing
 abbrev pub held_by : List Parcel → ℕ → Option Parcel

@@ -14,7 +14,7 @@ use Rattle.cm_subcube.specs.declared.round.Round.{Round}
 use Rattle.cm_subcube.specs.Rounds.{kind_over, kind_of, round_of}
 use Rattle.cm_subcube.proofs.Following.{round_is_followed}
 use Rattle.cm_exchange.specs.Lanes as exchange
-use Rattle.cm_resident.specs.Lanes.{Run, before, rounds_in, place_of, picks, is_over, sent_in, dues, givers}
+use Rattle.cm_resident.specs.Lanes.{Run, before, rounds_in, place_of_kind, picks, is_over, parcel_sent, dues, givers}
 use Rattle.cm_resident.specs.Laws.{LanesAreOfTheExchange}
 use Rattle.cm_resident.proofs.Going.{found}
 
@@ -59,13 +59,13 @@ read_at g [] i phase at = absurd (let wrong : None ≡ Some phase = at in cc)
 read_at g (p ∷ phases) zero phase at = ap g (let e : Some p ≡ Some phase = at in cc)
 read_at g (p ∷ phases) (suc i) phase at = read_at g phases i phase at
 
-place_over : (n k : ℕ) (to : Dir) → exchange.kind_over to ≡ place_of n k (kind_over to)
+place_over : (n k : ℕ) (to : Dir) → exchange.kind_number_over to ≡ place_of_kind n k (kind_over to)
 place_over n k dir.North = refl
 place_over n k dir.East = refl
 place_over n k dir.West = refl
 place_over n k dir.South = refl
 
-place_is : (n k : ℕ) (step : Step) → exchange.kind_of n k step ≡ place_of n k (kind_of step)
+place_is : (n k : ℕ) (step : Step) → exchange.kind_number_of n k step ≡ place_of_kind n k (kind_of step)
 place_is n k (Instruct nano) = place_over n k nano.dir
 place_is n k Look = refl
 place_is n k Inject = refl
@@ -82,7 +82,7 @@ module _ (run : Run) (b j : ℕ) where
   exchange_it = exchange.exchange_of run.n run.room run.k run.machine run.acts
 
   abbrev Alike : ℕ → Round → Type 0
-  Alike at round = IsAlike (is_over run.n run.k j) (sent_in run b)
+  Alike at round = IsAlike (is_over run.n run.k j) (parcel_sent run b)
       (λ r. eqb (exchange.kind_at exchange_it.kinds r) j) (λ r. exchange_it.sent r b) at round
 
   alike : (i : ℕ) (round : Round) → slice_get (rounds_in run) i ≡ Some round → Alike (0 + i) round
@@ -91,7 +91,7 @@ module _ (run : Run) (b j : ℕ) where
       subst (λ (v : ℕ). Alike v round) (let e : i ≡ 0 + i = omega arith in e)
       (subst (λ (x : Round). Alike i x) f.is (record {
         passes = ap (λ (v : ℕ). eqb v j)
-            (read_at (λ (phase : Phase). exchange.kind_of run.n run.k phase.step) phases_it i f.phase f.at
+            (read_at (λ (phase : Phase). exchange.kind_number_of run.n run.k phase.step) phases_it i f.phase f.at
             ∙ place_is run.n run.k f.phase.step);
         gives = ap (λ o. exchange.due_from run.n run.room run.k (before run i) o b) f.at
             ∙ ap (λ (step : Step). due run.n run.room step (block run.n run.k b (before run i)))
@@ -100,12 +100,12 @@ module _ (run : Run) (b j : ℕ) where
 
   due_is : dues run b j ≡ exchange.due_list exchange_it j b
   due_is =
-      picks_filter (is_over run.n run.k j) (sent_in run b) (λ r. eqb (exchange.kind_at exchange_it.kinds r) j)
+      picks_filter (is_over run.n run.k j) (parcel_sent run b) (λ r. eqb (exchange.kind_at exchange_it.kinds r) j)
       (λ r. exchange_it.sent r b) 0 (rounds_in run) alike
       ∙ ap (λ (m : ℕ). map (λ r. exchange_it.sent r b)
       (filter (λ r. eqb (exchange.kind_at exchange_it.kinds r) j) (range_with_len 0 m)))
       (length-map phases_it round_of
-      ∙ sym (length-map phases_it (λ (phase : Phase). exchange.kind_of run.n run.k phase.step)))
+      ∙ sym (length-map phases_it (λ (phase : Phase). exchange.kind_number_of run.n run.k phase.step)))
 
 giver_is : (run : Run) (b j : ℕ) → givers run b j ≡ exchange.giver run.k j b
 giver_is run b zero = refl

@@ -20,7 +20,7 @@ use Rattle.cm_board.specs.Courses.{Course}
 use Rattle.cm_workers.specs.Dealing.{hand, AreDealt}
 use Rattle.cm_resident.specs.declared.outfit.Outfit.{Outfit}
 use Rattle.cm_resident.specs.Lanes.{Run, ends_each, course, own, givers}
-use Rattle.cm_resident.specs.Standing.{number, IsCut, AreEndsBefore, IsUnused}
+use Rattle.cm_resident.specs.Standing.{block_number, IsRunBlock, AreEndsBefore, IsUnused}
 use Rattle.cm_resident.specs.Gathering.{AreAll, AreFrom}
 use Rattle.cm_resident.specs.Teams.{HasEnds, IsOutfit, HasOutfits}
 use Rattle.cm_resident.proofs.Places.{place_below}
@@ -31,7 +31,7 @@ use Rattle.cm_resident.proofs.Numbered.{none_yet, one_more}
 pub just_cut : (n cap k cycles : ℕ) (machine : Machine) (acts : List Act) (blocks : List KeptBlock)
     → map (λ (b : KeptBlock). b.kept.part) blocks ≡ all_blocks n k machine
     → All (IsFresh n cap k (cycles * (4 + cap))) blocks → cycles_in acts ≡ cycles → machine.clock + cycles < 2 ^ 63
-    → AreFrom (IsCut (record { n = n; k = k; room = cap; machine = machine; acts = acts })) 0 (2 ^ k) blocks
+    → AreFrom (IsRunBlock (record { n = n; k = k; room = cap; machine = machine; acts = acts })) 0 (2 ^ k) blocks
 just_cut n cap k cycles machine acts blocks cut fresh counted late =
     let count : length blocks ≡ 2 ^ k =
     sym (length-map blocks (λ (b : KeptBlock). b.kept.part)) ∙ ap length cut
@@ -71,7 +71,7 @@ one_row : (m each : ℕ) → m * each + each ≡ (m + 1) * each
 one_row m each = grind arith
 
 pub ends_more : (run : Run) (whose : Run → ℕ → ℕ → ℕ) (count w m : ℕ) (old ends : List (Course Parcel))
-    → AreEndsBefore run whose 0 count w m old → HasEnds run whose (number count w m) ends
+    → AreEndsBefore run whose 0 count w m old → HasEnds run whose (block_number count w m) ends
     → AreEndsBefore run whose 0 count w (m + 1) (old ++ ends)
 ends_more run whose count w m old ends are has = let e : ℕ = ends_each run.k in record {
   len = length-append old ends ∙ ap (λ (v : ℕ). v + length ends) are.len ∙ ap (λ (v : ℕ). m * e + v) has.len ∙ one_row m e;
@@ -81,7 +81,7 @@ ends_more run whose count w m old ends are has = let e : ℕ = ends_each run.k i
       (let f = place_below i m e j less k in let g = are.len in omega (arith, f, g))
       ∙ are.each i j d less k)
       (λ (no_less : m ≤ i). let here : i ≡ m = omega (arith, no_less, l) in
-      subst (λ (v : ℕ). get_or (old ++ ends) (v * e + j) d ≡ course run (whose run (number count w v) j) j 0) (sym here)
+      subst (λ (v : ℕ). get_or (old ++ ends) (v * e + j) d ≡ course run (whose run (block_number count w v) j) j 0) (sym here)
       (ap (λ (v : ℕ). get_or (old ++ ends) (v + j) d) (sym are.len)
       ∙ get_or-append-add old ends j d ∙ has.each j d k))
       (cases_lt i m);
@@ -91,13 +91,13 @@ ends_more run whose count w m old ends are has = let e : ℕ = ends_each run.k i
 
 -- its first m blocks and their ends
 pub record HasFirst (run : Run) (count w m : ℕ) (blocks : List KeptBlock) (sends gets : List (Course Parcel)) : Type 0 where
-  pub blocks_are : AreAll (λ i. IsCut run (number count w i)) m blocks
+  pub blocks_are : AreAll (λ i. IsRunBlock run (block_number count w i)) m blocks
   pub sends_are : AreEndsBefore run own 0 count w m sends
   pub gets_are : AreEndsBefore run givers 0 count w m gets
 
 pub none_of_them : (run : Run) (count w : ℕ) → HasFirst run count w 0 [] [] []
 none_of_them run count w = record {
-  blocks_are = none_yet (λ i. IsCut run (number count w i));
+  blocks_are = none_yet (λ i. IsRunBlock run (block_number count w i));
   sends_are = no_ends run own count w;
   gets_are = no_ends run givers count w;
 }
@@ -109,9 +109,9 @@ pub one_more_of_them : (run : Run) (count w m : ℕ) (outfits : List Outfit) (on
     → blocks_now ≡ blocks ++ one.block ∷ [] → sends_now ≡ sends ++ one.sends.items → gets_now ≡ gets ++ one.gets.items
     → HasFirst run count w (m + 1) blocks_now sends_now gets_now
 one_more_of_them run count w m outfits one blocks blocks_now sends sends_now gets gets_now has below is first b s g =
-    let it : IsOutfit run (number count w m) one =
-    subst (λ (x : Outfit). IsOutfit run (number count w m) x) (sym is) (has.each m one below) in record {
-      blocks_are = one_more (λ i. IsCut run (number count w i)) m blocks blocks_now one.block first.blocks_are b it.cut;
+    let it : IsOutfit run (block_number count w m) one =
+    subst (λ (x : Outfit). IsOutfit run (block_number count w m) x) (sym is) (has.each m one below) in record {
+      blocks_are = one_more (λ i. IsRunBlock run (block_number count w i)) m blocks blocks_now one.block first.blocks_are b it.cut;
       sends_are = subst (λ (ends : List (Course Parcel)). AreEndsBefore run own 0 count w (m + 1) ends) (sym s)
           (ends_more run own count w m sends one.sends.items first.sends_are it.sends_are);
       gets_are = subst (λ (ends : List (Course Parcel)). AreEndsBefore run givers 0 count w (m + 1) ends) (sym g)
@@ -125,12 +125,12 @@ pub has_all : (run : Run) (count w : ℕ) (outfits : List Outfit) (blocks : List
     → IsUnused run count w blocks sends gets
 has_all run count w outfits blocks sends gets within one_of there has first =
     let many : length blocks ≡ length outfits = first.blocks_are.len in
-    let some : 0 < length outfits = (has.share 0).1 (let at : number count w 0 ≡ w = omega arith in omega (arith, at, there)) in
+    let some : 0 < length outfits = (has.share 0).1 (let at : block_number count w 0 ≡ w = omega arith in omega (arith, at, there)) in
     record {
       within = within;
       one_of = one_of;
       some = omega (arith, some, many);
-      share = λ q. subst (λ (m : ℕ). (q < m) ↔ (number count w q < 2 ^ run.k)) (sym many) (has.share q);
+      share = λ q. subst (λ (m : ℕ). (q < m) ↔ (block_number count w q < 2 ^ run.k)) (sym many) (has.share q);
       each = λ i d l. first.blocks_are.each i d (omega (arith, l, many));
       sends_are = subst (λ (m : ℕ). AreEndsBefore run own 0 count w m sends) (sym many) first.sends_are;
       gets_are = subst (λ (m : ℕ). AreEndsBefore run givers 0 count w m gets) (sym many) first.gets_are;
@@ -147,11 +147,11 @@ are_hands run count outfits hands are dealt = record {
       let at : w ≡ 0 + w = omega arith in
       let one_of : w < count = omega (arith, l) in
       subst (λ (v : ℕ). HasOutfits run count v (hand hands e w)) at (record {
-        share = λ i. subst (λ (m : ℕ). (i < length (hand hands e w)) ↔ (number count w i < m)) are.len
+        share = λ i. subst (λ (m : ℕ). (i < length (hand hands e w)) ↔ (block_number count w i < m)) are.len
             (dealt.shares w i e one_of);
         each = λ i d k.
-            let there : number count w i < length outfits = (dealt.shares w i e one_of).0 k in
-            subst (λ (x : Outfit). IsOutfit run (number count w i) x) (sym (dealt.each w i e d one_of there))
-            (are.each (number count w i) d (let f = are.len in omega (arith, f, there)));
+            let there : block_number count w i < length outfits = (dealt.shares w i e one_of).0 k in
+            subst (λ (x : Outfit). IsOutfit run (block_number count w i) x) (sym (dealt.each w i e d one_of there))
+            (are.each (block_number count w i) d (let f = are.len in omega (arith, f, there)));
       });
 }

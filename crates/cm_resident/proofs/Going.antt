@@ -37,10 +37,10 @@ use Rattle.cm_subcube.proofs.Counting.{steps_until-first, deliveries_shared, eve
 use Rattle.cm_subcube.proofs.Following.{round_is_followed}
 use Rattle.cm_subcube.proofs.Sparing.{cuts_are_spared, room_for}
 use Rattle.cm_board.specs.Courses.{Course, due_now}
-use Rattle.cm_workers.specs.Posts.{giver}
+use Rattle.cm_workers.specs.Posts.{giver_of_kind}
 use Rattle.cm_workers.specs.Turns.{IsShown}
-use Rattle.cm_resident.specs.Lanes.{Run, before, rounds_in, place_of, kind_at, is_over, passed, sent_in, dues, course}
-use Rattle.cm_resident.specs.Standing.{IsCut, StandsBefore}
+use Rattle.cm_resident.specs.Lanes.{Run, before, rounds_in, place_of_kind, kind_of_index, is_over, passed, parcel_sent, dues, course}
+use Rattle.cm_resident.specs.Standing.{IsRunBlock, StandsBefore}
 use Rattle.cm_resident.specs.Turns.{CanGoOn, HasGoneOn, CanSend, HasSent, CanGet, HasGot}
 use Rattle.cm_resident.proofs.Picking.{picked, picked_below}
 use Rattle.cm_resident.proofs.Ends.{kind_of_place}
@@ -134,10 +134,10 @@ due_of_kind n k room Deliver s round count = absurd (let wrong : false ≡ true 
 
 -- the giver of a kind is the sender at the step
 giver_is_sender : (n k : ℕ) (step : Step) (b : ℕ) → is_round n k step ≡ true
-    → giver n k (kind_of step) b ≡ sender n k step b
+    → giver_of_kind n k (kind_of step) b ≡ sender n k step b
 giver_is_sender n k (Instruct nano) b round = over nano.dir (grind (arith, nat_tests))
   where
-    over : (to : Dir) → is_vertical to ≡ true → giver n k (kind_over to) b ≡ sender_over k to b
+    over : (to : Dir) → is_vertical to ≡ true → giver_of_kind n k (kind_over to) b ≡ sender_over k to b
     over dir.North v = refl
     over dir.South v = refl
     over dir.East v = absurd (let wrong : false ≡ true = v in cc)
@@ -156,7 +156,7 @@ count_of_block n k b machine = refl
 following_none : (n k : ℕ) (acts : List Act) → ForSome None (λ round. IsRoundOf n k acts round)
 following_none n k acts round is = absurd (let wrong : None ≡ Some round = is in cc)
 
-can_begin_own : (run : Run) (b : ℕ) (one : KeptBlock) → IsCut (own_run run one) b one → CanGoOn run.acts None one
+can_begin_own : (run : Run) (b : ℕ) (one : KeptBlock) → IsRunBlock (own_run run one) b one → CanGoOn run.acts None one
 can_begin_own run b one cut = let n = one.kept.dims in let k = one.k in let room = one.kept.room in record {
   following = following_none n k run.acts;
   log_room = less_room (events_in room (local_after n k run.acts None)) (cycles_in run.acts * (4 + room))
@@ -164,13 +164,13 @@ can_begin_own run b one cut = let n = one.kept.dims in let k = one.k in let room
   clock = let f = deliveries_shared.first n k run.acts in let c = cut.clock in omega (arith, f, c);
 }
 
-pub can_begin : (run : Run) (b : ℕ) (one : KeptBlock) → IsCut run b one → CanGoOn run.acts None one
+pub can_begin : (run : Run) (b : ℕ) (one : KeptBlock) → IsRunBlock run b one → CanGoOn run.acts None one
 can_begin run b one cut =
-    can_begin_own run b one (as_own run one (λ x. IsCut x b one)
+    can_begin_own run b one (as_own run one (λ x. IsRunBlock x b one)
     (record { blocks = cut.blocks; dims = cut.dims; room_is = cut.room_is }) cut)
 
 begun_own : (run : Run) (b : ℕ) (old new : KeptBlock) → old.k ≤ old.kept.dims - old.kept.dims / 2 → b < 2 ^ old.k
-    → IsCut (own_run run old) b old → HasGoneOn run.acts None old new → StandsBefore (own_run run old) 0 b new
+    → IsRunBlock (own_run run old) b old → HasGoneOn run.acts None old new → StandsBefore (own_run run old) 0 b new
 begun_own run b old new within below cut gone =
     let n = old.kept.dims in let k = old.k in let room = old.kept.room in let acts = run.acts in
     let part_is : new.kept.part ≡ block n k b (before_round n room k run.machine acts 0) =
@@ -190,12 +190,12 @@ begun_own run b old new within below cut gone =
     }
 
 pub begun : (run : Run) (b : ℕ) (old new : KeptBlock) → run.k ≤ run.n - run.n / 2 → b < 2 ^ run.k
-    → IsCut run b old → HasGoneOn run.acts None old new → StandsBefore run 0 b new
+    → IsRunBlock run b old → HasGoneOn run.acts None old new → StandsBefore run 0 b new
 begun run b old new within below cut gone =
     let s : HasSizes run old = record { blocks = cut.blocks; dims = cut.dims; room_is = cut.room_is } in
     at_own run old (λ x. StandsBefore x 0 b new) s
     (begun_own run b old new (as_own run old (λ x. x.k ≤ x.n - x.n / 2) s within)
-    (as_own run old (λ x. b < 2 ^ x.k) s below) (as_own run old (λ x. IsCut x b old) s cut) gone)
+    (as_own run old (λ x. b < 2 ^ x.k) s below) (as_own run old (λ x. IsRunBlock x b old) s cut) gone)
 
 -- a block that may be read stands as it did
 pub shown : (run : Run) (r b : ℕ) (old new : KeptBlock) → StandsBefore run r b old → IsShown old new
@@ -236,7 +236,7 @@ module _ (run : Run) (r : ℕ) (phase : Phase) (at : slice_get (rounds run.n run
   round_it = round_of phase
 
   abbrev place_it : ℕ
-  place_it = place_of run.n run.k (kind_of phase.step)
+  place_it = place_of_kind run.n run.k (kind_of phase.step)
 
   abbrev told_it : IsFollowed run.n run.k r run.acts phase
   told_it = round_is_followed run.n run.k r run.acts phase at
@@ -244,29 +244,29 @@ module _ (run : Run) (r : ℕ) (phase : Phase) (at : slice_get (rounds run.n run
   listed : slice_get (rounds_in run) r ≡ Some round_it
   listed = slice_get-map round_of (rounds run.n run.k run.acts) r ∙ ap (option_map round_of) at
 
-  kind_is : kind_at run.n run.k place_it ≡ kind_of phase.step
+  kind_is : kind_of_index run.n run.k place_it ≡ kind_of phase.step
   kind_is = kind_of_place run.n run.k phase.act (kind_of phase.step) told_it.round.exchange
 
   -- what the lane of a block for the round carries then
   carried : (b : ℕ) → due_now (course run b place_it r) ≡ due run.n run.room phase.step (block run.n run.k b (before run r))
   carried b =
-      picked (is_over run.n run.k place_it) (sent_in run b) 0 (rounds_in run) r round_it
-      (blank_parcel run.n run.k (kind_at run.n run.k place_it)) listed (eq-eqb place_it place_it refl)
-      ∙ ap (λ (j : ℕ). sent_in run b j round_it) (let e : 0 + r ≡ r = omega arith in e)
+      picked (is_over run.n run.k place_it) (parcel_sent run b) 0 (rounds_in run) r round_it
+      (blank_parcel run.n run.k (kind_of_index run.n run.k place_it)) listed (eq-eqb place_it place_it refl)
+      ∙ ap (λ (j : ℕ). parcel_sent run b j round_it) (let e : 0 + r ≡ r = omega arith in e)
       ∙ ap (λ (step : Step). due run.n run.room step (block run.n run.k b (before run r))) told_it.step
 
   used_less : (b : ℕ) → passed (is_over run.n run.k place_it) r (rounds_in run) < length (dues run b place_it)
-  used_less b = picked_below (is_over run.n run.k place_it) (sent_in run b) 0 (rounds_in run) r round_it listed
+  used_less b = picked_below (is_over run.n run.k place_it) (parcel_sent run b) 0 (rounds_in run) r round_it listed
       (eq-eqb place_it place_it refl)
 
 -- ---- sending
 
 can_send_own : (run : Run) (r b : ℕ) (one : KeptBlock) (e : Course Parcel) (phase : Phase)
     → slice_get (rounds one.kept.dims one.k run.acts) r ≡ Some phase → StandsBefore (own_run run one) r b one
-    → e ≡ course (own_run run one) b (place_of one.kept.dims one.k (kind_of phase.step)) r
+    → e ≡ course (own_run run one) b (place_of_kind one.kept.dims one.k (kind_of phase.step)) r
     → CanSend (round_of phase) one e
 can_send_own run r b one e phase at st is =
-    let own : Run = own_run run one in let place : ℕ = place_of own.n own.k (kind_of phase.step) in
+    let own : Run = own_run run one in let place : ℕ = place_of_kind own.n own.k (kind_of phase.step) in
     subst (λ (x : Course Parcel). CanSend (round_of phase) one x) (sym is) (record {
       exchange = (round_is_followed own.n own.k r run.acts phase at).round.exchange;
       more = used_less own r phase at b;
@@ -282,14 +282,14 @@ sizes_of run r b one st = record { blocks = st.blocks; dims = st.dims; room_is =
 
 pub can_send : (run : Run) (r b : ℕ) (round : Round) (one : KeptBlock) (e : Course Parcel)
     → slice_get (rounds_in run) r ≡ Some round → StandsBefore run r b one
-    → e ≡ course run b (place_of run.n run.k round.kind) r → CanSend round one e
+    → e ≡ course run b (place_of_kind run.n run.k round.kind) r → CanSend round one e
 can_send run r b round one e at st is =
     let s : HasSizes run one = sizes_of run r b one st in
     let f = found one.kept.dims one.k r run.acts round
     (as_own run one (λ x. slice_get (rounds_in x) r ≡ Some round) s at) in
-    subst (λ (x : Round). e ≡ course (own_run run one) b (place_of one.kept.dims one.k x.kind) r → CanSend x one e) f.is
+    subst (λ (x : Round). e ≡ course (own_run run one) b (place_of_kind one.kept.dims one.k x.kind) r → CanSend x one e) f.is
     (can_send_own run r b one e f.phase f.at (as_own run one (λ x. StandsBefore x r b one) s st))
-    (as_own run one (λ x. e ≡ course x b (place_of x.n x.k round.kind) r) s is)
+    (as_own run one (λ x. e ≡ course x b (place_of_kind x.n x.k round.kind) r) s is)
 
 -- a block that has sent in a round
 pub record StandsSent (run : Run) (r b : ℕ) (round : Round) (one : KeptBlock) : Type 0 where
@@ -334,19 +334,19 @@ module _ (run : Run) (r b : ℕ) (phase : Phase) (one : KeptBlock)
   parcel_it = due one.kept.dims one.kept.room phase.step (block one.kept.dims one.k sender_it (before own_it r))
 
   abbrev place_got : ℕ
-  place_got = place_of one.kept.dims one.k (kind_of phase.step)
+  place_got = place_of_kind one.kept.dims one.k (kind_of phase.step)
 
   abbrev followed_it : IsFollowed one.kept.dims one.k r run.acts phase
   followed_it = round_is_followed one.kept.dims one.k r run.acts phase at
 
   -- the end of the lane of its giver
   abbrev giver_end : Course Parcel
-  giver_end = course own_it (giver one.kept.dims one.k (kind_at one.kept.dims one.k place_got) b) place_got r
+  giver_end = course own_it (giver_of_kind one.kept.dims one.k (kind_of_index one.kept.dims one.k place_got) b) place_got r
 
   came : due_now giver_end ≡ parcel_it
-  came = carried own_it r phase at (giver one.kept.dims one.k (kind_at one.kept.dims one.k place_got) b)
+  came = carried own_it r phase at (giver_of_kind one.kept.dims one.k (kind_of_index one.kept.dims one.k place_got) b)
       ∙ ap (λ (from : ℕ). due one.kept.dims one.kept.room phase.step (block one.kept.dims one.k from (before own_it r)))
-      (ap (λ (x : Kind). giver one.kept.dims one.k x b) (kind_is own_it r phase at)
+      (ap (λ (x : Kind). giver_of_kind one.kept.dims one.k x b) (kind_is own_it r phase at)
       ∙ giver_is_sender one.kept.dims one.k phase.step b followed_it.exchanges)
 
   abbrev here_it : Part
@@ -358,7 +358,7 @@ module _ (run : Run) (r b : ℕ) (phase : Phase) (one : KeptBlock)
   can_get_own : CanGet run.acts (round_of phase) one giver_end
   can_get_own = record {
     exchange = followed_it.round.exchange;
-    more = used_less own_it r phase at (giver one.kept.dims one.k (kind_at one.kept.dims one.k place_got) b);
+    more = used_less own_it r phase at (giver_of_kind one.kept.dims one.k (kind_of_index one.kept.dims one.k place_got) b);
     blank = ap (λ (x : Kind). blank_parcel one.kept.dims one.k x) (kind_is own_it r phase at);
     kind = subst (λ (p : Parcel). IsOfKind one.kept.dims one.k (kind_of phase.step) p) (sym came)
         (due_of_kind one.kept.dims one.k one.kept.room phase.step (block one.kept.dims one.k sender_it (before own_it r))
@@ -428,13 +428,13 @@ sizes_sent : (run : Run) (r b : ℕ) (round : Round) (one : KeptBlock) → Stand
 sizes_sent run r b round one st = record { blocks = st.blocks; dims = st.dims; room_is = st.room_is }
 
 abbrev end_from : Run → ℕ → Kind → ℕ → Course Parcel
-end_from run b over r = course run (giver run.n run.k (kind_at run.n run.k (place_of run.n run.k over)) b)
-    (place_of run.n run.k over) r
+end_from run b over r = course run (giver_of_kind run.n run.k (kind_of_index run.n run.k (place_of_kind run.n run.k over)) b)
+    (place_of_kind run.n run.k over) r
 
 pub can_get : (run : Run) (r b : ℕ) (round : Round) (one : KeptBlock) (e : Course Parcel)
     → slice_get (rounds_in run) r ≡ Some round → StandsSent run r b round one
-    → e ≡ course run (giver run.n run.k (kind_at run.n run.k (place_of run.n run.k round.kind)) b)
-    (place_of run.n run.k round.kind) r
+    → e ≡ course run (giver_of_kind run.n run.k (kind_of_index run.n run.k (place_of_kind run.n run.k round.kind)) b)
+    (place_of_kind run.n run.k round.kind) r
     → CanGet run.acts round one e
 can_get run r b round one e at st is =
     let s : HasSizes run one = sizes_sent run r b round one st in
@@ -450,8 +450,8 @@ can_get run r b round one e at st is =
 pub got : (run : Run) (r b : ℕ) (round : Round) (one new : KeptBlock) (e : Course Parcel)
     → run.k ≤ run.n - run.n / 2 → b < 2 ^ run.k
     → slice_get (rounds_in run) r ≡ Some round → StandsSent run r b round one
-    → e ≡ course run (giver run.n run.k (kind_at run.n run.k (place_of run.n run.k round.kind)) b)
-    (place_of run.n run.k round.kind) r
+    → e ≡ course run (giver_of_kind run.n run.k (kind_of_index run.n run.k (place_of_kind run.n run.k round.kind)) b)
+    (place_of_kind run.n run.k round.kind) r
     → HasGot run.acts round one e new → StandsBefore run (r + 1) b new
 got run r b round one new e within below at st is gone =
     let s : HasSizes run one = sizes_sent run r b round one st in

@@ -15,9 +15,9 @@ use Rattle.cm_subcube.specs.Rounds.{rounds_of}
 use Rattle.cm_subcube.proofs.FewRounds.{rounds_are_few}
 use Rattle.cm_board.specs.Courses.{Course}
 use Rattle.cm_workers.specs.Dealing.{hand}
-use Rattle.cm_workers.specs.Posts.{giver, AreHandedOver}
+use Rattle.cm_workers.specs.Posts.{giver_of_kind, AreHandedOver}
 use Rattle.cm_subcube.specs.Parcels.{CanBeOver}
-use Rattle.cm_resident.specs.Lanes.{Run, kind_at, ends_each, course, own, givers}
+use Rattle.cm_resident.specs.Lanes.{Run, kind_of_index, ends_each, course, own, givers}
 use Rattle.cm_resident.specs.Gathering.{AreAll, AreFrom, AreFirsts}
 use Rattle.cm_resident.specs.Teams.{IsEnd, AreByPlace, HasEnds}
 use Rattle.cm_resident.proofs.Numbered.{from_first, rest_are}
@@ -51,14 +51,14 @@ in_time clock cycles acts late is =
 -- ---- who gives
 
 -- a kind of round at a place is one at which blocks exchange
-pub can_be_over : (n k place : ℕ) → k ≤ n → place < k + 2 → CanBeOver n k (kind_at n k place)
+pub can_be_over : (n k place : ℕ) → k ≤ n → place < k + 2 → CanBeOver n k (kind_of_index n k place)
 can_be_over n k zero within below = tt
 can_be_over n k (suc zero) within below = tt
 can_be_over n k (suc (suc i)) within below =
     record { from = omega arith; below = omega (arith, within, below) }
 
 -- its giver is one of the blocks
-giver_below : (n k b : ℕ) (over : Kind) → CanBeOver n k over → b < 2 ^ k → giver n k over b < 2 ^ k
+giver_below : (n k b : ℕ) (over : Kind) → CanBeOver n k over → b < 2 ^ k → giver_of_kind n k over b < 2 ^ k
 giver_below n k b kind.North can below = mod-lt (b + 1) (pow_pos k)
 giver_below n k b kind.South can below = mod-lt (b + 2 ^ k - 1) (pow_pos k)
 giver_below n k b (kind.Dim d) can below =
@@ -66,16 +66,16 @@ giver_below n k b (kind.Dim d) can below =
     (pow_below (d - (n - k)) k (let f = can.from in let g = can.below in omega (arith, f, g)))
 
 -- the ends to which blocks send, and those from which they get once they are handed over
-pub handed_over : (run : Run) (place : ℕ) (old new : List (Course Parcel)) → CanBeOver run.n run.k (kind_at run.n run.k place)
+pub handed_over : (run : Run) (place : ℕ) (old new : List (Course Parcel)) → CanBeOver run.n run.k (kind_of_index run.n run.k place)
     → AreAll (IsEnd run own place) (2 ^ run.k) old
-    → AreHandedOver run.n run.k (kind_at run.n run.k place) old new
+    → AreHandedOver run.n run.k (kind_of_index run.n run.k place) old new
     → AreFrom (IsEnd run givers place) 0 (2 ^ run.k) new
 handed_over run place old new can are over = from_first (IsEnd run givers place) (2 ^ run.k) new (record {
   len = over.len ∙ are.len;
   each = λ b d l.
       over.each b d l
-      ∙ are.each (giver run.n run.k (kind_at run.n run.k place) b) d
-      (giver_below run.n run.k b (kind_at run.n run.k place) can l);
+      ∙ are.each (giver_of_kind run.n run.k (kind_of_index run.n run.k place) b) d
+      (giver_below run.n run.k b (kind_of_index run.n run.k place) can l);
 })
 
 -- a list that is written back in place of another that is as long

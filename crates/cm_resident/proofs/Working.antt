@@ -19,10 +19,10 @@ use Rattle.cm_subcube.specs.Rounds.{round_of}
 use Rattle.cm_subcube.specs.Parcels.{IsExchangeBy}
 use Rattle.cm_board.specs.Courses.{Course}
 use Rattle.cm_workers.specs.Turns.{AreShown}
-use Rattle.cm_resident.specs.Lanes.{Run, before, rounds_in, place_of, ends_each, course, own, givers}
-use Rattle.cm_resident.specs.Standing.{number, AreEndsBefore, IsWorkerBefore, IsUnused}
+use Rattle.cm_resident.specs.Lanes.{Run, before, rounds_in, place_of_kind, ends_each, course, own, givers}
+use Rattle.cm_resident.specs.Standing.{block_number, AreEndsBefore, IsWorkerBefore, IsUnused}
 use Rattle.cm_resident.specs.Turns.{CanGoOn, HasGoneOn, CanSend, HasSent, CanGet, HasGot, AreReady, AreUsed}
-use Rattle.cm_workers.specs.Gates.{AreBeforeRound, ComesBy, told_number}
+use Rattle.cm_workers.specs.Gates.{AreBeforeRound, ComesBy, gate_round_number}
 use Rattle.cm_resident.specs.Teams.{AreDone, HasSeenOf}
 use Rattle.cm_resident.proofs.Ends.{place_in, some_blocks, ends_are, ends_next}
 use Rattle.cm_resident.proofs.Going.{count_of_block, can_begin, begun, shown, can_send, StandsSent, sent, can_get, got, exchange_of}
@@ -32,7 +32,7 @@ module _ (run : Run) (r count w : ℕ) (round : Round) (at : slice_get (rounds_i
   each_it = ends_each run.k
 
   abbrev place_now : ℕ
-  place_now = place_of run.n run.k round.kind
+  place_now = place_of_kind run.n run.k round.kind
 
   pub each_is : run.k + 2 ≡ ends_each run.k
   each_is = ends_are run.k (some_blocks run.n run.k round.act round.kind (exchange_of run r round at))
@@ -49,8 +49,8 @@ module _ (run : Run) (r count w : ℕ) (round : Round) (at : slice_get (rounds_i
     len = is.sends_are.len ∙ ap (λ (many : ℕ). many * each_it) (sym looked.len);
     below = inside;
     can = λ i b e l. let l0 : i < length blocks = omega (arith, l, looked.len) in
-        can_send run r (number count w i) round (get_or shown_them i b) (get_or sends (i * each_it + place_now) e) at
-        (shown run r (number count w i) (get_or blocks i b) (get_or shown_them i b) (is.each i b l0) (looked.each i b l0))
+        can_send run r (block_number count w i) round (get_or shown_them i b) (get_or sends (i * each_it + place_now) e) at
+        (shown run r (block_number count w i) (get_or blocks i b) (get_or shown_them i b) (is.each i b l0) (looked.each i b l0))
         (is.sends_are.each i place_now e l0 inside);
   }
 
@@ -58,11 +58,11 @@ module _ (run : Run) (r count w : ℕ) (round : Round) (at : slice_get (rounds_i
       → IsWorkerBefore run r count w blocks sends gets → AreShown blocks shown_them
       → AreUsed each_it place_now (length shown_them) (HasSent round) shown_them sends sent_them nexts
       → (i : ℕ) (b : KeptBlock) → i < length blocks
-      → (e : Course Parcel) → StandsSent run r (number count w i) round (get_or sent_them i b)
+      → (e : Course Parcel) → StandsSent run r (block_number count w i) round (get_or sent_them i b)
   stands_sent blocks shown_them sent_them sends gets nexts is looked used i b l e =
-      sent run r (number count w i) round (get_or shown_them i b) (get_or sent_them i b)
+      sent run r (block_number count w i) round (get_or shown_them i b) (get_or sent_them i b)
       (get_or sends (i * each_it + place_now) e)
-      (shown run r (number count w i) (get_or blocks i b) (get_or shown_them i b) (is.each i b l) (looked.each i b l))
+      (shown run r (block_number count w i) (get_or blocks i b) (get_or shown_them i b) (is.each i b l) (looked.each i b l))
       (used.became i b e (omega (arith, l, looked.len)))
 
   pub all_can_get : (blocks shown_them sent_them : List KeptBlock) (sends gets nexts : List (Course Parcel))
@@ -73,7 +73,7 @@ module _ (run : Run) (r count w : ℕ) (round : Round) (at : slice_get (rounds_i
     len = is.gets_are.len ∙ ap (λ (many : ℕ). many * each_it) (sym (used.block_count ∙ looked.len));
     below = inside;
     can = λ i b e l. let l0 : i < length blocks = omega (arith, l, used.block_count, looked.len) in
-        can_get run r (number count w i) round (get_or sent_them i b) (get_or gets (i * each_it + place_now) e) at
+        can_get run r (block_number count w i) round (get_or sent_them i b) (get_or gets (i * each_it + place_now) e) at
         (stands_sent blocks shown_them sent_them sends gets nexts is looked used i b l0 e)
         (is.gets_are.each i place_now e l0 inside);
   }
@@ -88,10 +88,10 @@ module _ (run : Run) (r count w : ℕ) (round : Round) (at : slice_get (rounds_i
         within = is.within;
         one_of = is.one_of;
         some = let s = is.some in omega (arith, s, many);
-        share = λ q. subst (λ (m : ℕ). (q < m) ↔ (number count w q < 2 ^ run.k)) (sym many) (is.share q);
+        share = λ q. subst (λ (m : ℕ). (q < m) ↔ (block_number count w q < 2 ^ run.k)) (sym many) (is.share q);
         each = λ i b l. let l0 : i < length blocks = omega (arith, l, many) in
             let e : Course Parcel = course run 0 0 0 in
-            got run r (number count w i) round (get_or sent_them i b) (get_or last i b)
+            got run r (block_number count w i) round (get_or sent_them i b) (get_or last i b)
             (get_or gets (i * each_it + place_now) e) is.within ((is.share i).0 l0) at
             (stands_sent blocks shown_them sent_them sends gets nexts is looked used i b l0 e)
             (is.gets_are.each i place_now e l0 inside)
@@ -113,7 +113,7 @@ module _ (run : Run) (r count w : ℕ) (round : Round) (at : slice_get (rounds_i
 pub all_can_begin : (run : Run) (count w : ℕ) (blocks : List KeptBlock) (sends gets : List (Course Parcel))
     → IsUnused run count w blocks sends gets
     → (i : ℕ) (b : KeptBlock) → i < length blocks → CanGoOn run.acts None (get_or blocks i b)
-all_can_begin run count w blocks sends gets is i b l = can_begin run (number count w i) (get_or blocks i b) (is.each i b l)
+all_can_begin run count w blocks sends gets is i b l = can_begin run (block_number count w i) (get_or blocks i b) (is.each i b l)
 
 pub has_begun : (run : Run) (count w : ℕ) (blocks news : List KeptBlock) (sends gets : List (Course Parcel))
     → IsUnused run count w blocks sends gets → length news ≡ length blocks
@@ -123,9 +123,9 @@ has_begun run count w blocks news sends gets is many gone = record {
   within = is.within;
   one_of = is.one_of;
   some = let s = is.some in omega (arith, s, many);
-  share = λ q. subst (λ (m : ℕ). (q < m) ↔ (number count w q < 2 ^ run.k)) (sym many) (is.share q);
+  share = λ q. subst (λ (m : ℕ). (q < m) ↔ (block_number count w q < 2 ^ run.k)) (sym many) (is.share q);
   each = λ i b l. let l0 : i < length blocks = omega (arith, l, many) in
-      begun run (number count w i) (get_or blocks i b) (get_or news i b) is.within ((is.share i).0 l0) (is.each i b l0)
+      begun run (block_number count w i) (get_or blocks i b) (get_or news i b) is.within ((is.share i).0 l0) (is.each i b l0)
       (gone i b l0);
   sends_are = subst (λ (m : ℕ). AreEndsBefore run own 0 count w m sends) (sym many) is.sends_are;
   gets_are = subst (λ (m : ℕ). AreEndsBefore run givers 0 count w m gets) (sym many) is.gets_are;
@@ -168,7 +168,7 @@ still_before n k room machine acts r count w blocks now shown_them was = record 
 -- a worker comes by a gate
 pub comes_by : (run : Run) (r count w : ℕ) (round : Round) (blocks : List KeptBlock) (sends gets : List (Course Parcel))
     → slice_get (rounds_in run) r ≡ Some round → IsWorkerBefore run r count w blocks sends gets
-    → ComesBy w (told_number r) blocks
+    → ComesBy w (gate_round_number r) blocks
 comes_by run r count w round blocks sends gets at is = record {
   n = run.n;
   k = run.k;
@@ -202,7 +202,7 @@ still_comes w told blocks now shown_them was = record {
 -- who was shown its blocks saw the worker before the round
 pub has_seen : (saw : ℕ → ℕ → List KeptBlock → Type 0) (run : Run) (r count w : ℕ) (blocks now : List KeptBlock)
     (sends gets : List (Course Parcel)) → IsWorkerBefore run r count w blocks sends gets → AreShown blocks now
-    → saw w (told_number r) now → HasSeenOf saw run count w r
+    → saw w (gate_round_number r) now → HasSeenOf saw run count w r
 has_seen saw run r count w blocks now sends gets is shown_them seen = record {
   blocks = now;
   at = still_before run.n run.k run.room run.machine run.acts r count w blocks now shown_them
@@ -231,7 +231,7 @@ all_done run count w many blocks sends gets is at =
 
 pub record Fits (run : Run) (round : Round) (each place : ℕ) : Type 0 where
   pub each_fits : ends_each run.k ≡ each
-  pub place_fits : place_of run.n run.k round.kind ≡ place
+  pub place_fits : place_of_kind run.n run.k round.kind ≡ place
 
 pub chips_are : (run : Run) (r count w : ℕ) (blocks : List KeptBlock) (sends gets : List (Course Parcel))
     (first : KeptBlock) → IsWorkerBefore run r count w blocks sends gets → first ≡ get_or blocks 0 first
@@ -239,7 +239,7 @@ pub chips_are : (run : Run) (r count w : ℕ) (blocks : List KeptBlock) (sends g
 chips_are run r count w blocks sends gets first is read =
     ap (λ (x : KeptBlock). x.kept.part.count) read
     ∙ ap (λ (s : Part). s.count) (is.each 0 first is.some).part
-    ∙ count_of_block run.n run.k (number count w 0) (before run r)
+    ∙ count_of_block run.n run.k (block_number count w 0) (before run r)
 
 -- a dimension at which blocks exchange leads out of each
 pub leads_out : (run : Run) (r chips d : ℕ) (round : Round) → slice_get (rounds_in run) r ≡ Some round
@@ -250,7 +250,7 @@ leads_out run r chips d round at is over =
     omega (arith, is, more)
 
 pub they_fit : (run : Run) (round : Round) (k each place : ℕ) → k ≡ run.k → each ≡ ends_each k
-    → place ≡ place_of run.n run.k round.kind → Fits run round each place
+    → place ≡ place_of_kind run.n run.k round.kind → Fits run round each place
 they_fit run round k each place k_is each_is place_is = record {
   each_fits = ap ends_each (sym k_is) ∙ sym each_is;
   place_fits = sym place_is;
@@ -259,16 +259,16 @@ they_fit run round k each place k_is each_is place_is = record {
 module _ (run : Run) (r count w : ℕ) (round : Round) (at : slice_get (rounds_in run) r ≡ Some round)
     (each place : ℕ) (fit : Fits run round each place) where
   ready_fit : (Can : KeptBlock → Course Parcel → Type 0) (blocks : List KeptBlock) (ends : List (Course Parcel))
-      → AreReady (ends_each run.k) (place_of run.n run.k round.kind) Can blocks ends → AreReady each place Can blocks ends
+      → AreReady (ends_each run.k) (place_of_kind run.n run.k round.kind) Can blocks ends → AreReady each place Can blocks ends
   ready_fit Can blocks ends are =
       subst (λ (x : ℕ). AreReady x place Can blocks ends) fit.each_fits
       (subst (λ (y : ℕ). AreReady (ends_each run.k) y Can blocks ends) fit.place_fits are)
 
   used_fit : (m : ℕ) (Become : KeptBlock → Course Parcel → KeptBlock → Type 0) (blocks news : List KeptBlock)
       (ends nexts : List (Course Parcel)) → AreUsed each place m Become blocks ends news nexts
-      → AreUsed (ends_each run.k) (place_of run.n run.k round.kind) m Become blocks ends news nexts
+      → AreUsed (ends_each run.k) (place_of_kind run.n run.k round.kind) m Become blocks ends news nexts
   used_fit m Become blocks news ends nexts are =
-      subst (λ (x : ℕ). AreUsed x (place_of run.n run.k round.kind) m Become blocks ends news nexts) (sym fit.each_fits)
+      subst (λ (x : ℕ). AreUsed x (place_of_kind run.n run.k round.kind) m Become blocks ends news nexts) (sym fit.each_fits)
       (subst (λ (y : ℕ). AreUsed each y m Become blocks ends news nexts) (sym fit.place_fits) are)
 
   module _ (blocks shown_them : List KeptBlock) (sends gets : List (Course Parcel))

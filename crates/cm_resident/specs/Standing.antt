@@ -12,7 +12,7 @@ use Rattle.cm_workers.specs.Gates.{IsShareOf}
 use Rattle.cm_resident.specs.Lanes.{Run, before, ends_each, course, own, givers}
 
 -- block b of a run as it is cut out, with room for all events of the run
-pub record IsCut (run : Run) (b : ℕ) (one : KeptBlock) : Type 0 where
+pub record IsRunBlock (run : Run) (b : ℕ) (one : KeptBlock) : Type 0 where
   pub blocks : one.k ≡ run.k
   pub dims : one.kept.dims ≡ run.n
   pub room_is : one.kept.room ≡ run.room
@@ -30,15 +30,15 @@ pub record StandsBefore (run : Run) (r b : ℕ) (one : KeptBlock) : Type 0 where
   pub clock : one.kept.part.clock + deliveries (steps_after_round run.n run.k run.acts r) < 2 ^ 63
 
 -- the number of a worker's block: worker w of so many has blocks w, count + w, and so on
-abbrev pub number : ℕ → ℕ → ℕ → ℕ
-number count w i = i * count + w
+abbrev pub block_number : ℕ → ℕ → ℕ → ℕ
+block_number count w i = i * count + w
 
 -- its ends of one sort before a round, those of its first block first, by place
 pub record AreEndsBefore (run : Run) (whose : Run → ℕ → ℕ → ℕ) (r count w many : ℕ)
     (ends : List (Course Parcel)) : Type 0 where
   pub len : length ends ≡ many * ends_each run.k
   pub each : (i j : ℕ) (d : Course Parcel) → i < many → j < ends_each run.k
-      → get_or ends (i * ends_each run.k + j) d ≡ course run (whose run (number count w i) j) j r
+      → get_or ends (i * ends_each run.k + j) d ≡ course run (whose run (block_number count w i) j) j r
 
 -- the blocks and ends of worker w of so many before a round
 pub record IsWorkerBefore (run : Run) (r count w : ℕ) (blocks : List KeptBlock)
@@ -47,7 +47,7 @@ pub record IsWorkerBefore (run : Run) (r count w : ℕ) (blocks : List KeptBlock
   pub one_of : w < count
   pub some : 0 < length blocks
   pub share : IsShareOf run.k count w blocks
-  pub each : (i : ℕ) (d : KeptBlock) → i < length blocks → StandsBefore run r (number count w i) (get_or blocks i d)
+  pub each : (i : ℕ) (d : KeptBlock) → i < length blocks → StandsBefore run r (block_number count w i) (get_or blocks i d)
   pub sends_are : AreEndsBefore run own r count w (length blocks) sends
   pub gets_are : AreEndsBefore run givers r count w (length blocks) gets
 
@@ -58,6 +58,6 @@ pub record IsUnused (run : Run) (count w : ℕ) (blocks : List KeptBlock)
   pub one_of : w < count
   pub some : 0 < length blocks
   pub share : IsShareOf run.k count w blocks
-  pub each : (i : ℕ) (d : KeptBlock) → i < length blocks → IsCut run (number count w i) (get_or blocks i d)
+  pub each : (i : ℕ) (d : KeptBlock) → i < length blocks → IsRunBlock run (block_number count w i) (get_or blocks i d)
   pub sends_are : AreEndsBefore run own 0 count w (length blocks) sends
   pub gets_are : AreEndsBefore run givers 0 count w (length blocks) gets

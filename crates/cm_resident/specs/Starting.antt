@@ -5,8 +5,8 @@ use Rattle.cm_resident.specs.declared.start.Sight.{Sight}
 use Rattle.cm_resident.specs.declared.start.Place.TheVariants.{Alone, Starts, Waits}
 
 -- the view of the one seat at the beginning
-abbrev pub alone : Sight
-alone = record { place = Alone; word = 0 }
+abbrev pub starter_alone : Sight
+starter_alone = record { place = Alone; word = 0 }
 
 -- that of the starter, who told this word
 abbrev pub starter : ℕ → Sight
@@ -24,26 +24,26 @@ abbrev pub cancel : ℕ
 cancel = 2
 
 -- the word for a team, all of whose threads were started or not
-abbrev pub word_for : Bool → ℕ
-word_for are_started = if are_started then begin else cancel
+abbrev pub start_word_for : Bool → ℕ
+start_word_for are_started = if are_started then begin else cancel
 
 -- before the seats are dealt
 abbrev pub starting : State ℕ Sight
-starting = record { words = 0 ∷ []; homes = []; views = alone ∷ [] }
+starting = record { words = 0 ∷ []; homes = []; views = starter_alone ∷ [] }
 
 -- the word is what the starter told: nothing, 0, to begin, 1, or not to, 2; the worker has seen it, or has seen nothing
-abbrev pub standing : ℕ → Bool → State ℕ Sight
-standing word saw =
+abbrev pub start_state : ℕ → Bool → State ℕ Sight
+start_state word saw =
     record { words = word ∷ []; homes = []; views = starter word ∷ waiter (if saw then word else 0) ∷ [] }
 
 -- the rule: it stands so
-abbrev pub Kept : State ℕ Sight → Type 0
-Kept s = (s ≡ starting) ⊎ ((word : ℕ) × (saw : Bool) × (word ≤ 2) × (s ≡ standing word saw))
+abbrev pub StartRule : State ℕ Sight → Type 0
+StartRule s = (s ≡ starting) ⊎ ((word : ℕ) × (saw : Bool) × (word ≤ 2) × (s ≡ start_state word saw))
 
 -- one that looks has seen the word that it found
 abbrev pub looked : Me ℕ Sight → ℕ → Me ℕ Sight → Type 0
 looked old found new = new ≡ (waiter found, old.1)
 
 -- one that tells a word has told it
-abbrev pub told : ℕ → Me ℕ Sight → ℕ → Me ℕ Sight → Type 0
-told word old found new = new ≡ (starter word, old.1)
+abbrev pub has_told : ℕ → Me ℕ Sight → ℕ → Me ℕ Sight → Type 0
+has_told word old found new = new ≡ (starter word, old.1)

@@ -12,7 +12,7 @@ use Rattle.cm_workers.specs.Gates.{HasSeen}
 use Rattle.cm_resident.specs.declared.outfit.Outfit.{Outfit}
 use Rattle.cm_resident.specs.declared.worker.Worker.{Worker}
 use Rattle.cm_resident.specs.Lanes.{Run, before, rounds_in, ends_each, course, own, givers}
-use Rattle.cm_resident.specs.Standing.{number, IsCut, IsWorkerBefore, IsUnused}
+use Rattle.cm_resident.specs.Standing.{block_number, IsRunBlock, IsWorkerBefore, IsUnused}
 use Rattle.cm_resident.specs.Gathering.{AreAll, AreFrom}
 
 -- an unused worker of a team of so many for a run
@@ -32,7 +32,7 @@ pub record IsOfSome (worker : Worker) : Type 0 where
 pub record AreDone (run : Run) (count w many : ℕ) (blocks : List KeptBlock) : Type 0 where
   pub len : length blocks ≡ many
   pub each : (i : ℕ) (d : KeptBlock) → i < many
-      → (get_or blocks i d).kept.part ≡ block run.n run.k (number count w i) (before run (length (rounds_in run)))
+      → (get_or blocks i d).kept.part ≡ block run.n run.k (block_number count w i) (before run (length (rounds_in run)))
 
 -- a worker of some team stands before this round
 pub record IsBeforeRound (acts : List Act) (k r w : ℕ) (round : Round) (blocks : List KeptBlock)
@@ -61,14 +61,14 @@ HasEnds run whose b ends = AreAll (λ j. IsEnd run whose j b) (ends_each run.k) 
 
 -- block b as it was cut out, and its ends
 pub record IsOutfit (run : Run) (b : ℕ) (one : Outfit) : Type 0 where
-  pub cut : IsCut run b one.block
+  pub cut : IsRunBlock run b one.block
   pub sends_are : HasEnds run own b one.sends.items
   pub gets_are : HasEnds run givers b one.gets.items
 
 -- worker w of so many has those of its blocks
 pub record HasOutfits (run : Run) (count w : ℕ) (outfits : List Outfit) : Type 0 where
-  pub share : (i : ℕ) → (i < length outfits) ↔ (number count w i < 2 ^ run.k)
-  pub each : (i : ℕ) (d : Outfit) → i < length outfits → IsOutfit run (number count w i) (get_or outfits i d)
+  pub share : (i : ℕ) → (i < length outfits) ↔ (block_number count w i < 2 ^ run.k)
+  pub each : (i : ℕ) (d : Outfit) → i < length outfits → IsOutfit run (block_number count w i) (get_or outfits i d)
 
 -- all workers of a team for a run, in order of their numbers
 pub record IsTeam (run : Run) (count : ℕ) (team : List Worker) : Type 0 where

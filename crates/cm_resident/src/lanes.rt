@@ -2,7 +2,7 @@
 
 ghost use Rattle.std.specs.Prelude.{◌≡◌, ℕ, ◌+◌, ◌-◌, ◌/◌, ◌<◌, ◌≤◌, ◌^◌, IfOk, length};
 ghost use Rattle.cm_subcube.specs.Rounds.{rounds_of};
-ghost use Rattle.cm_resident.specs.Lanes.{Run, kind_at, ends_each, course, dues, own, givers};
+ghost use Rattle.cm_resident.specs.Lanes.{Run, kind_of_index, ends_each, course, dues, own, givers};
 ghost use Rattle.cm_resident.specs.Teams.{AreAtPlace, AreByPlace};
 
 use cm_array::Machine;
@@ -40,7 +40,7 @@ pub(crate) fn open_lane<const N: usize, const CAP: usize>(
 ) -> Result<(FromEnd<Parcel>, ToEnd<Parcel>), NoMemory>
     requires within { k ≤ N - N / 2 }
     requires few { length (rounds_of N k acts.now) ≤ 4416 }
-    requires kind { kind ≡ kind_at N k place }
+    requires kind { kind ≡ kind_of_index N k place }
     ensures from { IfOk result (λ ends. ends.0 ≡ course
         (record { n = N; k = k; room = CAP; machine = machine.now.machine; acts = acts.now }) block place 0) }
     ensures to { IfOk result (λ ends. ends.1 ≡ course
@@ -70,7 +70,7 @@ fn kind_at(dims: u8, k: u8, place: usize) -> Kind
     requires dimension { dims ≤ 12 }
     requires within { k ≤ dims }
     requires place { place < k + 2 }
-    ensures value { result ≡ kind_at dims k place }
+    ensures value { result ≡ kind_of_index dims k place }
 {
     match place {
         0 => Kind::North,

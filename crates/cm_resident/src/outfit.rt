@@ -5,7 +5,7 @@ ghost use Rattle.cm_model.specs.declared.act.Act.{Act};
 ghost use Rattle.cm_array.specs.Acts.{cycles_in};
 ghost use Rattle.cm_subcube.specs.Rounds.{rounds_of};
 ghost use Rattle.cm_resident.specs.Lanes.{Run};
-ghost use Rattle.cm_resident.specs.Standing.{IsCut};
+ghost use Rattle.cm_resident.specs.Standing.{IsRunBlock};
 ghost use Rattle.cm_resident.specs.Gathering.{AreAll, AreFrom};
 ghost use Rattle.cm_resident.specs.Teams.{IsOutfit};
 
@@ -71,7 +71,7 @@ fn cut_up<const N: usize, const CAP: usize>(
 ) -> Result<Vec<Block>, NoMemory>
     requires within { k ≤ N - N / 2 }
     requires clock { machine.now.machine.clock + cycles < 2 ^ 63 }
-    ensures value { IfOk result (λ blocks. (acts : List Act) → cycles_in acts ≡ cycles → AreFrom (IsCut
+    ensures value { IfOk result (λ blocks. (acts : List Act) → cycles_in acts ≡ cycles → AreFrom (IsRunBlock
         (record { n = N; k = k; room = CAP; machine = machine.now.machine; acts = acts })) 0 (2 ^ k) blocks.items) }
 {
     match split_in(alloc, machine, k, cycles, used) {

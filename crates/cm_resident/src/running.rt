@@ -4,7 +4,7 @@ ghost use Rattle.std.specs.Prelude.{◌≡◌, ◌≢◌, ◌↔◌, ℕ, ◌<�
 ghost use Rattle.std.specs.Prelude.{[], get_or, length, vec_capacity};
 ghost use Rattle.std.specs.List.{All};
 ghost use Rattle.std.specs.Thread.{IsSync};
-ghost use Rattle.cm_resident.specs.Starting.{begin, cancel, word_for};
+ghost use Rattle.cm_resident.specs.Starting.{begin, cancel, start_word_for};
 ghost use Rattle.cm_resident.specs.Teams.{HasWorked, IsOfSome};
 ghost use Rattle.cm_resident.specs.Gathering.{AreEmpty, HaveRoom};
 
@@ -169,7 +169,7 @@ fn start_all<'s, E, R: Wait + Sync>(
 /// Lets all workers begin, or tells them that nobody begins.
 fn tell_all(starters: &mut Vec<Starter>, are_started: bool)
     requires untold { All (λ word. word ≡ 0) starters.old.items }
-    ensures told { All (λ word. word ≡ word_for are_started) starters.new.items }
+    ensures told { All (λ word. word ≡ start_word_for are_started) starters.new.items }
 {
     for i in 0..starters.len() {
         if are_started {

@@ -1,6 +1,6 @@
 //! Start words: a worker waits at one until it is told to begin, or not to.
 ghost use Rattle.std.specs.Prelude.{◌≡◌, ◌≢◌, ◌↔◌, ◌≤◌, [], IfOk, IsSome};
-ghost use Rattle.cm_resident.specs.Starting.{alone, starter, waiter, looked, told, begin, cancel};
+ghost use Rattle.cm_resident.specs.Starting.{starter_alone, starter, waiter, looked, has_told, begin, cancel};
 
 use atomic_table::{Play, Seat, Split, Table, TableRule};
 use cm_bits::NoMemory;
@@ -37,11 +37,11 @@ pub struct Sight {
 pub struct StartRule;
 
 impl TableRule<u8, Sight, u8> for StartRule {
-    ghost use Rattle.cm_resident.specs.Starting.{Kept, alone};
+    ghost use Rattle.cm_resident.specs.Starting.{StartRule, starter_alone};
 
-    ghost holds = { λ _. Kept };
+    ghost holds = { λ _. StartRule };
 
-    ghost first = { λ _. alone };
+    ghost first = { λ _. starter_alone };
 }
 
 type StartTable = Table<u8, Sight, u8, StartRule, Global>;
@@ -68,7 +68,7 @@ impl Play<u8, Sight> for Look {
 pub struct Tell;
 
 impl Play<u8, Sight> for Tell {
-    ghost then = { λ step. told step.second };
+    ghost then = { λ step. has_told step.second };
 }
 
 /// Who tells a worker whether it may begin. Contracts see the word that it told, 0 before it tells one.
@@ -205,7 +205,7 @@ fn put<'a>(table: &'a StartTable, seat: &mut StartSeat, word: u64) -> Unwoken<'a
     requires new { seat.old.me ≡ (starter 0, []) }
     requires word { word ≤ 2 }
     ensures table { seat.new.table_id ≡ seat.old.table_id }
-    ensures told { seat.new.me ≡ (starter word, []) }
+    ensures has_told { seat.new.me ≡ (starter word, []) }
 {
     table.shared.compare_exchange::<Tell>(seat, 0, 0, word);
     Unwoken { table }

@@ -2,9 +2,9 @@
 
 ghost use Rattle.std.specs.Prelude.{◌≡◌, ◌≢◌, ℕ, ◌+◌, ◌*◌, ◌<◌, ◌≤◌, ◌-◌, ◌^◌, IsTrue, Some, length, get_or, slice_get};
 ghost use Rattle.std.specs.List.{All};
-ghost use Rattle.cm_workers.specs.Gates.{ComesBy, told_number};
+ghost use Rattle.cm_workers.specs.Gates.{ComesBy, gate_round_number};
 ghost use Rattle.cm_workers.specs.Turns.{AreShown};
-ghost use Rattle.cm_resident.specs.Lanes.{Run, place_of, rounds_in};
+ghost use Rattle.cm_resident.specs.Lanes.{Run, place_of_kind, rounds_in};
 ghost use Rattle.cm_resident.specs.Standing.{IsWorkerBefore};
 ghost use Rattle.cm_resident.specs.Teams.{HasPassed, HasSeenOf, HasWorked, IsBeforeRound, IsOfSome};
 
@@ -104,7 +104,7 @@ fn exchange<R: Wait>(
 fn place_of(chips: usize, kind: Kind) -> usize
     requires some { 0 < chips }
     requires outer { (d : ℕ) → kind ≡ Kind.Dim d → chips ≤ 2 ^ d }
-    ensures value { (n k : ℕ) → chips ≡ 2 ^ (n - k) → result ≡ place_of n k kind }
+    ensures value { (n k : ℕ) → chips ≡ 2 ^ (n - k) → result ≡ place_of_kind n k kind }
 {
     match kind {
         Kind::North => 0,
@@ -115,10 +115,10 @@ fn place_of(chips: usize, kind: Kind) -> usize
 
 /// Shows the blocks, before they send in a round, to who looks.
 fn show(blocks: &mut Vec<Block>, number: usize, worker: u16, passage: &Passage)
-    requires own { ComesBy worker (told_number number) blocks.old.items }
+    requires own { ComesBy worker (gate_round_number number) blocks.old.items }
     ensures value { AreShown blocks.old.items blocks.new.items }
     ensures seen { (gate : _) → passage.now ≡ Passage.Gated gate
-        → saw (gate.vtable, gate.value) worker (told_number number) blocks.new.items }
+        → saw (gate.vtable, gate.value) worker (gate_round_number number) blocks.new.items }
 {
     if let Passage::Gated(gate) = passage {
         gather_all(blocks);
@@ -136,7 +136,7 @@ fn come_by(gate: &dyn Gate, worker: u16, told: u32, blocks: &[Block])
 
 /// The number of a round as a gate is told it: one that is too large as the largest.
 fn as_told(number: usize) -> u32
-    ensures value { result ≡ told_number number }
+    ensures value { result ≡ gate_round_number number }
 {
     number.min(u32::MAX as usize) as u32
 }

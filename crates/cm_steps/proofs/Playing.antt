@@ -11,7 +11,7 @@ use Rattle.std.specs.Io.KnownBytes.{Appends}
 use Rattle.cm_session.specs.Answer.{line}
 use Rattle.cm_exchange.specs.declared.step.Step.{Step}
 use Rattle.cm_exchange.specs.Lanes.{Exchange, round_count}
-use Rattle.cm_exchange.specs.Laws.{IsExchange}
+use Rattle.cm_exchange.specs.Laws.{HasItsKinds}
 use Rattle.cm_exchange.specs.Worlds.{World, IsFinished, first_world}
 use Rattle.cm_exchange.specs.Steps.{is_possible, next_step, next_world, world_after, Lead, IsReached}
 use Rattle.cm_exchange.proofs.Counting.{steps_are_counted, orders_come_to_an_end}
@@ -43,7 +43,7 @@ reached_more exchange steps world step reached possible = record {
 }
 
 -- where the world is not finished not all are taken
-some_left : (exchange : Exchange) (steps : List Step) (world : World) → IsExchange exchange
+some_left : (exchange : Exchange) (steps : List Step) (world : World) → HasItsKinds exchange
     → IsReached exchange steps world → (IsFinished exchange world → ⊥) → length steps < step_count exchange
 some_left exchange steps world is reached unfinished = by (cases_lt (length steps) (step_count exchange)) where
   by : (length steps < step_count exchange) ⊎ (step_count exchange ≤ length steps) → length steps < step_count exchange
@@ -135,7 +135,7 @@ own_text-is : (exchange : Exchange) (start : World) → own_text exchange start
 unfolding own_text
 own_text-is exchange start = refl
 
-module _ (exchange : Exchange) (is : IsExchange exchange) (start world : World) (held holds : Option (List ℕ))
+module _ (exchange : Exchange) (is : HasItsKinds exchange) (start world : World) (held holds : Option (List ℕ))
     (rest : List ℕ) (steps sent : ℕ) (mid : IsPlaying exchange start world held holds rest steps sent) where
   pub steps_few : steps ≤ 2 ^ 40
   steps_few = let m = mid.most in omega (arith, m, mid.left_is, mid.steps_are)
@@ -224,7 +224,7 @@ module _ (exchange : Exchange) (is : IsExchange exchange) (start world : World) 
 
 -- ---- of a run
 
-pub run_is : (n cap : ℕ) (woven : Woven) → IsOnItsWay n cap woven → IsExchange (exchange_in n cap woven)
+pub run_is : (n cap : ℕ) (woven : Woven) → IsOnItsWay n cap woven → HasItsKinds (exchange_in n cap woven)
 run_is n cap woven way =
     exchange_is n cap woven.k woven.machine woven.acts (let w = way.within in omega (arith, w))
 

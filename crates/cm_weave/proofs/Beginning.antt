@@ -33,11 +33,11 @@ use Rattle.cm_subcube.proofs.Counting.{steps_until-first, deliveries_shared, eve
 use Rattle.cm_subcube.proofs.Joining.{clock-block}
 use Rattle.cm_exchange.specs.declared.stand.Stand.{Stand}
 use Rattle.cm_exchange.specs.Lanes.{exchange_of, kind_count}
-use Rattle.cm_exchange.specs.Worlds.{at_first, unused, first_world}
+use Rattle.cm_exchange.specs.Worlds.{at_first, unused_lane, first_world}
 use Rattle.cm_weave.specs.declared.lane.Lane.{Lane}
 use Rattle.cm_weave.specs.declared.first.Begun.{Begun}
-use Rattle.cm_weave.specs.First.{IsCut, HasBegun, AreBeginning, AreUnused, IsBegun}
-use Rattle.cm_weave.specs.Parts.{part_at}
+use Rattle.cm_weave.specs.First.{IsFirstBlock, HasBegun, AreBeginning, AreUnused, IsBegun}
+use Rattle.cm_weave.specs.Parts.{part_at_stand}
 use Rattle.cm_weave.specs.Woven.{lane_seen, world_seen, StandsThere, AreWoven}
 use Rattle.cm_weave.proofs.Clocks.{clock_after_all}
 use Rattle.cm_weave.proofs.Finishing.{no_block}
@@ -112,7 +112,7 @@ just_cut n cap k cycles machine acts blocks are fresh counted late =
     }
 
 module _ (n cap k b : ℕ) (machine : Machine) (acts : List Act) (old : KeptBlock)
-    (is : IsCut n cap k machine acts b old) where
+    (is : IsFirstBlock n cap k machine acts b old) where
   as_own : (P : ℕ → ℕ → ℕ → Type 0) → P n k cap → P old.kept.dims old.k old.kept.room
   as_own P p = subst (λ (z : ℕ). P z old.k old.kept.room) (sym is.dims)
       (subst (λ (z : ℕ). P n z old.kept.room) (sym is.blocks)
@@ -177,7 +177,7 @@ one_more_begun n cap k b machine acts blocks d new l were gone = record {
       (were.begun c x (below_less c b below other) within))
       (cases_eq c b);
   cut = λ c x from within.
-      subst (λ (z : KeptBlock). IsCut n cap k machine acts c z)
+      subst (λ (z : KeptBlock). IsFirstBlock n cap k machine acts c z)
       (sym (get_or-set_other blocks b c new x (λ e. omega (arith, from, e))))
       (were.cut c x (omega (arith, from)) within);
 } where
@@ -189,13 +189,13 @@ one_more_begun n cap k b machine acts blocks d new l were gone = record {
 
 -- ---- lanes that were not used
 
-seen_unused : (lane : Lane) → lane.word ≡ 0 → lane_seen lane ≡ unused
+seen_unused : (lane : Lane) → lane.word ≡ 0 → lane_seen lane ≡ unused_lane
 seen_unused lane e = λ i. record { word = e i; parcel = none i } where
   none : (lane_seen lane).parcel ≡ None
   none = ap (λ (z : ℕ). if nat_lt (z % 4) 2 then None else Some lane.parcel) e
 
 all_unused : (lanes : List Lane) → All (λ (lane : Lane). lane.word ≡ 0) lanes
-    → map lane_seen lanes ≡ replicate (length lanes) unused
+    → map lane_seen lanes ≡ replicate (length lanes) unused_lane
 all_unused [] h = refl
 all_unused (lane ∷ lanes) h =
     λ i. seen_unused lane (h 0 lane (omega arith)) i ∷ all_unused lanes (λ j d l. h (suc j) d (omega (arith, l))) i
@@ -210,7 +210,7 @@ module _ (n cap k : ℕ) (machine : Machine) (acts : List Act) (rounds_kept : Li
   unfolding first_world
   first_seen =
       let lanes_are = all_unused lanes (λ i d l. (all_blank.each i d l).word)
-      ∙ ap (λ (z : ℕ). replicate z unused) all_blank.len in
+      ∙ ap (λ (z : ℕ). replicate z unused_lane) all_blank.len in
       λ i. record { stands = replicate (2 ^ k) at_first; lanes = lanes_are i }
 
   part_first : (b : ℕ) (d : KeptBlock) → b < 2 ^ k
@@ -222,7 +222,7 @@ module _ (n cap k : ℕ) (machine : Machine) (acts : List Act) (rounds_kept : Li
       ∙ sym (blocks_begin n cap k b machine acts within l)
 
   stands_first : (b : ℕ) (d : KeptBlock) → b < 2 ^ k → StandsThere n cap k machine acts b at_first (get_or blocks b d)
-  unfolding part_at
+  unfolding part_at_stand
   stands_first b d l =
       let one = all_begun.begun b d l l in
       record {

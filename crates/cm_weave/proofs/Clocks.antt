@@ -20,7 +20,7 @@ use Rattle.cm_subcube.specs.Rounds.{kind_of, kind_over}
 use Rattle.cm_subcube.specs.Parcels.{IsOfKind}
 use Rattle.cm_exchange.specs.Lanes.{giver}
 use Rattle.cm_exchange.specs.Lanes as lanes
-use Rattle.cm_weave.specs.Kinds.{kind_number}
+use Rattle.cm_weave.specs.Kinds.{round_kind_number}
 
 pub clock_after : (n room : ℕ) (step : Step) (parcel : Parcel) (s : Part)
     → (part_after n room step parcel s).clock ≡ s.clock + deliveries (step ∷ [])
@@ -77,9 +77,9 @@ due_of_kind n k room (Cross d) s round count =
 due_of_kind n k room Deliver s round count = absurd (let wrong : false ≡ true = round in cc)
 
 -- the kind of a step by number, and the block from which one gets
-pub kind_is_number : (n k : ℕ) (step : Step) → lanes.kind_of n k step ≡ kind_number n k (kind_of step)
+pub kind_is_number : (n k : ℕ) (step : Step) → lanes.kind_number_of n k step ≡ round_kind_number n k (kind_of step)
 kind_is_number n k (Instruct nano) = over nano.dir where
-  over : (to : Dir) → lanes.kind_over to ≡ kind_number n k (kind_over to)
+  over : (to : Dir) → lanes.kind_number_over to ≡ round_kind_number n k (kind_over to)
   over dir.North = refl
   over dir.South = refl
   over dir.East = refl
@@ -90,9 +90,9 @@ kind_is_number n k (Cross d) = refl
 kind_is_number n k Deliver = refl
 
 pub giver_is_sender : (n k : ℕ) (step : Step) (b : ℕ) → is_round n k step ≡ true
-    → giver k (lanes.kind_of n k step) b ≡ sender n k step b
+    → giver k (lanes.kind_number_of n k step) b ≡ sender n k step b
 giver_is_sender n k (Instruct nano) b round = over nano.dir (grind (arith, nat_tests)) where
-  over : (to : Dir) → is_vertical to ≡ true → giver k (lanes.kind_over to) b ≡ sender_over k to b
+  over : (to : Dir) → is_vertical to ≡ true → giver k (lanes.kind_number_over to) b ≡ sender_over k to b
   over dir.North v = refl
   over dir.South v = refl
   over dir.East v = absurd (let wrong : false ≡ true = v in cc)

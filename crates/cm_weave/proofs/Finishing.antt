@@ -21,7 +21,7 @@ use Rattle.cm_exchange.specs.declared.stand.Stand.{Stand}
 use Rattle.cm_exchange.specs.Lanes.{exchange_of}
 use Rattle.cm_exchange.specs.Worlds.{at_first, IsFinished}
 use Rattle.cm_weave.specs.declared.lane.Lane.{Lane}
-use Rattle.cm_weave.specs.Parts.{at_stage, part_at}
+use Rattle.cm_weave.specs.Parts.{at_stage, part_at_stand}
 use Rattle.cm_weave.specs.Woven.{Woven, world_seen, AreWoven}
 use Rattle.cm_weave.proofs.Following.{count-rounds}
 use Rattle.cm_weave.proofs.Weaving.{sound}
@@ -40,8 +40,8 @@ module _ (n cap k : ℕ) (machine : Machine) (acts : List Act) (rounds_kept : Li
     (is : IsMachine n cap machine)
     (finished : IsFinished (exchange_of n cap k machine acts) (world_seen stands lanes)) where
   at_end : (b : ℕ) → b < 2 ^ k
-      → part_at n cap k machine acts b (get_or stands b at_first) ≡ block n k b (run_of n cap machine acts)
-  unfolding part_at
+      → part_at_stand n cap k machine acts b (get_or stands b at_first) ≡ block n k b (run_of n cap machine acts)
+  unfolding part_at_stand
   at_end b l =
       let there = sound n cap k machine acts rounds_kept blocks stands lanes w in
       let stands_so = there.stands b l in

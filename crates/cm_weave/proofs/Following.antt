@@ -26,10 +26,10 @@ use Rattle.cm_exchange.specs.declared.step.Step.{Step}
 use Rattle.cm_exchange.specs.declared.step.Step.TheVariants.{Grip, File, Draw, Clear}
 use Rattle.cm_exchange.specs.Lanes.{Exchange, exchange_of, due_from, giver, kind_at, kind_count, round_count}
 use Rattle.cm_exchange.specs.Lanes as lanes
-use Rattle.cm_exchange.specs.Steps.{stage_of, gone_on}
-use Rattle.cm_exchange.specs.Laws.{IsExchange}
-use Rattle.cm_weave.specs.Kinds.{kind_number}
-use Rattle.cm_weave.specs.Parts.{at_stage, part_at, part_with}
+use Rattle.cm_exchange.specs.Steps.{stage_of, stand_after}
+use Rattle.cm_exchange.specs.Laws.{HasItsKinds}
+use Rattle.cm_weave.specs.Kinds.{round_kind_number}
+use Rattle.cm_weave.specs.Parts.{at_stage, part_at_stand, part_with}
 use Rattle.cm_weave.proofs.Clocks.{kind_is_number, giver_is_sender}
 
 -- ---- a round that is there
@@ -38,7 +38,7 @@ pub record IsRoundAt (n cap k : ℕ) (machine : Machine) (acts : List Act) (r : 
   pub phase : Phase
   pub at : slice_get (rounds n k acts) r ≡ Some phase
   pub kept : (d : Round) → get_or (rounds_of n k acts) r d ≡ round_of phase
-  pub number : kind_at (exchange_of n cap k machine acts).kinds r ≡ lanes.kind_of n k phase.step
+  pub number : kind_at (exchange_of n cap k machine acts).kinds r ≡ lanes.kind_number_of n k phase.step
   pub over : CanBeOver n k (kind_of phase.step)
   pub followed : IsFollowed n k r acts phase
 
@@ -66,8 +66,8 @@ round_at n cap k machine acts r below =
       at = it.is;
       kept = λ d. get_or-map round_of (rounds n k acts) r it.one d below
           ∙ ap round_of (get_or_from_slice_get (rounds n k acts) r it.one it.one it.is);
-      number = get_or-map (λ (p : Phase). lanes.kind_of n k p.step) (rounds n k acts) r it.one 0 below
-          ∙ ap (λ (p : Phase). lanes.kind_of n k p.step)
+      number = get_or-map (λ (p : Phase). lanes.kind_number_of n k p.step) (rounds n k acts) r it.one 0 below
+          ∙ ap (λ (p : Phase). lanes.kind_number_of n k p.step)
           (get_or_from_slice_get (rounds n k acts) r it.one it.one it.is);
       over = can_be_over n k it.one.act (kind_of it.one.step) told.round.exchange;
       followed = told;
@@ -75,15 +75,15 @@ round_at n cap k machine acts r below =
 
 pub count-rounds : (n cap k : ℕ) (machine : Machine) (acts : List Act)
     → round_count (exchange_of n cap k machine acts) ≡ length (rounds n k acts)
-count-rounds n cap k machine acts = length-map (rounds n k acts) (λ (p : Phase). lanes.kind_of n k p.step)
+count-rounds n cap k machine acts = length-map (rounds n k acts) (λ (p : Phase). lanes.kind_number_of n k p.step)
 
-number_below : (n k : ℕ) (round : Kind) → k ≤ n → CanBeOver n k round → kind_number n k round < kind_count k
+number_below : (n k : ℕ) (round : Kind) → k ≤ n → CanBeOver n k round → round_kind_number n k round < kind_count k
 number_below n k kind.North within over = omega arith
 number_below n k kind.South within over = omega arith
 number_below n k (kind.Dim d) within over = let f = over.from in let g = over.below in omega (arith, f, g, within)
 
 pub exchange_is : (n cap k : ℕ) (machine : Machine) (acts : List Act) → k ≤ n
-    → IsExchange (exchange_of n cap k machine acts)
+    → HasItsKinds (exchange_of n cap k machine acts)
 exchange_is n cap k machine acts within = record {
   kinds = λ r below.
       let it = round_at n cap k machine acts r
@@ -97,11 +97,11 @@ exchange_is n cap k machine acts within = record {
 pub blocks_follow : (n cap k b : ℕ) (machine : Machine) (acts : List Act) (stand : Stand) (step : Step) (phase : Phase)
     → k ≤ n - n / 2 → b < 2 ^ k → slice_get (rounds n k acts) stand.round ≡ Some phase
     → stand.stage ≡ stage_of step →
-    part_at n cap k machine acts b (gone_on step stand)
+    part_at_stand n cap k machine acts b (stand_after step stand)
     ≡ part_with n cap k acts step stand.round phase
-    ((exchange_of n cap k machine acts).sent stand.round (giver k (lanes.kind_of n k phase.step) b))
-    (part_at n cap k machine acts b stand)
-unfolding part_at
+    ((exchange_of n cap k machine acts).sent stand.round (giver k (lanes.kind_number_of n k phase.step) b))
+    (part_at_stand n cap k machine acts b stand)
+unfolding part_at_stand
 blocks_follow n cap k b machine acts stand (Grip x) phase h l at e =
     let now : Part = block n k b (before_round n cap k machine acts stand.round) in
     sym (ap (λ (z : ℕ). at_stage cap z (slice_get (rounds n k acts) stand.round) now) e)
@@ -120,8 +120,8 @@ blocks_follow n cap k b machine acts stand (Clear x) phase h l at e =
     let now : Part = block n k b whole in
     let told : IsFollowed n k r acts phase = round_is_followed n k r acts phase at in
     let parcel : Parcel = due n cap phase.step (block n k (sender n k phase.step b) whole) in
-    let sent : (exchange_of n cap k machine acts).sent r (giver k (lanes.kind_of n k phase.step) b) ≡ parcel =
-    ap (λ (o : Option Phase). due_from n cap k whole o (giver k (lanes.kind_of n k phase.step) b)) at
+    let sent : (exchange_of n cap k machine acts).sent r (giver k (lanes.kind_number_of n k phase.step) b) ≡ parcel =
+    ap (λ (o : Option Phase). due_from n cap k whole o (giver k (lanes.kind_number_of n k phase.step) b)) at
     ∙ ap (λ (from : ℕ). due n cap phase.step (block n k from whole))
     (giver_is_sender n k phase.step b told.exchanges) in
     let left : at_stage cap stand.stage (slice_get (rounds n k acts) r) now ≡ less cap phase.step now =
@@ -132,4 +132,4 @@ blocks_follow n cap k b machine acts stand (Clear x) phase h l at e =
     (sym (leaving_then_taking_in n cap k b whole phase.step (omega (arith, h)) l told.is_step told.exchanges)
     ∙ ap (λ (p : Parcel). absorbed n cap phase.step p (less cap phase.step now)) (sym sent)
     ∙ ap (λ (s : Part). absorbed n cap phase.step
-    ((exchange_of n cap k machine acts).sent r (giver k (lanes.kind_of n k phase.step) b)) s) (sym left))
+    ((exchange_of n cap k machine acts).sent r (giver k (lanes.kind_number_of n k phase.step) b)) s) (sym left))

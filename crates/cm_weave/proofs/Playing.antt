@@ -19,8 +19,8 @@ use Rattle.cm_exchange.specs.declared.stand.Stand.{Stand}
 use Rattle.cm_exchange.specs.declared.step.Step.{Step}
 use Rattle.cm_exchange.specs.declared.step.Step.TheVariants.{Grip, File, Draw, Clear}
 use Rattle.cm_exchange.specs.Lanes.{Exchange, exchange_of, round_count, uses}
-use Rattle.cm_exchange.specs.Worlds.{World, at_first, unused, stand_of, lane_of, lane_number}
-use Rattle.cm_exchange.specs.Steps.{block_of, stage_of, kind_now, sender_of, gone_on, is_possible, is_ready}
+use Rattle.cm_exchange.specs.Worlds.{World, at_first, unused_lane, stand_of, lane_of, lane_number}
+use Rattle.cm_exchange.specs.Steps.{block_of, stage_of, kind_now, sender_of, stand_after, is_possible, is_ready}
 use Rattle.cm_exchange.specs.Steps.{world_after}
 use Rattle.cm_exchange.specs.Worlds as worlds
 use Rattle.cm_exchange.proofs.Partners.{lanes_have_two_ends}
@@ -28,7 +28,7 @@ use Rattle.cm_exchange.proofs.Soundness.{Can, lane-within}
 use Rattle.cm_exchange.specs.Laws.{word_for}
 use Rattle.cm_subcube.specs.Parcels.{CanBeOver}
 use Rattle.cm_weave.specs.declared.lane.Lane.{Lane}
-use Rattle.cm_weave.specs.Kinds.{kind_number, mover}
+use Rattle.cm_weave.specs.Kinds.{round_kind_number, mover}
 use Rattle.cm_weave.specs.Woven.{Woven, world_seen, AreWoven}
 use Rattle.cm_weave.proofs.Clocks.{kind_is_number}
 use Rattle.cm_weave.proofs.Following.{IsRoundAt, round_at, count-rounds}
@@ -85,14 +85,14 @@ module _ (n cap k : ℕ) (machine : Machine) (acts : List Act) (rounds_kept : Li
     over d = subst (CanBeOver n k) (sym (kind_is d)) at_round.over
 
     -- the lane that code finds is that of the step
-    pub at_is : (d : Round) → lane_number k (kind_number n k (get_or rounds_kept stand.round d).kind)
-        (mover k (kind_number n k (get_or rounds_kept stand.round d).kind) step)
+    pub at_is : (d : Round) → lane_number k (round_kind_number n k (get_or rounds_kept stand.round d).kind)
+        (mover k (round_kind_number n k (get_or rounds_kept stand.round d).kind) step)
         ≡ lane_number k (kind_now exchange stand) (sender_of exchange stand step)
     at_is d =
-        let number : kind_number n k (get_or rounds_kept stand.round d).kind ≡ kind_now exchange stand =
-        ap (kind_number n k) (kind_is d) ∙ sym (at_round.number ∙ kind_is_number n k at_round.phase.step) in
+        let number : round_kind_number n k (get_or rounds_kept stand.round d).kind ≡ kind_now exchange stand =
+        ap (round_kind_number n k) (kind_is d) ∙ sym (at_round.number ∙ kind_is_number n k at_round.phase.step) in
         λ i. lane_number k (number i) (mover_is exchange stand step
-        (kind_number n k (get_or rounds_kept stand.round d).kind) number i)
+        (round_kind_number n k (get_or rounds_kept stand.round d).kind) number i)
 
     sender_below : sender_of exchange stand step < 2 ^ k
     sender_below = by_step step below where
@@ -204,23 +204,23 @@ module _ (n cap k : ℕ) (machine : Machine) (acts : List Act) (rounds_kept : Li
         (over n cap k machine acts rounds_kept blocks stands lanes w step below_here within_here kept)
 
     pub at_asked : (kept : Round) (at : ℕ) → kept ≡ get_or rounds_kept stand.round kept
-        → at ≡ lane_number k (kind_number n k kept.kind) (mover k (kind_number n k kept.kind) step)
+        → at ≡ lane_number k (round_kind_number n k kept.kind) (mover k (round_kind_number n k kept.kind) step)
         → at ≡ lane_number k (kind_now (exchange_of n cap k machine acts)
         (stand_of (world_seen stands lanes) (block_of step)))
         (sender_of (exchange_of n cap k machine acts) (stand_of (world_seen stands lanes) (block_of step)) step)
     at_asked kept at e f =
-        f ∙ ap (λ (z : Round). lane_number k (kind_number n k z.kind) (mover k (kind_number n k z.kind) step))
+        f ∙ ap (λ (z : Round). lane_number k (round_kind_number n k z.kind) (mover k (round_kind_number n k z.kind) step))
         (kept_is kept e)
         ∙ at_is n cap k machine acts rounds_kept blocks stands lanes w step below_here within_here kept
 
     pub at_below_asked : (kept : Round) (at : ℕ) → kept ≡ get_or rounds_kept stand.round kept
-        → at ≡ lane_number k (kind_number n k kept.kind) (mover k (kind_number n k kept.kind) step) → at < length lanes
+        → at ≡ lane_number k (round_kind_number n k kept.kind) (mover k (round_kind_number n k kept.kind) step) → at < length lanes
     at_below_asked kept at e f = subst (λ (z : ℕ). z < length lanes) (sym (at_asked kept at e f))
         (lane_below n cap k machine acts rounds_kept blocks stands lanes w step below_here within_here)
 
     pub free_asked : (kept : Round) (at : ℕ) (lane : Lane) (ready : Bool) → stand.stage ≡ stage_of step
         → kept ≡ get_or rounds_kept stand.round kept
-        → at ≡ lane_number k (kind_number n k kept.kind) (mover k (kind_number n k kept.kind) step)
+        → at ≡ lane_number k (round_kind_number n k kept.kind) (mover k (round_kind_number n k kept.kind) step)
         → lane ≡ get_or lanes at lane → ready ≡ is_ready step lane.word
         → ready ≡ is_possible (exchange_of n cap now.k now.machine now.acts) now.world step
     free_asked kept at lane ready stage e f g h =
@@ -305,14 +305,14 @@ module _ (n cap k : ℕ) (machine : Machine) (acts : List Act) (rounds_kept : Li
         ∙ (there n cap k machine acts rounds_kept blocks stands lanes w step possible).kept kept
 
     module _ (at_found : at
-        ≡ lane_number k (kind_number n k kept.kind) (mover k (kind_number n k kept.kind) step)) where
+        ≡ lane_number k (round_kind_number n k kept.kind) (mover k (round_kind_number n k kept.kind) step)) where
       abbrev its_lane : ℕ
       its_lane = lane_number k (kind_now run_exchange (stand_of seen (block_of step)))
           (sender_of run_exchange (stand_of seen (block_of step)) step)
 
       lane_is : at ≡ its_lane
       lane_is = at_found
-          ∙ ap (λ (z : Round). lane_number k (kind_number n k z.kind) (mover k (kind_number n k z.kind) step)) kept_at
+          ∙ ap (λ (z : Round). lane_number k (round_kind_number n k z.kind) (mover k (round_kind_number n k z.kind) step)) kept_at
           ∙ at_is n cap k machine acts rounds_kept blocks stands lanes w step ready_to.below ready_to.within kept
 
       pub taken_in_lanes : at < length lanes
@@ -350,7 +350,7 @@ module _ (n cap k : ℕ) (machine : Machine) (acts : List Act) (rounds_kept : Li
             (sym its_lane_is)
             (can_weave n cap k machine acts rounds_kept blocks stands lanes w step possible block lane small)))
 
-        module _ (new : KeptBlock) (moved_to : Lane) (gone : Stand) (gone_is : gone ≡ gone_on step stand)
+        module _ (new : KeptBlock) (moved_to : Lane) (gone : Stand) (gone_is : gone ≡ stand_after step stand)
             (has : HasWoven acts step kept block lane new moved_to) where
           its_has : HasWoven acts step
               (round_of (there n cap k machine acts rounds_kept blocks stands lanes w step possible).phase)
@@ -364,8 +364,8 @@ module _ (n cap k : ℕ) (machine : Machine) (acts : List Act) (rounds_kept : Li
               z lane new moved_to) block_is
               (subst (λ (z : Round). HasWoven acts step z block lane new moved_to) phase_is has))
 
-          gone_to : gone ≡ gone_on step (stand_of seen (block_of step))
-          gone_to = gone_is ∙ ap (gone_on step) (stand_is b stand b_is stand_read)
+          gone_to : gone ≡ stand_after step (stand_of seen (block_of step))
+          gone_to = gone_is ∙ ap (stand_after step) (stand_is b stand b_is stand_read)
 
           pub taken_woven : AreWoven n cap k machine acts rounds_kept (set blocks b new) (set stands b gone)
               (set lanes at moved_to)
@@ -375,7 +375,7 @@ module _ (n cap k : ℕ) (machine : Machine) (acts : List Act) (rounds_kept : Li
               (subst (λ (z : Stand). AreWoven n cap k machine acts rounds_kept (set blocks (block_of step) new)
               (set stands (block_of step) z) (set lanes at moved_to)) (sym gone_to)
               (subst (λ (z : ℕ). AreWoven n cap k machine acts rounds_kept (set blocks (block_of step) new)
-              (set stands (block_of step) (gone_on step (stand_of seen (block_of step)))) (set lanes z moved_to))
+              (set stands (block_of step) (stand_after step (stand_of seen (block_of step)))) (set lanes z moved_to))
               (sym lane_is)
               (woven_after n cap k machine acts rounds_kept blocks stands lanes w step possible block lane new moved_to
               its_has)))

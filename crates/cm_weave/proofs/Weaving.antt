@@ -33,20 +33,20 @@ use Rattle.cm_exchange.specs.declared.step.Step.{Step}
 use Rattle.cm_exchange.specs.declared.step.Step.TheVariants.{Grip, File, Draw, Clear}
 use Rattle.cm_exchange.specs.Lanes.{Exchange, exchange_of, due_from, due_list, giver, kind_at, kind_count, round_count}
 use Rattle.cm_exchange.specs.Lanes.{uses}
-use Rattle.cm_exchange.specs.Worlds.{World, at_first, unused, stand_of, lane_of, lane_number, held_by, first_world}
-use Rattle.cm_exchange.specs.Steps.{block_of, stage_of, kind_now, uses_now, sender_of, gone_on, moved, is_possible}
+use Rattle.cm_exchange.specs.Worlds.{World, at_first, unused_lane, stand_of, lane_of, lane_number, held_by, first_world}
+use Rattle.cm_exchange.specs.Steps.{block_of, stage_of, kind_now, uses_now, sender_of, stand_after, moved, is_possible}
 use Rattle.cm_exchange.specs.Steps.{world_after, next_world, Lead}
 use Rattle.cm_exchange.specs.Worlds as worlds
 use Rattle.cm_exchange.specs.Lanes as lane_kinds
-use Rattle.cm_exchange.specs.Laws.{IsExchange, AreTold}
+use Rattle.cm_exchange.specs.Laws.{HasItsKinds, AreTold}
 use Rattle.cm_exchange.proofs.Partners.{lanes_have_two_ends}
 use Rattle.cm_exchange.proofs.Uses.{rounds_are_due_in_order}
 use Rattle.cm_exchange.proofs.Rules.{held-full}
 use Rattle.cm_exchange.proofs.Soundness.{IsSound, Can, can, reached-sound, lane-within}
 use Rattle.cm_exchange.proofs.Words.{words_tell_steps}
 use Rattle.cm_weave.specs.declared.lane.Lane.{Lane}
-use Rattle.cm_weave.specs.Kinds.{kind_number}
-use Rattle.cm_weave.specs.Parts.{at_stage, part_at, part_with}
+use Rattle.cm_weave.specs.Kinds.{round_kind_number}
+use Rattle.cm_weave.specs.Parts.{at_stage, part_at_stand, part_with}
 use Rattle.cm_weave.specs.Moves.{CanWeave, IsReadyFor, HasWoven, part_woven, parcel_woven}
 use Rattle.cm_weave.specs.Moves.{events_woven}
 use Rattle.cm_weave.specs.Moves.{HasSpaceAfter}
@@ -63,7 +63,7 @@ pub kind_of_lane : (k number b : ℕ) → b < 2 ^ k → lane_number k number b /
 kind_of_lane k number b below = div-mul-add number (2 ^ k) b below
 
 -- what is blank in a round of a kind
-pub blank_number : (n k : ℕ) (round : Kind) → blank_of n k (kind_number n k round) ≡ blank_parcel n k round
+pub blank_number : (n k : ℕ) (round : Kind) → blank_of n k (round_kind_number n k round) ≡ blank_parcel n k round
 blank_number n k kind.North = refl
 blank_number n k kind.South = refl
 blank_number n k (kind.Dim d) =
@@ -117,7 +117,7 @@ module _ (n cap k : ℕ) (machine : Machine) (acts : List Act) (rounds_kept : Li
   abbrev world : World
   world = world_seen stands lanes
 
-  pub is_exchange : IsExchange exchange
+  pub is_exchange : HasItsKinds exchange
   is_exchange = exchange_is n cap k machine acts (let h = w.within in omega (arith, h))
 
   pub sound : IsSound exchange world
@@ -130,9 +130,9 @@ module _ (n cap k : ℕ) (machine : Machine) (acts : List Act) (rounds_kept : Li
   lane_count = sym (length-map lanes lane_seen) ∙ sound.lane_count
 
   -- the lane of a place as contracts see it
-  pub seen-at : (i : ℕ) (d : Lane) → i < length lanes → get_or (map lane_seen lanes) i unused
+  pub seen-at : (i : ℕ) (d : Lane) → i < length lanes → get_or (map lane_seen lanes) i unused_lane
       ≡ lane_seen (get_or lanes i d)
-  seen-at i d below = get_or-map lane_seen lanes i d unused below
+  seen-at i d below = get_or-map lane_seen lanes i d unused_lane below
 
   module _ (step : Step) (possible : is_possible exchange world step ≡ true) where
     abbrev b : ℕ
@@ -219,7 +219,7 @@ module _ (n cap k : ℕ) (machine : Machine) (acts : List Act) (rounds_kept : Li
           ∙ dues_at)
 
       -- what is blank in the lane
-      number_is : number ≡ kind_number n k round.kind
+      number_is : number ≡ round_kind_number n k round.kind
       number_is = there.number ∙ kind_is_number n k there.phase.step
 
       blank_is : blank_of n k (at / 2 ^ k) ≡ blank_parcel n k round.kind
@@ -239,7 +239,7 @@ module _ (n cap k : ℕ) (machine : Machine) (acts : List Act) (rounds_kept : Li
       now = block n k b whole
 
       left_at : stand.stage ≡ 3 → old.kept.part ≡ less cap there.phase.step now
-      unfolding part_at
+      unfolding part_at_stand
       left_at stage =
           stood.part
           ∙ (ap (λ (z : ℕ). at_stage cap z (slice_get (rounds n k acts) stand.round) now) stage
@@ -249,7 +249,7 @@ module _ (n cap k : ℕ) (machine : Machine) (acts : List Act) (rounds_kept : Li
       gives x is =
           ap (sender_of exchange stand) is
           ∙ (ap (λ (z : ℕ). giver k z x) there.number
-          ∙ (ap (giver k (lane_kinds.kind_of n k there.phase.step)) (sym (ap block_of is))
+          ∙ (ap (giver k (lane_kinds.kind_number_of n k there.phase.step)) (sym (ap block_of is))
           ∙ giver_is_sender n k there.phase.step b there.followed.exchanges))
 
       -- ---- it is ready
@@ -313,21 +313,21 @@ module _ (n cap k : ℕ) (machine : Machine) (acts : List Act) (rounds_kept : Li
 
       module _ (new : KeptBlock) (moved_to : Lane) (has : HasWoven acts step round old lane new moved_to) where
         parcel_to : ℕ
-        parcel_to = giver k (lane_kinds.kind_of n k there.phase.step) b
+        parcel_to = giver k (lane_kinds.kind_number_of n k there.phase.step) b
 
         -- by which step it is told
         woven_is_with : (s : Step) → step ≡ s → (x : Part)
             → part_woven n k cap acts s round lane.parcel x
             ≡ part_with n cap k acts s stand.round there.phase
-            (exchange.sent stand.round (giver k (lane_kinds.kind_of n k there.phase.step) b)) x
+            (exchange.sent stand.round (giver k (lane_kinds.kind_number_of n k there.phase.step) b)) x
         woven_is_with (Grip y) is x = refl
         woven_is_with (File y) is x = ap (λ (z : phased.Step). less cap z x) there.followed.step
         woven_is_with (Draw y) is x = refl
         woven_is_with (Clear y) is x =
             let stage : stage_of step ≡ 3 = ap stage_of is in
-            let from : sender ≡ giver k (lane_kinds.kind_of n k there.phase.step) b =
+            let from : sender ≡ giver k (lane_kinds.kind_number_of n k there.phase.step) b =
             ap (sender_of exchange stand) is ∙ ap (λ (z : ℕ). giver k z y) there.number
-            ∙ ap (giver k (lane_kinds.kind_of n k there.phase.step)) (sym (ap block_of is)) in
+            ∙ ap (giver k (lane_kinds.kind_number_of n k there.phase.step)) (sym (ap block_of is)) in
             ap (λ steps. part_after_all n cap steps (absorbed n cap (step_of round) lane.parcel x))
             (sym there.followed.between)
             ∙ ap (λ (z : phased.Step). part_after_all n cap (steps_between n k acts stand.round)
@@ -340,17 +340,17 @@ module _ (n cap k : ℕ) (machine : Machine) (acts : List Act) (rounds_kept : Li
         has_part = of_own (λ n1 k1 room1. new.kept.part
             ≡ part_woven n1 k1 room1 acts step round lane.parcel old.kept.part) has.part
 
-        new_part : new.kept.part ≡ part_at n cap k machine acts b (gone_on step stand)
+        new_part : new.kept.part ≡ part_at_stand n cap k machine acts b (stand_after step stand)
         new_part = has_part ∙ woven_is_with step refl old.kept.part
             ∙ ap (part_with n cap k acts step stand.round there.phase
-            (exchange.sent stand.round (giver k (lane_kinds.kind_of n k there.phase.step) b))) stood.part
+            (exchange.sent stand.round (giver k (lane_kinds.kind_number_of n k there.phase.step) b))) stood.part
             ∙ sym (blocks_follow n cap k b machine acts stand step there.phase w.within able.below there.at able.stage)
 
         part_by : (s : Step) → step ≡ s → new.kept.part ≡ part_woven n k cap acts s round lane.parcel old.kept.part
         part_by s is = has_part ∙ ap (λ (z : Step). part_woven n k cap acts z round lane.parcel old.kept.part) is
 
         space_by : (s : Step) → step ≡ s
-            → HasSpaceIn cap (gone_on s stand).stage (slice_get (rounds n k acts) (gone_on s stand).round) new.kept.part
+            → HasSpaceIn cap (stand_after s stand).stage (slice_get (rounds n k acts) (stand_after s stand).round) new.kept.part
         space_by (Grip y) is = tt
         space_by (File y) is =
             subst (λ (o : Option Phase). HasSpaceIn cap 2 o new.kept.part) (sym there.at)
@@ -378,7 +378,7 @@ module _ (n cap k : ℕ) (machine : Machine) (acts : List Act) (rounds_kept : Li
             old.kept.log_rooms new.kept.log_rooms (omega arith) stood.log_room lost
 
         rooms_by : (s : Step) → step ≡ s
-            → HaveLogRoom (events_in cap (steps_after_round n k acts (gone_on s stand).round)) new.kept.log_rooms
+            → HaveLogRoom (events_in cap (steps_after_round n k acts (stand_after s stand).round)) new.kept.log_rooms
         rooms_by (Grip y) is = still_room_for (lost_by (Grip y) is)
         rooms_by (File y) is = still_room_for (lost_by (File y) is)
         rooms_by (Draw y) is = still_room_for (lost_by (Draw y) is)
@@ -391,7 +391,7 @@ module _ (n cap k : ℕ) (machine : Machine) (acts : List Act) (rounds_kept : Li
             stood.log_room (lost_by (Clear y) is)
 
         clock_by : (s : Step) → step ≡ s
-            → new.kept.part.clock + deliveries (steps_after_round n k acts (gone_on s stand).round) < 2 ^ 63
+            → new.kept.part.clock + deliveries (steps_after_round n k acts (stand_after s stand).round) < 2 ^ 63
         clock_by (Grip y) is =
             let same = ap (λ (s : Part). s.clock) (part_by (Grip y) is) in let c = stood.clock in omega (arith, same, c)
         clock_by (File y) is =
@@ -412,7 +412,7 @@ module _ (n cap k : ℕ) (machine : Machine) (acts : List Act) (rounds_kept : Li
             let c = stood.clock in
             omega (arith, on, still, between, counts, c)
 
-        stands_new : StandsThere n cap k machine acts b (gone_on step stand) new
+        stands_new : StandsThere n cap k machine acts b (stand_after step stand) new
         stands_new = record {
           blocks = has.blocks ∙ stood.blocks;
           dims = has.dims ∙ stood.dims;
@@ -436,7 +436,7 @@ module _ (n cap k : ℕ) (machine : Machine) (acts : List Act) (rounds_kept : Li
 
         seen_by : (s : Step) → step ≡ s → lane_seen moved_to
             ≡ moved s (due_list exchange number sender) (uses_now exchange stand) (lane_of k world number sender)
-        unfolding part_at
+        unfolding part_at_stand
         seen_by (Grip y) is =
             let count : ℕ = uses_now exchange stand in
             let stage : stage_of step ≡ 0 = ap stage_of is in
@@ -488,13 +488,13 @@ module _ (n cap k : ℕ) (machine : Machine) (acts : List Act) (rounds_kept : Li
             seen_empty moved_to (below_two moved_to.word (count + 1) 0 next (omega arith)) in
             λ i. record { word = w_new i; parcel = none i }
 
-        pub world_is : world_seen (set stands b (gone_on step stand)) (set lanes at moved_to)
+        pub world_is : world_seen (set stands b (stand_after step stand)) (set lanes at moved_to)
             ≡ world_after exchange world step
         unfolding world_after
         world_is =
             let lanes_are = map-set lane_seen lanes at moved_to
             ∙ ap (set (map lane_seen lanes) at) (seen_by step refl) in
-            λ i. record { stands = set stands b (gone_on step stand); lanes = lanes_are i }
+            λ i. record { stands = set stands b (stand_after step stand); lanes = lanes_are i }
 
         blank_by : (s : Step) → step ≡ s → moved_to.word % 4 < 2 → moved_to.parcel ≡ blank_of n k (at / 2 ^ k)
         blank_by (Grip y) is empty =
@@ -536,7 +536,7 @@ module _ (n cap k : ℕ) (machine : Machine) (acts : List Act) (rounds_kept : Li
         stand_count = sound.stand_count
 
         pub woven_after : AreWoven n cap k machine acts rounds_kept (set blocks b new)
-            (set stands b (gone_on step stand))
+            (set stands b (stand_after step stand))
             (set lanes at moved_to)
         woven_after = record {
           few = w.few;
@@ -544,27 +544,27 @@ module _ (n cap k : ℕ) (machine : Machine) (acts : List Act) (rounds_kept : Li
           rounds_are = w.rounds_are;
           few_rounds = w.few_rounds;
           reached = reached_more exchange world
-              (world_seen (set stands b (gone_on step stand)) (set lanes at moved_to)) step w.reached possible world_is;
+              (world_seen (set stands b (stand_after step stand)) (set lanes at moved_to)) step w.reached possible world_is;
           block_count = length-set blocks b new ∙ w.block_count;
           each = λ c x below. ⊎_elim
               (λ (here : c ≡ b).
-              let there_now : get_or (set stands b (gone_on step stand)) c at_first ≡ gone_on step stand =
-              ap (λ (z : ℕ). get_or (set stands b (gone_on step stand)) z at_first) here
-              ∙ get_or-set_same stands b (gone_on step stand) at_first
+              let there_now : get_or (set stands b (stand_after step stand)) c at_first ≡ stand_after step stand =
+              ap (λ (z : ℕ). get_or (set stands b (stand_after step stand)) z at_first) here
+              ∙ get_or-set_same stands b (stand_after step stand) at_first
               (subst (λ (z : ℕ). b < z) (sym stand_count) able.below) in
               let block_now : get_or (set blocks b new) c x ≡ new =
               ap (λ (z : ℕ). get_or (set blocks b new) z x) here
               ∙ get_or-set_same blocks b new x (subst (λ (z : ℕ). b < z) (sym w.block_count) able.below) in
               subst (λ (z : ℕ). StandsThere n cap k machine acts z
-              (get_or (set stands b (gone_on step stand)) c at_first)
+              (get_or (set stands b (stand_after step stand)) c at_first)
               (get_or (set blocks b new) c x)) (sym here)
               (subst (λ (z : Stand). StandsThere n cap k machine acts b z (get_or (set blocks b new) c x))
               (sym there_now)
-              (subst (λ (z : KeptBlock). StandsThere n cap k machine acts b (gone_on step stand) z) (sym block_now)
+              (subst (λ (z : KeptBlock). StandsThere n cap k machine acts b (stand_after step stand) z) (sym block_now)
               stands_new)))
               (λ (other : c ≢ b).
               subst (λ (z : Stand). StandsThere n cap k machine acts c z (get_or (set blocks b new) c x))
-              (sym (get_or-set_other stands b c (gone_on step stand) at_first other))
+              (sym (get_or-set_other stands b c (stand_after step stand) at_first other))
               (subst (λ (z : KeptBlock). StandsThere n cap k machine acts c (get_or stands c at_first) z)
               (sym (get_or-set_other blocks b c new x other)) (w.each c x below)))
               (cases_eq c b);

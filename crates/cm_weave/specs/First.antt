@@ -18,7 +18,7 @@ use Rattle.cm_weave.specs.declared.lane.Lane.{Lane}
 use Rattle.cm_weave.specs.Woven.{Woven, world_seen, blank_of, AreWoven}
 
 -- a block that was cut out, with room in its logs for a whole run
-pub record IsCut (n cap k : ℕ) (machine : Machine) (acts : List Act) (b : ℕ) (one : KeptBlock) : Type 0 where
+pub record IsFirstBlock (n cap k : ℕ) (machine : Machine) (acts : List Act) (b : ℕ) (one : KeptBlock) : Type 0 where
   pub blocks : one.k ≡ k
   pub dims : one.kept.dims ≡ n
   pub room : one.kept.room ≡ cap
@@ -40,7 +40,7 @@ pub record AreBeginning (n cap k : ℕ) (machine : Machine) (acts : List Act) (f
     : Type 0 where
   pub count : length blocks ≡ 2 ^ k
   pub begun : (b : ℕ) (d : KeptBlock) → b < first → b < 2 ^ k → HasBegun n cap k machine acts b (get_or blocks b d)
-  pub cut : (b : ℕ) (d : KeptBlock) → first ≤ b → b < 2 ^ k → IsCut n cap k machine acts b (get_or blocks b d)
+  pub cut : (b : ℕ) (d : KeptBlock) → first ≤ b → b < 2 ^ k → IsFirstBlock n cap k machine acts b (get_or blocks b d)
 
 -- the lane of a number, not used yet
 pub record IsUnused (n k i : ℕ) (lane : Lane) : Type 0 where

@@ -8,10 +8,10 @@ use Rattle.cm_exchange.specs.declared.step.Step.TheVariants.{Grip, File, Draw, C
 use Rattle.cm_exchange.specs.Lanes.{giver}
 
 -- the number of a kind of round: NEWS northward, NEWS southward, then the last k of n dimensions, the lowest first
-abbrev pub kind_number : ℕ → ℕ → Kind → ℕ
-kind_number n k kind.North = 0
-kind_number n k kind.South = 1
-kind_number n k (kind.Dim d) = 2 + (d - (n - k))
+abbrev pub round_kind_number : ℕ → ℕ → Kind → ℕ
+round_kind_number n k kind.North = 0
+round_kind_number n k kind.South = 1
+round_kind_number n k (kind.Dim d) = 2 + (d - (n - k))
 
 -- the kind of a number
 abbrev pub kind_numbered : ℕ → ℕ → ℕ → Kind

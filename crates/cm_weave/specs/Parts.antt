@@ -19,8 +19,8 @@ at_stage cap (suc (suc stage)) None s = s
 at_stage cap (suc (suc stage)) (Some phase) s = less cap phase.step s
 
 -- block b where it stands
-unfoldable pub part_at : ℕ → ℕ → ℕ → Machine → List Act → ℕ → Stand → Part
-part_at n cap k machine acts b stand =
+unfoldable pub part_at_stand : ℕ → ℕ → ℕ → Machine → List Act → ℕ → Stand → Part
+part_at_stand n cap k machine acts b stand =
     at_stage cap stand.stage (slice_get (rounds n k acts) stand.round)
     (block n k b (before_round n cap k machine acts stand.round))
 

@@ -21,7 +21,7 @@ use Rattle.cm_exchange.specs.Steps.{IsReached}
 use Rattle.cm_exchange.specs.Worlds as worlds
 use Rattle.cm_weave.specs.declared.lane.Lane.{Lane}
 use Rattle.cm_weave.specs.Kinds.{kind_numbered}
-use Rattle.cm_weave.specs.Parts.{part_at}
+use Rattle.cm_weave.specs.Parts.{part_at_stand}
 
 -- what contracts see of a lane: its parcel, where it is full or held by its receiver
 abbrev pub lane_seen : Lane → worlds.Lane
@@ -61,7 +61,7 @@ pub record StandsThere (n cap k : ℕ) (machine : Machine) (acts : List Act) (b 
   pub blocks : block.k ≡ k
   pub dims : block.kept.dims ≡ n
   pub room : block.kept.room ≡ cap
-  pub part : block.kept.part ≡ part_at n cap k machine acts b stand
+  pub part : block.kept.part ≡ part_at_stand n cap k machine acts b stand
   pub space : HasSpaceIn cap stand.stage (slice_get (rounds n k acts) stand.round) block.kept.part
   pub log_room : HaveLogRoom (events_in cap (steps_after_round n k acts stand.round)) block.kept.log_rooms
   pub clock : block.kept.part.clock + deliveries (steps_after_round n k acts stand.round) < 2 ^ 63
@@ -97,4 +97,4 @@ pub record IsOnItsWay (n cap : ℕ) (woven : Woven) : Type 0 where
   pub reached : IsSomehowReached (exchange_of n cap woven.k woven.machine woven.acts) woven.world
   pub count : length woven.parts ≡ 2 ^ woven.k
   pub parts : (b : ℕ) (d : Part) → b < 2 ^ woven.k
-      → get_or woven.parts b d ≡ part_at n cap woven.k woven.machine woven.acts b (stand_of woven.world b)
+      → get_or woven.parts b d ≡ part_at_stand n cap woven.k woven.machine woven.acts b (stand_of woven.world b)

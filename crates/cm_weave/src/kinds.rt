@@ -5,7 +5,7 @@ ghost use Rattle.cm_exchange.specs.Lanes.{giver};
 ghost use Rattle.cm_exchange.specs.Worlds.{lane_number};
 ghost use Rattle.cm_exchange.specs.Steps.{block_of};
 ghost use Rattle.cm_subcube.specs.Parcels.{CanBeOver};
-ghost use Rattle.cm_weave.specs.Kinds.{kind_number, kind_numbered, mover};
+ghost use Rattle.cm_weave.specs.Kinds.{round_kind_number, kind_numbered, mover};
 
 use cm_exchange::Step;
 use cm_subcube::Kind;
@@ -16,7 +16,8 @@ pub(crate) fn lane_moved(dims: u8, k: u8, step: Step, kind: Kind) -> usize
     requires within { k ≤ dims }
     requires block { block_of step < 2 ^ k }
     requires kind { CanBeOver dims k kind }
-    ensures value { result ≡ lane_number k (kind_number dims k kind) (mover k (kind_number dims k kind) step) }
+    ensures value { result
+        ≡ lane_number k (round_kind_number dims k kind) (mover k (round_kind_number dims k kind) step) }
 {
     let number = number_of(dims, k, kind);
     let b = step.block();
@@ -33,7 +34,7 @@ fn number_of(dims: u8, k: u8, kind: Kind) -> u8
     requires few { dims ≤ 12 }
     requires kind { CanBeOver dims k kind }
     ensures within { result < k + 2 }
-    ensures value { result ≡ kind_number dims k kind }
+    ensures value { result ≡ round_kind_number dims k kind }
 {
     match kind {
         Kind::North => 0,

@@ -8,7 +8,8 @@ ghost use Rattle.cm_model.specs.Machine.{run_of};
 ghost use Rattle.cm_exchange.specs.Lanes.{exchange_of, round_count};
 ghost use Rattle.cm_exchange.specs.Laws.{IsNext};
 ghost use Rattle.cm_exchange.specs.Worlds.{stand_of, IsFinished};
-ghost use Rattle.cm_exchange.specs.Steps.{block_of, stage_of, gone_on, is_ready, is_possible, world_after, next_world};
+ghost use Rattle.cm_exchange.specs.Steps.{block_of, stage_of, stand_after, is_ready, is_possible, world_after};
+ghost use Rattle.cm_exchange.specs.Steps.{next_world};
 ghost use Rattle.cm_exchange.specs.Steps.{next_step};
 ghost use Rattle.cm_weave.specs.Faults.{world_fault};
 ghost use Rattle.cm_weave.specs.First.{IsFirst};
@@ -237,7 +238,7 @@ impl<const N: usize, const CAP: usize> World<N, CAP> {
 /// Where a block stands after its step.
 fn go_on(step: Step, stand: Stand) -> Stand
     requires few { stand.round < 2 ^ 63 }
-    ensures value { result ≡ gone_on step stand }
+    ensures value { result ≡ stand_after step stand }
 {
     match step {
         Step::Grip(_b) => Stand {

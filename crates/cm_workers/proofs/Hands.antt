@@ -6,7 +6,7 @@ use Rattle.std.proofs.lemmas.List.{length-append, length-reverse, get_or_append_
 use Rattle.std.proofs.lemmas.Nat.{div-add-mod', mul-le}
 use Rattle.std.proofs.lemmas.Bool.{cases_lt}
 use Rattle.std.proofs.Math.Nat.{mod-lt}
-use Rattle.cm_workers.specs.Dealing.{hand, AreDealt, AreEmpty, AreShares, HasPut}
+use Rattle.cm_workers.specs.Dealing.{hand, AreDealt, AreEmptyHands, AreShares, HasPut}
 
 -- one row more
 rows : (count p q : ℕ) → p < q → p * count + count ≤ q * count
@@ -42,7 +42,7 @@ place count j r q some below at =
 
 -- ---- one more
 
-pub none_dealt : {X : Type 0} (count : ℕ) (hands : List (Vec X Global)) → AreEmpty count hands → AreDealt count [] hands
+pub none_dealt : {X : Type 0} (count : ℕ) (hands : List (Vec X Global)) → AreEmptyHands count hands → AreDealt count [] hands
 none_dealt count hands empty = record {
   len = empty.len;
   shares = λ r q e below. (

@@ -18,9 +18,9 @@ use Rattle.cm_workers.specs.declared.post.Post.{Post}
 use Rattle.cm_workers.specs.Posts.{blank_post}
 use Rattle.cm_workers.specs.Dealing.{hand, AreDealt}
 use Rattle.cm_workers.specs.Each.{AreEach}
-use Rattle.cm_workers.specs.Turns.{round_before, gone_on, HasGoneOn, AreShown}
+use Rattle.cm_workers.specs.Turns.{round_before, part_gone_on, HasGoneOn, AreShown}
 use Rattle.cm_workers.specs.Runs.{StandsAt, HaveBegun}
-use Rattle.cm_workers.specs.Gates.{told_number, IsBeforeRound, AreBeforeRound, ComesBy, StandsAsWorker, IsWorkersTurn}
+use Rattle.cm_workers.specs.Gates.{gate_round_number, IsBeforeRound, AreBeforeRound, ComesBy, StandsAsWorker, IsWorkersTurn}
 use Rattle.cm_workers.specs.Gates.{ShowsIn}
 use Rattle.cm_workers.specs.Shifts.{AreWorkersTurns}
 use Rattle.cm_workers.proofs.Standing.{gone_to}
@@ -45,10 +45,10 @@ module _ (n k room : ℕ) (machine : Machine) (acts : List Act) (t count w : ℕ
       let kept : KeptBlock = get_or blocks q b in let post : Post = get_or posts q p in
       let stood = at.each q b p l in
       (gone.each q b p l).part
-      ∙ ap (λ (d : ℕ). gone_on d kept.k kept.kept.room acts before post kept.kept.part) stood.dims
-      ∙ ap (λ (j : ℕ). gone_on n j kept.kept.room acts before post kept.kept.part) stood.blocks
-      ∙ ap (λ (r : ℕ). gone_on n k r acts before post kept.kept.part) stood.room_is
-      ∙ ap (λ (one : Option Round). gone_on n k room acts one post kept.kept.part) before_is
+      ∙ ap (λ (d : ℕ). part_gone_on d kept.k kept.kept.room acts before post kept.kept.part) stood.dims
+      ∙ ap (λ (j : ℕ). part_gone_on n j kept.kept.room acts before post kept.kept.part) stood.blocks
+      ∙ ap (λ (r : ℕ). part_gone_on n k r acts before post kept.kept.part) stood.room_is
+      ∙ ap (λ (one : Option Round). part_gone_on n k room acts one post kept.kept.part) before_is
       ∙ gone_to n k room machine acts within t (q * count + w) kept post below ((at.share q).0 l) stood
 
   -- and so is each block
@@ -91,7 +91,7 @@ still_before n k room machine acts t count w bs now shown was = record {
 -- a worker whose blocks have gone on comes by, if a round is ahead
 pub comes_by : (acts : List Act) (before : Option Round) (t w : ℕ) (blocks bs : List KeptBlock) (posts ps : List Post)
     → AreEach (HasGoneOn acts before) blocks posts bs ps → (next : Option Round)
-    → IsWorkersTurn acts before next t w blocks posts → IfSome next (λ _. ComesBy w (told_number t) bs)
+    → IsWorkersTurn acts before next t w blocks posts → IfSome next (λ _. ComesBy w (gate_round_number t) bs)
 comes_by acts before t w blocks bs posts ps gone None turn = tt
 comes_by acts before t w blocks bs posts ps gone (Some round) turn = record {
   n = turn.n;
@@ -125,12 +125,12 @@ still_comes w told bs now shown was = record {
 
 -- so it does before a round that is there, of which it is told by its number
 pub shown_comes : (next : Option Round) (round : Round) (w number told : ℕ) (bs now : List KeptBlock)
-    → next ≡ Some round → told ≡ told_number number → AreShown bs now
-    → IfSome next (λ _. ComesBy w (told_number number) bs) → ComesBy w told now
+    → next ≡ Some round → told ≡ gate_round_number number → AreShown bs now
+    → IfSome next (λ _. ComesBy w (gate_round_number number) bs) → ComesBy w told now
 shown_comes next round w number told bs now is told_is shown own =
     subst (λ (t : ℕ). ComesBy w t now) (sym told_is)
-    (still_comes w (told_number number) bs now shown
-    (subst (λ (one : Option Round). IfSome one (λ _. ComesBy w (told_number number) bs)) is own))
+    (still_comes w (gate_round_number number) bs now shown
+    (subst (λ (one : Option Round). IfSome one (λ _. ComesBy w (gate_round_number number) bs)) is own))
 
 -- the turn of a worker as it is told by its number
 pub own_as_numbered : (acts : List Act) (before before_it next next_it : Option Round) (t w : ℕ)
@@ -180,7 +180,7 @@ hands_turns n k t count acts rounds_now blocks posts hb hp within is below begun
 -- what a worker's blocks became was shown, if a round is ahead
 pub shows_in : (saw : ℕ → ℕ → List KeptBlock → Type 0) (acts : List Act) (before next : Option Round) (t w : ℕ)
     (blocks gone shown : List KeptBlock) (posts blanks : List Post) → AreEach (HasGoneOn acts before) blocks posts gone blanks
-    → AreShown gone shown → IfSome next (λ _. saw w (told_number t) shown)
+    → AreShown gone shown → IfSome next (λ _. saw w (gate_round_number t) shown)
     → ShowsIn saw acts before next t w blocks posts
 shows_in saw acts before None t w blocks gone shown posts blanks went same seen = tt
 shows_in saw acts before (Some round) t w blocks gone shown posts blanks went same seen =

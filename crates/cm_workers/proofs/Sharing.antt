@@ -11,7 +11,7 @@ use Rattle.cm_subcube.specs.Blocks.{KeptBlock}
 use Rattle.cm_workers.specs.declared.post.Post.{Post}
 use Rattle.cm_workers.specs.Dealing.{hand, AreDealt, AreShares}
 use Rattle.cm_workers.specs.Each.{AreEach}
-use Rattle.cm_workers.specs.Turns.{CanGo, CanAllGo, HasGone}
+use Rattle.cm_workers.specs.Turns.{IsReadyForTurn, CanAllGo, HasGone}
 use Rattle.cm_workers.specs.Shifts.{CanHandsGo, HandsHaveGone}
 
 -- numbers that have the same numbers below them
@@ -46,9 +46,9 @@ module _ (acts : List Act) (before next : Option Round) (count : ℕ) (some : 0 
           len = same_shares count (length blocks) hb hp db.shares post_shares w e f l;
           each = λ q b p k.
               let at : q * count + w < length blocks = (db.shares w q e l).0 k in
-              subst (λ (x : KeptBlock). CanGo acts before next x (get_or (hand hp f w) q p))
+              subst (λ (x : KeptBlock). IsReadyForTurn acts before next x (get_or (hand hp f w) q p))
               (sym (db.each w q e b l at))
-              (subst (λ (x : Post). CanGo acts before next (get_or blocks (q * count + w) b) x)
+              (subst (λ (x : Post). IsReadyForTurn acts before next (get_or blocks (q * count + w) b) x)
               (sym (dp.each w q f p l (omega (arith, at, same))))
               (ready.each (q * count + w) b p at));
         };

@@ -14,7 +14,7 @@ use Rattle.cm_workers.specs.declared.shift.HasHad.{HasHad}
 use Rattle.cm_workers.specs.Dealing.{hand}
 use Rattle.cm_workers.specs.Each.{AreEach}
 use Rattle.cm_workers.specs.Turns.{round_before, HasGone}
-use Rattle.cm_workers.specs.Shifts.{IsPromised, IsKept, HandsHaveGone}
+use Rattle.cm_workers.specs.Shifts.{IsPromised, IsPromiseKept, HandsHaveGone}
 
 -- one more of each of three lists that go together
 pub push_kept : {H A B : Type 0} (P : H → List A → List B → Type 0) (hs : List H) (bs : List (Vec A Global))
@@ -90,11 +90,11 @@ abbrev pub AreKept : {H : Type 0} → (H → HasHad) → List (Vec KeptBlock Glo
     → List (Vec Post Global) → List H → Type 0
 AreKept {H} promise now sent handles =
     (w : ℕ) (d : H) (e : Vec KeptBlock Global) (f : Vec Post Global) → w < length handles
-    → IsKept (promise (get_or handles w d)) (hand now e w) (hand sent f w)
+    → IsPromiseKept (promise (get_or handles w d)) (hand now e w) (hand sent f w)
 
 one_kept : (acts : List Act) (rounds : List Round) (number : ℕ) (promise : HasHad) (blocks now : List KeptBlock)
     (posts sent : List Post)
-    → IsPromised acts rounds number blocks posts promise → IsKept promise now sent
+    → IsPromised acts rounds number blocks posts promise → IsPromiseKept promise now sent
     → AreEach (HasGone acts (round_before rounds number) (slice_get rounds number)) blocks posts now sent
 one_kept acts rounds number promise blocks now posts sent is kept =
     subst (λ (xs : List Act). AreEach (HasGone xs (round_before rounds number) (slice_get rounds number))

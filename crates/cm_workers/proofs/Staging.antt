@@ -38,11 +38,11 @@ use Rattle.cm_subcube.proofs.Sparing.{cuts_are_spared, room_for}
 use Rattle.cm_subcube.proofs.Counting.{steps_until-first, deliveries_shared, events_shared}
 use Rattle.cm_subcube.proofs.Following.{round_is_followed}
 use Rattle.cm_workers.specs.declared.post.Post.{Post}
-use Rattle.cm_workers.specs.Posts.{lane_in, post_of, blank_post, giver}
-use Rattle.cm_workers.specs.Turns.{taken_in, gone_on, left_in, sent_by, IsFollowing, HasComeBefore}
-use Rattle.cm_workers.specs.Turns.{HaveSpaceIn, CanGo, HasGone}
+use Rattle.cm_workers.specs.Posts.{lane_in, post_of, blank_post, giver_of_kind}
+use Rattle.cm_workers.specs.Turns.{part_taken_in, part_gone_on, left_in, sent_by, IsFollowing, HasComeBefore}
+use Rattle.cm_workers.specs.Turns.{HaveSpaceIn, IsReadyForTurn, HasGone}
 use Rattle.cm_workers.proofs.Turning.{clock_stands}
-use Rattle.cm_workers.specs.Runs.{part_at, post_at, come_in, without_sent, HaveSpaceAt, StandsAt}
+use Rattle.cm_workers.specs.Runs.{part_at_turn, post_at, come_in, without_sent, HaveSpaceAt, StandsAt}
 
 -- a lane is what a post of its kind was made of
 pub lane_of_post : (n k : ℕ) (round : Kind) (parcel : Parcel) → lane_in round (post_of n k round parcel) ≡ parcel
@@ -57,8 +57,8 @@ some_round n k r acts one is = slice_get-map round_of (rounds n k acts) r ∙ ap
 
 module _ (n k room : ℕ) (machine : Machine) (acts : List Act) (within : k ≤ n - n / 2) (b : ℕ) (below : b < 2 ^ k) where
   -- from the beginning of the run to the first round
-  pub first_turn : (s : Part) (post : Post) → s ≡ part_at n k room machine acts 0 b
-      → gone_on n k room acts None post s ≡ block n k b (before_round n room k machine acts 0)
+  pub first_turn : (s : Part) (post : Post) → s ≡ part_at_turn n k room machine acts 0 b
+      → part_gone_on n k room acts None post s ≡ block n k b (before_round n room k machine acts 0)
   first_turn s post is =
       ap (λ (x : Part). part_after_all n room (local_after n k acts None) x) is
       ∙ ap (λ (steps : List Step). part_after_all n room steps (block n k b machine)) (sym (steps_until-first n k acts))
@@ -66,8 +66,8 @@ module _ (n k room : ℕ) (machine : Machine) (acts : List Act) (within : k ≤ 
 
   -- from one round to the next, or to the end
   pub later_turn : (r : ℕ) (phase : Phase) (s : Part) (post : Post) → slice_get (rounds n k acts) r ≡ Some phase
-      → s ≡ part_at n k room machine acts (suc r) b → post ≡ post_at n k room machine acts (suc r) b
-      → gone_on n k room acts (Some (round_of phase)) post s ≡ block n k b (before_round n room k machine acts (r + 1))
+      → s ≡ part_at_turn n k room machine acts (suc r) b → post ≡ post_at n k room machine acts (suc r) b
+      → part_gone_on n k room acts (Some (round_of phase)) post s ≡ block n k b (before_round n room k machine acts (r + 1))
   later_turn r phase s post at is came =
       let now : Machine = before_round n room k machine acts r in
       let told = round_is_followed n k r acts phase at in
@@ -146,10 +146,10 @@ due_of_kind n k room Deliver s round count = absurd (let wrong : false ≡ true 
 
 -- the giver of a kind is the sender at the step
 pub giver_is_sender : (n k : ℕ) (step : Step) (b : ℕ) → is_round n k step ≡ true
-    → giver n k (kind_of step) b ≡ sender n k step b
+    → giver_of_kind n k (kind_of step) b ≡ sender n k step b
 giver_is_sender n k (Instruct nano) b round = over nano.dir (grind (arith, nat_tests))
   where
-    over : (to : Dir) → is_vertical to ≡ true → giver n k (kind_over to) b ≡ sender_over k to b
+    over : (to : Dir) → is_vertical to ≡ true → giver_of_kind n k (kind_over to) b ≡ sender_over k to b
     over dir.North v = refl
     over dir.South v = refl
     over dir.East v = absurd (let wrong : false ≡ true = v in cc)
@@ -198,7 +198,7 @@ module _ (n k room : ℕ) (machine : Machine) (acts : List Act) (b : ℕ) (next 
   -- what is told of these sizes is told of the block's own
   as_own : (before : Option Round) → IsFollowing n k acts before → HasComeBefore n k room before kept.kept.part post
       → HaveLogRoom (events_in room (local_after n k acts before)) kept.kept.log_rooms
-      → kept.kept.part.clock + deliveries (local_after n k acts before) < 2 ^ 63 → CanGo acts before next kept post
+      → kept.kept.part.clock + deliveries (local_after n k acts before) < 2 ^ 63 → IsReadyForTurn acts before next kept post
   as_own before behind come log_room clock = record {
     behind = subst (λ (d : ℕ). IsFollowing d kept.k acts before) (sym dims)
         (subst (λ (j : ℕ). IsFollowing n j acts before) (sym blocks) behind);
@@ -218,7 +218,7 @@ module _ (n k room : ℕ) (machine : Machine) (acts : List Act) (b : ℕ) (next 
         (sym blocks) clock);
   }
 
-  pub ready_first : StandsAt n k room machine acts 0 b kept post → CanGo acts None next kept post
+  pub ready_first : StandsAt n k room machine acts 0 b kept post → IsReadyForTurn acts None next kept post
   ready_first at =
       as_own None (following_none n k acts) at.come
       (less_room (events_in room (local_after n k acts None)) (cycles_in acts * (4 + room)) kept.kept.log_rooms
@@ -227,7 +227,7 @@ module _ (n k room : ℕ) (machine : Machine) (acts : List Act) (b : ℕ) (next 
 
   pub ready_later : (r : ℕ) (phase : Phase) → slice_get (rounds n k acts) r ≡ Some phase
       → StandsAt n k room machine acts (suc r) b kept post
-      → CanGo acts (Some (round_of phase)) next kept post
+      → IsReadyForTurn acts (Some (round_of phase)) next kept post
   ready_later r phase is at =
       let now : Machine = before_round n room k machine acts r in
       let told = round_is_followed n k r acts phase is in
@@ -289,7 +289,7 @@ clock_without room None s = refl
 clock_without room (Some phase) s = clock_left room phase.step s
 
 clock_taken : (n room : ℕ) (before : Option Round) (post : Post) (s : Part)
-    → (taken_in n room before post s).clock ≡ s.clock
+    → (part_taken_in n room before post s).clock ≡ s.clock
 clock_taken n room None post s = refl
 clock_taken n room (Some round) post s = clock_stands n room (step_of round) (lane_in round.kind post) s
 
@@ -303,7 +303,7 @@ space_as_phase room (Some phase) block is space =
 module _ (n k room t b : ℕ) (machine : Machine) (acts : List Act) (before : Option Round)
     (one : Option Phase) (kept new : KeptBlock) (post sent : Post) (dims : kept.kept.dims ≡ n) (blocks : kept.k ≡ k)
     (rooms : kept.kept.room ≡ room) (is : slice_get (rounds n k acts) t ≡ one) where
-  pub has_sent : gone_on n k room acts before post kept.kept.part ≡ block n k b (before_round n room k machine acts t)
+  pub has_sent : part_gone_on n k room acts before post kept.kept.part ≡ block n k b (before_round n room k machine acts t)
       → (all_events all_cycles : ℕ)
       → events_in room (local_after n k acts before) + events_in room (steps_after_round n k acts t) ≡ all_events
       → deliveries (local_after n k acts before) + deliveries (steps_after_round n k acts t) ≡ all_cycles
@@ -312,18 +312,18 @@ module _ (n k room t b : ℕ) (machine : Machine) (acts : List Act) (before : Op
       → HasSentAt n k room machine acts t b one new sent
   has_sent reached all_events all_cycles events cycles log_room clock gone =
       let now : Part = block n k b (before_round n room k machine acts t) in
-      let own : Part = gone_on kept.kept.dims kept.k kept.kept.room acts before post kept.kept.part in
+      let own : Part = part_gone_on kept.kept.dims kept.k kept.kept.room acts before post kept.kept.part in
       let own_is : own ≡ now =
-      ap (λ (d : ℕ). gone_on d kept.k kept.kept.room acts before post kept.kept.part) dims
-      ∙ ap (λ (j : ℕ). gone_on n j kept.kept.room acts before post kept.kept.part) blocks
-      ∙ ap (λ (r : ℕ). gone_on n k r acts before post kept.kept.part) rooms ∙ reached in
+      ap (λ (d : ℕ). part_gone_on d kept.k kept.kept.room acts before post kept.kept.part) dims
+      ∙ ap (λ (j : ℕ). part_gone_on n j kept.kept.room acts before post kept.kept.part) blocks
+      ∙ ap (λ (r : ℕ). part_gone_on n k r acts before post kept.kept.part) rooms ∙ reached in
       let part : new.kept.part ≡ without_sent room one now =
       gone.part ∙ ap (λ (r : ℕ). left_in r (option_map round_of one) own) rooms
       ∙ ap (λ (s : Part). left_in room (option_map round_of one) s) own_is
       ∙ left_as_phase n k room t acts one now is in
       let counted : now.clock ≡ kept.kept.part.clock + deliveries (local_after n k acts before) =
       ap (λ (s : Part). s.clock) (sym reached)
-      ∙ clock_after_all n room (local_after n k acts before) (taken_in n room before post kept.kept.part)
+      ∙ clock_after_all n room (local_after n k acts before) (part_taken_in n room before post kept.kept.part)
       ∙ ap (λ (c : ℕ). c + deliveries (local_after n k acts before)) (clock_taken n room before post kept.kept.part) in
       let clock_now : new.kept.part.clock ≡ kept.kept.part.clock + deliveries (local_after n k acts before) =
       ap (λ (s : Part). s.clock) part ∙ clock_without room one now ∙ counted in
@@ -357,7 +357,7 @@ pub stands_next : (n k room t b : ℕ) (machine : Machine) (acts : List Act) (ph
     (kept giver_kept : KeptBlock) (came gave : Post)
     → slice_get (rounds n k acts) t ≡ Some phase → HasSentAt n k room machine acts t b (Some phase) kept gave
     → came ≡ sent_at n k room (Some phase)
-    (block n k (giver n k (kind_of phase.step) b) (before_round n room k machine acts t))
+    (block n k (giver_of_kind n k (kind_of phase.step) b) (before_round n room k machine acts t))
     → StandsAt n k room machine acts (suc t) b kept came
 stands_next n k room t b machine acts phase kept giver_kept came gave is at came_is =
     let now : Machine = before_round n room k machine acts t in

@@ -23,9 +23,9 @@ use Rattle.cm_subcube.specs.Parcels.{IsExchangeBy, CanBeOver}
 use Rattle.cm_subcube.proofs.Counting.{deliveries_shared, events_shared}
 use Rattle.cm_subcube.proofs.Following.{round_is_followed}
 use Rattle.cm_workers.specs.declared.post.Post.{Post}
-use Rattle.cm_workers.specs.Posts.{blank_post, giver, AreHandedOver}
+use Rattle.cm_workers.specs.Posts.{blank_post, giver_of_kind, AreHandedOver}
 use Rattle.cm_workers.specs.Each.{AreEach}
-use Rattle.cm_workers.specs.Turns.{round_before, gone_on, CanGo, CanAllGo, HasGone}
+use Rattle.cm_workers.specs.Turns.{round_before, part_gone_on, IsReadyForTurn, CanAllGo, HasGone}
 use Rattle.cm_workers.specs.Runs.{StandsAt, StandAt, HaveBegun, AreAfter}
 use Rattle.cm_workers.proofs.Staging.{first_turn, later_turn, ready_first, ready_later, following_next, has_sent}
 use Rattle.cm_workers.proofs.Staging.{HasSentAt, stands_next}
@@ -67,7 +67,7 @@ module _ (n k room : ℕ) (machine : Machine) (acts : List Act) (within : k ≤ 
         len = at.post_count ∙ sym at.block_count;
         each = λ b x y l.
             let one = at.each b x y (omega (arith, l, at.block_count)) in
-            subst (λ (before : Option Round). CanGo acts before (slice_get rs (suc r)) (get_or blocks b x)
+            subst (λ (before : Option Round). IsReadyForTurn acts before (slice_get rs (suc r)) (get_or blocks b x)
             (get_or posts b y)) (sym (round_is r (Some it.one) it.is))
             (ready_later n k room machine acts b (slice_get rs (suc r)) (get_or blocks b x) (get_or posts b y)
             one.dims one.blocks one.room_is
@@ -77,13 +77,13 @@ module _ (n k room : ℕ) (machine : Machine) (acts : List Act) (within : k ≤ 
   -- from the beginning of a turn to its round, by itself
   pub gone_to : (t b : ℕ) (kept : KeptBlock) (post : Post) → t ≤ length rs → b < 2 ^ k
       → StandsAt n k room machine acts t b kept post
-      → gone_on n k room acts (round_before rs t) post kept.kept.part
+      → part_gone_on n k room acts (round_before rs t) post kept.kept.part
       ≡ block n k b (before_round n room k machine acts t)
   gone_to zero b kept post below l stood = first_turn n k room machine acts within b l kept.kept.part post stood.part
   gone_to (suc r) b kept post below l stood =
       let it = there (rounds n k acts) r (omega (arith, below, as_many)) in
       let more : r + 1 ≡ suc r = omega arith in
-      ap (λ (before : Option Round). gone_on n k room acts before post kept.kept.part) (round_is r (Some it.one) it.is)
+      ap (λ (before : Option Round). part_gone_on n k room acts before post kept.kept.part) (round_is r (Some it.one) it.is)
       ∙ later_turn n k room machine acts within b l r it.one kept.kept.part post it.is stood.part stood.come
       ∙ ap (λ (j : ℕ). block n k b (before_round n room k machine acts j)) more
 
@@ -129,7 +129,7 @@ module _ (n k room : ℕ) (machine : Machine) (acts : List Act) (within : k ≤ 
       (gone.each b x y (omega (arith, l, at.block_count)))))
 
   -- the giver is one of the blocks
-  giver_below : (round : Kind) (b : ℕ) → k ≤ n → CanBeOver n k round → b < 2 ^ k → giver n k round b < 2 ^ k
+  giver_below : (round : Kind) (b : ℕ) → k ≤ n → CanBeOver n k round → b < 2 ^ k → giver_of_kind n k round b < 2 ^ k
   giver_below kind.North b fits over l = mod-lt (b + 1) (pow_pos k)
   giver_below kind.South b fits over l = mod-lt (b + 2 ^ k - 1) (pow_pos k)
   giver_below (kind.Dim d) b fits over l = xor_lt k b (2 ^ (d - (n - k))) l
@@ -156,8 +156,8 @@ module _ (n k room : ℕ) (machine : Machine) (acts : List Act) (within : k ≤ 
       let same_round : round_of it.one ≡ round = cc in
       let round_kind : round.kind ≡ kind_of it.one.step = ap (λ (x : Round). x.kind) (sym same_round) in
       let fits : k ≤ n = omega (arith, within) in
-      let from : (b : ℕ) → b < 2 ^ k → giver n k (kind_of it.one.step) b < 2 ^ k =
-      λ b l. subst (λ (x : Kind). giver n k x b < 2 ^ k) round_kind
+      let from : (b : ℕ) → b < 2 ^ k → giver_of_kind n k (kind_of it.one.step) b < 2 ^ k =
+      λ b l. subst (λ (x : Kind). giver_of_kind n k x b < 2 ^ k) round_kind
       (giver_below round.kind b fits (round_can t round is) l) in
       let sent = sent_each t (Some it.one) blocks bs posts ps (omega (arith, below)) it.is at gone in record {
         block_count = gone.first_len ∙ at.block_count;
@@ -165,8 +165,8 @@ module _ (n k room : ℕ) (machine : Machine) (acts : List Act) (within : k ≤ 
         each = λ b x y l.
             stands_next n k room t b machine acts it.one (get_or bs b x) (get_or bs b x) (get_or came b y)
             (get_or ps b y) it.is (sent b x y l)
-            (over.each b y l ∙ ap (λ (g : Kind). get_or ps (giver n k g b) y) round_kind
-            ∙ (sent (giver n k (kind_of it.one.step) b) x y (from b l)).sends);
+            (over.each b y l ∙ ap (λ (g : Kind). get_or ps (giver_of_kind n k g b) y) round_kind
+            ∙ (sent (giver_of_kind n k (kind_of it.one.step) b) x y (from b l)).sends);
       }
 
   -- after the last turn

@@ -16,7 +16,8 @@ use Rattle.cm_subcube.specs.Local.{local_after}
 use Rattle.cm_workers.specs.declared.post.Post.{Post}
 use Rattle.cm_workers.specs.Posts.{blank_post}
 use Rattle.cm_workers.specs.Each.{AreEach}
-use Rattle.cm_workers.specs.Turns.{gone_on, left_in, sent_by, CanGo, CanAllGo, CanSend, CanAllSend, HasGoneOn, HasSent}
+use Rattle.cm_workers.specs.Turns.{part_gone_on, left_in, sent_by, IsReadyForTurn, CanAllGo, IsReadyToSend, CanAllSend}
+use Rattle.cm_workers.specs.Turns.{HasGoneOn, HasSentDue}
 use Rattle.cm_workers.specs.Turns.{HasGone, IsShown, AreShown, IsAhead, IsFollowing}
 
 -- the counter stands still while a parcel is taken in
@@ -37,7 +38,7 @@ pub record CanGoOn (acts : List Act) (before : Option Round) (block : KeptBlock)
   pub clock : block.kept.part.clock + deliveries (local_after block.kept.dims block.k acts before) < 2 ^ 63
 
 pub can_go_on : (acts : List Act) (before next : Option Round) (block : KeptBlock) (post : Post)
-    → CanGo acts before next block post
+    → IsReadyForTurn acts before next block post
     → CanGoOn acts before block
 can_go_on acts before next block post ready =
     record { following = ready.behind; log_room = ready.log_room; clock = ready.clock }
@@ -73,9 +74,9 @@ exchange_of n k acts before round is following = (following round is).exchange
 
 module _ (acts : List Act) (before next : Option Round) where
   -- a block that has gone on is ready to send
-  pub ready_to_send : (b0 b1 b2 : KeptBlock) (p0 p1 : Post) → CanGo acts before next b0 p0
+  pub ready_to_send : (b0 b1 b2 : KeptBlock) (p0 p1 : Post) → IsReadyForTurn acts before next b0 p0
       → HasGoneOn acts before b0 p0 b1 p1
-      → IsShown b1 b2 → CanSend next b2 p1
+      → IsShown b1 b2 → IsReadyToSend next b2 p1
   ready_to_send b0 b1 b2 p0 p1 can gone shown =
       let dims : b0.kept.dims ≡ b2.kept.dims = sym (ap (λ (kept : KeptPart). kept.dims) shown.kept ∙ gone.same.dims) in
       let blocks : b0.k ≡ b2.k = sym (shown.blocks ∙ gone.same.blocks) in record {
@@ -90,14 +91,14 @@ module _ (acts : List Act) (before next : Option Round) where
       is_ahead acts (Some round) block following = (following round refl).exchange
 
   pub has_gone : (b0 b1 b2 b3 : KeptBlock) (p0 p1 p3 : Post) → HasGoneOn acts before b0 p0 b1 p1 → IsShown b1 b2
-      → HasSent next b2 p1 b3 p3
+      → HasSentDue next b2 p1 b3 p3
       → HasGone acts before next b0 p0 b3 p3
   has_gone b0 b1 b2 b3 p0 p1 p3 gone shown sent =
       let n = b0.kept.dims in let k = b0.k in let room = b0.kept.room in
       let dims : b2.kept.dims ≡ n = ap (λ (kept : KeptPart). kept.dims) shown.kept ∙ gone.same.dims in
       let rooms : b2.kept.room ≡ room = ap (λ (kept : KeptPart). kept.room) shown.kept ∙ gone.same.room in
       let blocks : b2.k ≡ k = shown.blocks ∙ gone.same.blocks in
-      let part : b2.kept.part ≡ gone_on n k room acts before p0 b0.kept.part =
+      let part : b2.kept.part ≡ part_gone_on n k room acts before p0 b0.kept.part =
       ap (λ (kept : KeptPart). kept.part) shown.kept ∙ gone.part in
       let log_rooms : b3.kept.log_rooms ≡ b1.kept.log_rooms = sent.log_room
       ∙ ap (λ (kept : KeptPart). kept.log_rooms) shown.kept in record {
@@ -129,7 +130,7 @@ module _ (acts : List Act) (before next : Option Round) where
 
   pub all_gone : (bs0 bs1 bs2 bs3 : List KeptBlock) (ps0 ps1 ps3 : List Post)
       → AreEach (HasGoneOn acts before) bs0 ps0 bs1 ps1
-      → AreShown bs1 bs2 → AreEach (HasSent next) bs2 ps1 bs3 ps3 → AreEach (HasGone acts before next) bs0 ps0 bs3 ps3
+      → AreShown bs1 bs2 → AreEach (HasSentDue next) bs2 ps1 bs3 ps3 → AreEach (HasGone acts before next) bs0 ps0 bs3 ps3
   all_gone bs0 bs1 bs2 bs3 ps0 ps1 ps3 gone shown sent = record {
     first_len = sent.first_len ∙ shown.len ∙ gone.first_len;
     second_len = sent.second_len ∙ gone.second_len;

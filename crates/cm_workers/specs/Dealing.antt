@@ -7,7 +7,7 @@ abbrev pub hand : {X : Type 0} → List (Vec X Global) → Vec X Global → ℕ 
 hand hands e r = (get_or hands r e).items
 
 -- so many hands, each with nothing in it
-pub record AreEmpty {X : Type 0} (count : ℕ) (hands : List (Vec X Global)) : Type 0 where
+pub record AreEmptyHands {X : Type 0} (count : ℕ) (hands : List (Vec X Global)) : Type 0 where
   pub len : length hands ≡ count
   pub each : (r : ℕ) (e : Vec X Global) → r < count → hand hands e r ≡ []
 

@@ -18,12 +18,12 @@ abbrev pub IsShareOf : ℕ → ℕ → ℕ → List KeptBlock → Type 0
 IsShareOf k count w blocks = (q : ℕ) → (q < length blocks) ↔ (q * count + w < 2 ^ k)
 
 -- the number of a round as a gate is told it: one that is too large as the largest
-abbrev pub told_number : ℕ → ℕ
-told_number number = min number (2 ^ 32 - 1)
+abbrev pub gate_round_number : ℕ → ℕ
+gate_round_number number = min number (2 ^ 32 - 1)
 
 -- which is its number, of each round that there is
 abbrev pub RoundsAreToldByNumber : Type 0
-RoundsAreToldByNumber = (number : ℕ) → number < 2 ^ 32 → told_number number ≡ number
+RoundsAreToldByNumber = (number : ℕ) → number < 2 ^ 32 → gate_round_number number ≡ number
 
 -- block b of 2 ^ k of a cube of n dimensions whose routers have this room, as it is before a round of a run
 pub record IsBeforeRound (n k room : ℕ) (machine : Machine) (acts : List Act) (number b : ℕ) (kept : KeptBlock)
@@ -51,7 +51,7 @@ pub record ComesBy (w told : ℕ) (blocks : List KeptBlock) : Type 0 where
   pub count : ℕ
   pub number : ℕ
   pub there : number < length (rounds n k acts)
-  pub told_is : told ≡ told_number number
+  pub told_is : told ≡ gate_round_number number
   pub at : AreBeforeRound n k room machine acts number count w blocks
 
 -- who looks saw worker w of so many come by before a round of this run
@@ -59,7 +59,7 @@ pub record HasSeen (saw : ℕ → ℕ → List KeptBlock → Type 0) (n k room :
     (number count w : ℕ) : Type 0 where
   pub blocks : List KeptBlock
   pub at : AreBeforeRound n k room machine acts number count w blocks
-  pub seen : saw w (told_number number) blocks
+  pub seen : saw w (gate_round_number number) blocks
 
 -- who looks saw a worker's blocks in a turn of a run when they had gone on
 pub record HasShown (saw : ℕ → ℕ → List KeptBlock → Type 0) (acts : List Act) (before : Option Round) (t w : ℕ)
@@ -69,7 +69,7 @@ pub record HasShown (saw : ℕ → ℕ → List KeptBlock → Type 0) (acts : Li
   pub went : AreEach (HasGoneOn acts before) blocks posts gone blanks
   pub shown : List KeptBlock
   pub same : AreShown gone shown
-  pub seen : saw w (told_number t) shown
+  pub seen : saw w (gate_round_number t) shown
 
 -- so it is of a turn that ends at a round
 abbrev pub ShowsIn : (ℕ → ℕ → List KeptBlock → Type 0) → List Act → Option Round → Option Round → ℕ → ℕ

@@ -35,9 +35,9 @@ HaveSpaceAt room (Some phase) s = HaveSpaceFor (kind_of phase.step) room s
 
 -- the part of block b when turn t begins: as it was cut out, and then as it is before the round at which
 -- the turn begins, without what it sent
-abbrev pub part_at : ℕ → ℕ → ℕ → Machine → List Act → ℕ → ℕ → Part
-part_at n k room machine acts zero b = block n k b machine
-part_at n k room machine acts (suc r) b =
+abbrev pub part_at_turn : ℕ → ℕ → ℕ → Machine → List Act → ℕ → ℕ → Part
+part_at_turn n k room machine acts zero b = block n k b machine
+part_at_turn n k room machine acts (suc r) b =
     without_sent room (slice_get (rounds n k acts) r) (block n k b (before_round n room k machine acts r))
 
 -- its post: with nothing in it, and then with what its sender sent
@@ -46,9 +46,9 @@ post_at n k room machine acts zero b = blank_post n k
 post_at n k room machine acts (suc r) b =
     come_in n k room (slice_get (rounds n k acts) r) b (before_round n room k machine acts r)
 
-abbrev pub HasSpaceIn : ℕ → ℕ → ℕ → List Act → ℕ → Part → Type 0
-HasSpaceIn n k room acts zero s = Unit {0}
-HasSpaceIn n k room acts (suc r) s = HaveSpaceAt room (slice_get (rounds n k acts) r) s
+abbrev pub HasSpaceAtTurn : ℕ → ℕ → ℕ → List Act → ℕ → Part → Type 0
+HasSpaceAtTurn n k room acts zero s = Unit {0}
+HasSpaceAtTurn n k room acts (suc r) s = HaveSpaceAt room (slice_get (rounds n k acts) r) s
 
 -- the most events of a chip, and the petit cycles, that are still to come
 abbrev pub events_left : ℕ → ℕ → ℕ → List Act → ℕ → ℕ
@@ -65,9 +65,9 @@ pub record StandsAt (n k room : ℕ) (machine : Machine) (acts : List Act) (t b 
   pub blocks : kept.k ≡ k
   pub dims : kept.kept.dims ≡ n
   pub room_is : kept.kept.room ≡ room
-  pub part : kept.kept.part ≡ part_at n k room machine acts t b
+  pub part : kept.kept.part ≡ part_at_turn n k room machine acts t b
   pub come : post ≡ post_at n k room machine acts t b
-  pub space : HasSpaceIn n k room acts t kept.kept.part
+  pub space : HasSpaceAtTurn n k room acts t kept.kept.part
   pub log_room : HaveLogRoom (events_left n k room acts t) kept.kept.log_rooms
   pub clock : kept.kept.part.clock + cycles_left n k acts t < 2 ^ 63
 

@@ -21,8 +21,8 @@ pub record IsPromised (acts : List Act) (rounds : List Round) (number : ℕ) (bl
   pub posts_were : promise.was.value.posts.items ≡ posts
 
 -- it is kept by these
-abbrev pub IsKept : HasHad → List KeptBlock → List Post → Type 0
-IsKept promise blocks posts =
+abbrev pub IsPromiseKept : HasHad → List KeptBlock → List Post → Type 0
+IsPromiseKept promise blocks posts =
     AreEach (HasGone promise.acts.now (round_before promise.rounds.now promise.number)
     (slice_get promise.rounds.now promise.number))
     promise.was.value.blocks.items promise.was.value.posts.items blocks posts

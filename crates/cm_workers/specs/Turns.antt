@@ -22,14 +22,14 @@ round_before rounds zero = None
 round_before rounds (suc r) = slice_get rounds r
 
 -- a part after it took in what came in the round before, if there was one
-abbrev pub taken_in : ℕ → ℕ → Option Round → Post → Part → Part
-taken_in n room None post s = s
-taken_in n room (Some round) post s = absorbed n room (step_of round) (lane_in round.kind post) s
+abbrev pub part_taken_in : ℕ → ℕ → Option Round → Post → Part → Part
+part_taken_in n room None post s = s
+part_taken_in n room (Some round) post s = absorbed n room (step_of round) (lane_in round.kind post) s
 
 -- and then went through the steps until the next round
-abbrev pub gone_on : ℕ → ℕ → ℕ → List Act → Option Round → Post → Part → Part
-gone_on n k room acts before post s =
-    part_after_all n room (local_after n k acts before) (taken_in n room before post s)
+abbrev pub part_gone_on : ℕ → ℕ → ℕ → List Act → Option Round → Post → Part → Part
+part_gone_on n k room acts before post s =
+    part_after_all n room (local_after n k acts before) (part_taken_in n room before post s)
 
 -- what is left of it when it has sent what is due in the next, and what it sends
 abbrev pub left_in : ℕ → Option Round → Part → Part
@@ -56,7 +56,7 @@ abbrev pub IsFollowing : ℕ → ℕ → List Act → Option Round → Type 0
 IsFollowing n k acts one = ForSome one (λ round. IsRoundOf n k acts round)
 
 -- a block and its post are ready for a turn
-pub record CanGo (acts : List Act) (before next : Option Round) (block : KeptBlock) (post : Post) : Type 0 where
+pub record IsReadyForTurn (acts : List Act) (before next : Option Round) (block : KeptBlock) (post : Post) : Type 0 where
   pub behind : IsFollowing block.kept.dims block.k acts before
   pub ahead : IsFollowing block.kept.dims block.k acts next
   pub come : HasComeBefore block.kept.dims block.k block.kept.room before block.kept.part post
@@ -74,7 +74,7 @@ pub record IsSame (old new : KeptBlock) : Type 0 where
 pub record HasGoneOn (acts : List Act) (before : Option Round) (old : KeptBlock) (post : Post) (new : KeptBlock)
     (blank : Post) : Type 0 where
   pub same : IsSame old new
-  pub part : new.kept.part ≡ gone_on old.kept.dims old.k old.kept.room acts before post old.kept.part
+  pub part : new.kept.part ≡ part_gone_on old.kept.dims old.k old.kept.room acts before post old.kept.part
   pub sent : blank ≡ blank_post old.kept.dims old.k
   pub log_room : LoseAtMost (events_in old.kept.room (local_after old.kept.dims old.k acts before))
       old.kept.log_rooms new.kept.log_rooms
@@ -85,7 +85,7 @@ HaveSpaceIn None block = Unit {0}
 HaveSpaceIn (Some round) block = HaveSpaceFor round.kind block.kept.room block.kept.part
 
 -- it has sent what is due in a round
-pub record HasSent (next : Option Round) (old : KeptBlock) (blank : Post) (new : KeptBlock) (post : Post) : Type 0 where
+pub record HasSentDue (next : Option Round) (old : KeptBlock) (blank : Post) (new : KeptBlock) (post : Post) : Type 0 where
   pub same : IsSame old new
   pub part : new.kept.part ≡ left_in old.kept.room next old.kept.part
   pub sent : post ≡ sent_by old.kept.dims old.k old.kept.room next old.kept.part
@@ -97,10 +97,10 @@ pub record HasGone (acts : List Act) (before next : Option Round) (old : KeptBlo
     (sent : Post) : Type 0 where
   pub same : IsSame old new
   pub part : new.kept.part
-      ≡ left_in old.kept.room next (gone_on old.kept.dims old.k old.kept.room acts before came old.kept.part)
+      ≡ left_in old.kept.room next (part_gone_on old.kept.dims old.k old.kept.room acts before came old.kept.part)
   pub sends : sent
       ≡ sent_by old.kept.dims old.k old.kept.room next
-      (gone_on old.kept.dims old.k old.kept.room acts before came old.kept.part)
+      (part_gone_on old.kept.dims old.k old.kept.room acts before came old.kept.part)
   pub log_room : LoseAtMost (events_in old.kept.room (local_after old.kept.dims old.k acts before))
       old.kept.log_rooms new.kept.log_rooms
   pub space : HaveSpaceIn next new
@@ -110,7 +110,7 @@ pub record CanAllGo (acts : List Act) (before next : Option Round) (blocks : Lis
     (posts : List Post) : Type 0 where
   pub len : length posts ≡ length blocks
   pub each : (i : ℕ) (b : KeptBlock) (p : Post) → i < length blocks
-      → CanGo acts before next (get_or blocks i b) (get_or posts i p)
+      → IsReadyForTurn acts before next (get_or blocks i b) (get_or posts i p)
 
 -- a block as it was, but that it may be read now
 pub record IsShown (old new : KeptBlock) : Type 0 where
@@ -128,7 +128,7 @@ IsAhead None block = Unit {0}
 IsAhead (Some round) block = IsExchange block.kept.dims block.k round
 
 -- a block and its post are ready to send
-pub record CanSend (next : Option Round) (block : KeptBlock) (post : Post) : Type 0 where
+pub record IsReadyToSend (next : Option Round) (block : KeptBlock) (post : Post) : Type 0 where
   pub ahead : IsAhead next block
   pub blank : post ≡ blank_post block.kept.dims block.k
 
@@ -136,4 +136,4 @@ pub record CanSend (next : Option Round) (block : KeptBlock) (post : Post) : Typ
 pub record CanAllSend (next : Option Round) (blocks : List KeptBlock) (posts : List Post) : Type 0 where
   pub len : length posts ≡ length blocks
   pub each : (i : ℕ) (b : KeptBlock) (p : Post) → i < length blocks
-      → CanSend next (get_or blocks i b) (get_or posts i p)
+      → IsReadyToSend next (get_or blocks i b) (get_or posts i p)

@@ -1,7 +1,7 @@
 //! Things dealt out to hands in turn, and taken back.
 
 ghost use Rattle.std.specs.Prelude.{◌≡◌, ℕ, ◌<◌, ◌≤◌, IfOk, [], length};
-ghost use Rattle.cm_workers.specs.Dealing.{hand, AreDealt, AreEmpty, AreShares, HasPut};
+ghost use Rattle.cm_workers.specs.Dealing.{hand, AreDealt, AreEmptyHands, AreShares, HasPut};
 
 use cm_bits::NoMemory;
 use std::alloc::Global;
@@ -22,7 +22,7 @@ pub fn deal<T: Drop>(alloc: Global, things: Vec<T>, count: usize) -> Result<Vec<
 
 /// So many hands with nothing in them.
 fn empty_hands<T: Drop>(alloc: Global, count: usize) -> Result<Vec<Vec<T>>, NoMemory>
-    ensures value { IfOk result (λ hands. AreEmpty count hands.items) }
+    ensures value { IfOk result (λ hands. AreEmptyHands count hands.items) }
 {
     Ok((0..count).map(|_| Vec::new(alloc)).collect(alloc)?)
 }

@@ -6,7 +6,7 @@ ghost use Rattle.std.specs.Option.{option_copied};
 ghost use Rattle.std.specs.Thread.{IsSync};
 ghost use Rattle.cm_workers.specs.Dealing.{hand};
 ghost use Rattle.cm_workers.specs.Each.{AreEach};
-ghost use Rattle.cm_workers.specs.Shifts.{IsPromised, IsKept, CanHandsGo, AreWorkersTurns, HandsHaveGone};
+ghost use Rattle.cm_workers.specs.Shifts.{IsPromised, IsPromiseKept, CanHandsGo, AreWorkersTurns, HandsHaveGone};
 ghost use Rattle.cm_workers.specs.Turns.{round_before, CanAllGo, HasGone};
 ghost use Rattle.cm_subcube.specs.Rounds.{rounds_of};
 ghost use Rattle.cm_workers.specs.Runs.{HaveBegun};
@@ -39,7 +39,7 @@ pub(crate) struct HasHad<'a> {
 impl<'a> Promise<Crew> for HasHad<'a> {
     ghost use Rattle.std.specs.Prelude.{slice_get};
     ghost use Rattle.cm_workers.specs.Each.{AreEach};
-    ghost use Rattle.cm_workers.specs.Shifts.{IsPromised, IsKept, CanHandsGo, HandsHaveGone};
+    ghost use Rattle.cm_workers.specs.Shifts.{IsPromised, IsPromiseKept, CanHandsGo, HandsHaveGone};
     ghost use Rattle.cm_workers.specs.Turns.{round_before, HasGone};
 
     ghost kept_by = { λ p r. AreEach
@@ -143,7 +143,7 @@ fn join_all<'s, R: Threads>(
     ensures count_blocks { length result.blocks.items ≡ length handles.entry.items }
     ensures count_posts { length result.posts.items ≡ length handles.entry.items }
     ensures kept { (w : ℕ) (d : _) (e f : _) → w < length handles.entry.items
-        → IsKept (get_or handles.entry.items w d).promise
+        → IsPromiseKept (get_or handles.entry.items w d).promise
         (hand result.blocks.items e w) (hand result.posts.items f w) }
 {
     let mut blocks = blocks;

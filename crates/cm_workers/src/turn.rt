@@ -8,9 +8,10 @@ ghost use Rattle.cm_subcube.specs.Rounds.{step_of};
 ghost use Rattle.cm_subcube.specs.Parcels.{IsExchange};
 ghost use Rattle.cm_workers.specs.Posts.{lane_in, blank_post};
 ghost use Rattle.cm_workers.specs.Each.{AreEach};
-ghost use Rattle.cm_workers.specs.Turns.{round_before, CanGo, CanAllGo, CanSend, CanAllSend, HasCome, HasGoneOn};
-ghost use Rattle.cm_workers.specs.Turns.{HasSent, HasGone, AreShown};
-ghost use Rattle.cm_workers.specs.Gates.{told_number, ComesBy, IsWorkersTurn, ShowsIn};
+ghost use Rattle.cm_workers.specs.Turns.{round_before, IsReadyForTurn, CanAllGo, IsReadyToSend, CanAllSend, HasCome};
+ghost use Rattle.cm_workers.specs.Turns.{HasGoneOn};
+ghost use Rattle.cm_workers.specs.Turns.{HasSentDue, HasGone, AreShown};
+ghost use Rattle.cm_workers.specs.Gates.{gate_round_number, ComesBy, IsWorkersTurn, ShowsIn};
 
 use crate::gate::{Gate, Passage};
 use crate::post::Post;
@@ -123,7 +124,7 @@ fn go_on_all(blocks: &mut [Block], posts: &mut [Post], turn: &Turn<'_>)
 }
 
 fn go_on(block: &mut Block, post: &mut Post, turn: &Turn<'_>)
-    requires ready { CanGo turn.now.acts.now (option_copied turn.now.before)
+    requires ready { IsReadyForTurn turn.now.acts.now (option_copied turn.now.before)
         (option_copied turn.now.next) block.old post.old }
     ensures value { HasGoneOn turn.now.acts.now (option_copied turn.now.before) block.old post.old block.new post.new }
 {
@@ -154,10 +155,10 @@ fn take_in(block: &mut Block, post: &mut Post, round: &Round)
 /// Shows the blocks to who looks, if a round is ahead.
 fn show(blocks: &mut [Block], turn: &Turn<'_>, worker: u16, passage: &Passage)
     requires own { IfSome (option_copied turn.now.next)
-        (λ _. ComesBy worker (told_number turn.now.number) blocks.old) }
+        (λ _. ComesBy worker (gate_round_number turn.now.number) blocks.old) }
     ensures value { AreShown blocks.old blocks.new }
     ensures seen { (gate : _) → passage.now ≡ Passage.Gated gate
-        → IfSome (option_copied turn.now.next) (λ _. saw gate worker (told_number turn.now.number) blocks.new) }
+        → IfSome (option_copied turn.now.next) (λ _. saw gate worker (gate_round_number turn.now.number) blocks.new) }
 {
     let Some(_round) = turn.next else {
         return;
@@ -179,7 +180,7 @@ fn come_by(gate: &dyn Gate, worker: u16, told: u32, blocks: &[Block])
 
 /// The number of a round as a gate is told it: one that is too large as the largest.
 fn as_told(number: usize) -> u32
-    ensures value { result ≡ told_number number }
+    ensures value { result ≡ gate_round_number number }
 {
     number.min(u32::MAX as usize) as u32
 }
@@ -196,7 +197,7 @@ fn gather_all(blocks: &mut [Block])
 /// Each block puts what is due in a round into its post.
 fn send_all(blocks: &mut [Block], posts: &mut [Post], next: Option<&Round>)
     requires ready { CanAllSend (option_copied next) blocks.old posts.old }
-    ensures value { AreEach (HasSent (option_copied next.entry)) blocks.old posts.old blocks.new posts.new }
+    ensures value { AreEach (HasSentDue (option_copied next.entry)) blocks.old posts.old blocks.new posts.new }
 {
     for i in 0..blocks.len() {
         send(&mut blocks[i], &mut posts[i], next);
@@ -204,8 +205,8 @@ fn send_all(blocks: &mut [Block], posts: &mut [Post], next: Option<&Round>)
 }
 
 fn send(block: &mut Block, post: &mut Post, next: Option<&Round>)
-    requires ready { CanSend (option_copied next) block.old post.old }
-    ensures value { HasSent (option_copied next.entry) block.old post.old block.new post.new }
+    requires ready { IsReadyToSend (option_copied next) block.old post.old }
+    ensures value { HasSentDue (option_copied next.entry) block.old post.old block.new post.new }
 {
     if let Some(round) = next {
         match round.kind {

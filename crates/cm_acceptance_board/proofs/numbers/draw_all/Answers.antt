@@ -1,5 +1,5 @@
 use Rattle.std.proofs.Common.{◌≡◌, ◌+◌, [], ◌∷◌, ◌++◌, ap, sym, ◌∙◌, arith}
-use Rattle.cm_board.specs.Courses.{due_now, one_more}
+use Rattle.cm_board.specs.Courses.{due_now, one_use_more}
 use Rattle.cm_acceptance_board.specs.Rising.{rising}
 use Rattle.cm_acceptance_board.proofs.Counted.{length-rising, rising_at, rising_more}
 use Rattle.cm_acceptance_board.proofs.numbers.draw_all.Goals as goal
@@ -18,7 +18,7 @@ loop-i-preserved g c =
     c.parcel-parcel.ensures.value ∙ c.draw-emptying.ensures.parcel ∙ ap due_now was.end
     ∙ rising_at 1 c.args.count c.loop-i._i 0 c.loop-i-test.true in
     record {
-      end = c.clear-end.ensures.end ∙ ap one_more (c.draw-emptying.ensures.end ∙ was.end);
+      end = c.clear-end.ensures.end ∙ ap one_use_more (c.draw-emptying.ensures.end ∙ was.end);
       seen = c.push_reserved.ensures.items ∙ (λ k. (c.in_ok-reserve.ensures.items ∙ was.seen) k ++ got k ∷ [])
           ∙ sym (rising_more 1 c.loop-i._i);
     }

@@ -1,5 +1,5 @@
 use Rattle.std.proofs.Common.{arith}
-use Rattle.cm_resident.specs.Lanes.{is_over, sent_in, rounds_in, Run}
+use Rattle.cm_resident.specs.Lanes.{is_over, parcel_sent, rounds_in, Run}
 use Rattle.cm_resident.proofs.Picking.{picks_short}
 use Rattle.cm_resident.proofs.lanes.open_lane.Goals as goal
 
@@ -7,6 +7,6 @@ pub open-requires : goal.open-requires
 open-requires g c =
     let run : Run = record { n = g.row.N; k = c.args.k; room = g.row.CAP; machine = c.args.machine.now.machine; acts = c.args.acts.now } in
     record {
-      few = let f = picks_short (is_over run.n run.k c.args.place) (sent_in run c.args.block) 0 (rounds_in run) in
+      few = let f = picks_short (is_over run.n run.k c.args.place) (parcel_sent run c.args.block) 0 (rounds_in run) in
           omega (arith, f, c.requires.few);
     }

@@ -3,7 +3,7 @@ use Rattle.cm_blocks.specs.Parcels.{Parcel}
 use Rattle.cm_subcube.specs.declared.round.Kind.{Kind}
 use Rattle.cm_board.specs.Courses.{Course}
 use Rattle.cm_workers.specs.Posts.{AreHandedOver}
-use Rattle.cm_resident.specs.Lanes.{Run, kind_at, own, givers}
+use Rattle.cm_resident.specs.Lanes.{Run, kind_of_index, own, givers}
 use Rattle.cm_resident.specs.Gathering.{AreAll, AreFrom}
 use Rattle.cm_resident.specs.Teams.{IsEnd}
 use Rattle.cm_resident.proofs.Opening.{can_be_over, handed_over, written_back}
@@ -13,13 +13,13 @@ pub returns-clause-gets : goal.returns-clause-gets
 returns-clause-gets g c =
     let run : Run = record { n = g.row.N; k = c.args.k; room = g.row.CAP; machine = c.args.machine.now.machine; acts = c.args.acts.now } in
     let n : c.dims-dims.result ≡ run.n = c.dims-dims.ensures.value in
-    let kind : c.kind_at-kind.result ≡ kind_at run.n run.k c.args.place =
-    c.kind_at-kind.ensures.value ∙ ap (λ (d : ℕ). kind_at d run.k c.args.place) n in
+    let kind : c.kind_at-kind.result ≡ kind_of_index run.n run.k c.args.place =
+    c.kind_at-kind.ensures.value ∙ ap (λ (d : ℕ). kind_of_index d run.k c.args.place) n in
     let ended : c.loop-block.block ≡ 2 ^ run.k = search rules in
     let opened : AreAll (IsEnd run own c.args.place) (2 ^ run.k) c.loop-block.tos.items =
     subst (λ (m : ℕ). AreAll (IsEnd run own c.args.place) m c.loop-block.tos.items) ended c.loop-block.invariant.tos_are in
-    let over : AreHandedOver run.n run.k (kind_at run.n run.k c.args.place) c.loop-block.tos.items c.hand_over.new.things =
-    subst (λ (ends : List (Course Parcel)). AreHandedOver run.n run.k (kind_at run.n run.k c.args.place) ends
+    let over : AreHandedOver run.n run.k (kind_of_index run.n run.k c.args.place) c.loop-block.tos.items c.hand_over.new.things =
+    subst (λ (ends : List (Course Parcel)). AreHandedOver run.n run.k (kind_of_index run.n run.k c.args.place) ends
     c.hand_over.new.things) c.deref_mut.ensures.value
     (subst (λ (one : Kind). AreHandedOver run.n run.k one c.deref_mut.result.now c.hand_over.new.things) kind
     (subst (λ (d : ℕ). AreHandedOver d run.k c.kind_at-kind.result c.deref_mut.result.now c.hand_over.new.things) n

@@ -1,7 +1,7 @@
 use Rattle.std.proofs.Common.{rules, ◌≡◌, ◌<◌, ◌^◌, List, length, refl, subst, sym, arith}
 use Rattle.cm_resident.specs.declared.outfit.Outfit.{Outfit}
 use Rattle.cm_resident.specs.Lanes.{Run, ends_each, own, givers}
-use Rattle.cm_resident.specs.Standing.{IsCut}
+use Rattle.cm_resident.specs.Standing.{IsRunBlock}
 use Rattle.cm_resident.specs.Gathering.{AreAll}
 use Rattle.cm_resident.specs.Teams.{IsOutfit}
 use Rattle.cm_resident.proofs.Numbered.{none_yet, one_more, first_is, rest_are}
@@ -30,14 +30,14 @@ loop-b-preserved g c =
     let below : b < 2 ^ run.k = (let f = cut.len in omega (arith, f, count, less)) in
     let from = c.in_ok-take_firsts.ensures.value in let to = c.in_ok-take_firsts-2.ensures.value in record {
       room = search rules;
-      blocks_left = rest_are (IsCut run) b (2 ^ run.k) c.loop-b.blocks.items c.remove-block.new.self.items
+      blocks_left = rest_are (IsRunBlock run) b (2 ^ run.k) c.loop-b.blocks.items c.remove-block.new.self.items
           inv.blocks_left below c.remove-block.ensures.by_index.2;
       sends_left = ends_left run own b each c.loop-b.sends.items c.take_firsts.new.hands.items inv.sends_left below _ from;
       gets_left = ends_left run givers b each c.loop-b.gets.items c.take_firsts-in-loop-b.new.hands.items inv.gets_left
           below _ to;
       outfits_are = one_more (IsOutfit run) b c.loop-b.outfits.items _ _ inv.outfits_are c.push_reserved.ensures.items
           (record {
-            cut = first_is (IsCut run) b (2 ^ run.k) c.loop-b.blocks.items c.remove-block.result inv.blocks_left below
+            cut = first_is (IsRunBlock run) b (2 ^ run.k) c.loop-b.blocks.items c.remove-block.result inv.blocks_left below
                 c.remove-block.ensures.value;
             sends_are = block_ends run own b each c.loop-b.sends.items c.take_firsts.new.hands.items inv.sends_left
                 below _ from refl;

@@ -1,6 +1,6 @@
 use Rattle.std.proofs.Common.{◌≤◌, ◌^◌, vec_capacity}
 use Rattle.cm_resident.specs.Lanes.{Run, ends_each, own, givers}
-use Rattle.cm_resident.specs.Standing.{IsCut}
+use Rattle.cm_resident.specs.Standing.{IsRunBlock}
 use Rattle.cm_resident.specs.Gathering.{AreAll, AreFrom}
 use Rattle.cm_resident.specs.Teams.{AreByPlace, IsOutfit}
 use Rattle.cm_resident.proofs.outfit.outfits.Given as goal
@@ -10,7 +10,7 @@ invariant-loop-b g l =
     let run : Run = record { n = g.row.N; k = l.k; room = g.row.CAP; machine = l.machine.machine; acts = l.acts } in
     record {
       room : l.count ≤ vec_capacity l.outfits;
-      blocks_left : AreFrom (IsCut run) l._b (2 ^ l.k) l.blocks.items;
+      blocks_left : AreFrom (IsRunBlock run) l._b (2 ^ l.k) l.blocks.items;
       sends_left : AreByPlace run own l._b (ends_each l.k) l.sends.items;
       gets_left : AreByPlace run givers l._b (ends_each l.k) l.gets.items;
       outfits_are : AreAll (IsOutfit run) l._b l.outfits.items;

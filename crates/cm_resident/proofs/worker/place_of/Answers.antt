@@ -1,5 +1,5 @@
 use Rattle.std.proofs.Common.{◌≡◌, ◌+◌, ◌-◌, suc, sym, ap, ◌∙◌, arith}
-use Rattle.cm_resident.specs.Lanes.{place_of}
+use Rattle.cm_resident.specs.Lanes.{place_of_kind}
 use Rattle.cm_resident.proofs.Powers.{log_of_power, log_below}
 use Rattle.cm_resident.proofs.worker.place_of.Goals as goal
 
@@ -17,5 +17,5 @@ returns-in-Dim c = record {
       (omega (arith, c.ilog2.ensures.next_power_gt, is)) in
       let place : c.from.result - c.ilog2.result + 2 ≡ suc (suc (c.in-Dim.dim - (n - k))) =
       omega (arith, same, c.from.ensures) in
-      place ∙ ap (place_of n k) (sym c.in-Dim.is);
+      place ∙ ap (place_of_kind n k) (sym c.in-Dim.is);
 }

@@ -3,7 +3,7 @@ use Rattle.std.proofs.lemmas.List.{length-append, map-id}
 use Rattle.std.proofs.lemmas.Iterator.Adapters.{YieldsList-from_vec}
 use Rattle.std.proofs.lemmas.Iterator.Consumers.{YieldsList-end}
 use Rattle.cm_workers.specs.Dealing.{hand}
-use Rattle.cm_workers.specs.Shifts.{IsKept}
+use Rattle.cm_workers.specs.Shifts.{IsPromiseKept}
 use Rattle.cm_workers.proofs.Shifting.{push_kept}
 use Rattle.cm_workers.proofs.shift.join_all.Goals as goal
 
@@ -15,7 +15,7 @@ loop-handle-preserved g c =
       posts = search rules;
       block_room = search rules;
       post_room = search rules;
-      kept = push_kept (λ one blocks posts. IsKept one.promise blocks posts)
+      kept = push_kept (λ one blocks posts. IsPromiseKept one.promise blocks posts)
           c.loop-handle.yielded c.loop-handle.blocks.items c.loop-handle.posts.items
           c.in-Some.handle c.join-crew.result.blocks c.join-crew.result.posts c.push_reserved.new.self.items
           c.push_reserved-in-loop-handle.new.self.items
@@ -31,6 +31,6 @@ returns-clause-kept g c =
     c.loop-handle.handle-iterator
     c.loop-handle.yielded_by c.next.result c.next.new.self c.in-None.is c.next.ensures.steps in
     let all = sym (map-id c.loop-handle.yielded) ∙ end.0 in
-    λ w d e f below. subst (λ hs. IsKept (get_or hs w d).promise (hand c.loop-handle.blocks.items e w)
+    λ w d e f below. subst (λ hs. IsPromiseKept (get_or hs w d).promise (hand c.loop-handle.blocks.items e w)
     (hand c.loop-handle.posts.items f w)) all
     (c.loop-handle.invariant.kept w d e f (subst (λ hs. w < length hs) (sym all) below))

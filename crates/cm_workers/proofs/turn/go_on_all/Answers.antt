@@ -1,6 +1,6 @@
 use Rattle.std.proofs.Common.{arith}
 use Rattle.std.specs.Option.{option_copied}
-use Rattle.cm_workers.specs.Turns.{CanGo, HasGoneOn}
+use Rattle.cm_workers.specs.Turns.{IsReadyForTurn, HasGoneOn}
 use Rattle.cm_workers.proofs.PlaceByPlace.{still_so, next_place}
 use Rattle.cm_workers.proofs.turn.go_on_all.Goals as goal
 
@@ -10,7 +10,7 @@ go_on-requires c =
     record {
       ready =
           still_so (HasGoneOn turn.acts.now (option_copied turn.before))
-          (CanGo turn.acts.now (option_copied turn.before) (option_copied turn.next))
+          (IsReadyForTurn turn.acts.now (option_copied turn.before) (option_copied turn.next))
           c.args.blocks.now c.args.posts.now c.loop-i.blocks
           c.loop-i.posts c.loop-i.i _ _ c.loop-i-test.true c.loop-i.invariant c.requires.ready.each;
     }

@@ -1,7 +1,7 @@
 use Rattle.std.proofs.Common.{ℕ, ◌<◌, ◌∙◌, sym, ap, subst}
 use Rattle.cm_exchange.specs.Worlds.{lane_number}
 use Rattle.cm_subcube.specs.Parcels.{CanBeOver}
-use Rattle.cm_weave.specs.Kinds.{kind_number, mover}
+use Rattle.cm_weave.specs.Kinds.{round_kind_number, mover}
 use Rattle.cm_weave.proofs.Playing.{kind_asked, at_below_asked, free_asked}
 use Rattle.cm_weave.proofs.world.World.is_free.Goals as goal
 
@@ -21,8 +21,8 @@ index-requires-2 g c =
     c.self.invariant c.args.self.now c.self.view_is c.args.step c.args.stand c.requires.block c.requires.stands
     c.requires.round c.index.result.now c.lane_moved-at.result c.index.ensures
     (c.lane_moved-at.ensures.value
-    ∙ ap (λ (n : ℕ). lane_number c.self.inside.k (kind_number n c.self.inside.k c.index.result.now.kind)
-    (mover c.self.inside.k (kind_number n c.self.inside.k c.index.result.now.kind) c.args.step)) c.dims.ensures.value))
+    ∙ ap (λ (n : ℕ). lane_number c.self.inside.k (round_kind_number n c.self.inside.k c.index.result.now.kind)
+    (mover c.self.inside.k (round_kind_number n c.self.inside.k c.index.result.now.kind) c.args.step)) c.dims.ensures.value))
 
 pub returns : goal.returns
 returns g c = record {
@@ -32,7 +32,7 @@ returns g c = record {
       c.requires.round c.index.result.now c.lane_moved-at.result c.index-2.result.now c.is_ready.result
       c.requires.stage c.index.ensures
       (c.lane_moved-at.ensures.value
-      ∙ ap (λ (n : ℕ). lane_number c.self.inside.k (kind_number n c.self.inside.k c.index.result.now.kind)
-      (mover c.self.inside.k (kind_number n c.self.inside.k c.index.result.now.kind) c.args.step)) c.dims.ensures.value)
+      ∙ ap (λ (n : ℕ). lane_number c.self.inside.k (round_kind_number n c.self.inside.k c.index.result.now.kind)
+      (mover c.self.inside.k (round_kind_number n c.self.inside.k c.index.result.now.kind) c.args.step)) c.dims.ensures.value)
       c.index-2.ensures c.is_ready.ensures.value;
 }

@@ -2,7 +2,7 @@ use Rattle.std.proofs.Common.{ℕ, List, ◌<◌, ◌∙◌, length, sym, ap, su
 use Rattle.cm_model.specs.declared.act.Act.{Act}
 use Rattle.cm_exchange.specs.Worlds.{lane_number}
 use Rattle.cm_subcube.specs.Parcels.{CanBeOver}
-use Rattle.cm_weave.specs.Kinds.{kind_number, mover}
+use Rattle.cm_weave.specs.Kinds.{round_kind_number, mover}
 use Rattle.cm_weave.specs.Moves.{CanWeave, HasWoven}
 use Rattle.cm_weave.proofs.Playing.{taken_below, taken_in_stands, taken_in_blocks, taken_in_rounds, taken_few}
 use Rattle.cm_weave.proofs.Playing.{taken_kind}
@@ -58,8 +58,8 @@ index_mut-requires-2 g c =
     ∙ c.block.ensures.value) c.index-stand.ensures
     c.index.ensures
     (c.lane_moved-at.ensures.value
-    ∙ ap (λ (n : ℕ). lane_number c.self.inside.k (kind_number n c.self.inside.k c.index.result.now.kind)
-    (mover c.self.inside.k (kind_number n c.self.inside.k c.index.result.now.kind) c.args.step)) c.dims.ensures.value))
+    ∙ ap (λ (n : ℕ). lane_number c.self.inside.k (round_kind_number n c.self.inside.k c.index.result.now.kind)
+    (mover c.self.inside.k (round_kind_number n c.self.inside.k c.index.result.now.kind) c.args.step)) c.dims.ensures.value))
 
 pub weave-requires : goal.weave-requires
 weave-requires g c = record {
@@ -72,8 +72,8 @@ weave-requires g c = record {
       ∙ c.block.ensures.value) c.index-stand.ensures
       c.index.ensures
       (c.lane_moved-at.ensures.value
-      ∙ ap (λ (n : ℕ). lane_number c.self.inside.k (kind_number n c.self.inside.k c.index.result.now.kind)
-      (mover c.self.inside.k (kind_number n c.self.inside.k c.index.result.now.kind) c.args.step)) c.dims.ensures.value)
+      ∙ ap (λ (n : ℕ). lane_number c.self.inside.k (round_kind_number n c.self.inside.k c.index.result.now.kind)
+      (mover c.self.inside.k (round_kind_number n c.self.inside.k c.index.result.now.kind) c.args.step)) c.dims.ensures.value)
       c.index_mut.result.now c.index_mut-2.result.now c.index_mut.ensures.value c.index_mut-2.ensures.value);
 }
 
@@ -102,8 +102,8 @@ invariant_of-self g c =
     ∙ c.block.ensures.value) c.index-stand.ensures
     c.index.ensures
     (c.lane_moved-at.ensures.value
-    ∙ ap (λ (n : ℕ). lane_number c.self.inside.k (kind_number n c.self.inside.k c.index.result.now.kind)
-    (mover c.self.inside.k (kind_number n c.self.inside.k c.index.result.now.kind) c.args.step)) c.dims.ensures.value)
+    ∙ ap (λ (n : ℕ). lane_number c.self.inside.k (round_kind_number n c.self.inside.k c.index.result.now.kind)
+    (mover c.self.inside.k (round_kind_number n c.self.inside.k c.index.result.now.kind) c.args.step)) c.dims.ensures.value)
     c.index_mut.result.now c.index_mut-2.result.now c.index_mut.ensures.value c.index_mut-2.ensures.value
     c.weave.new.block c.weave.new.lane c.go_on.result c.go_on.ensures.value
     (subst (λ (acts : List Act). HasWoven acts c.args.step c.index.result.now c.index_mut.result.now
@@ -118,8 +118,8 @@ returns-clause-value g c =
     ∙ c.block.ensures.value) c.index-stand.ensures
     c.index.ensures
     (c.lane_moved-at.ensures.value
-    ∙ ap (λ (n : ℕ). lane_number c.self.inside.k (kind_number n c.self.inside.k c.index.result.now.kind)
-    (mover c.self.inside.k (kind_number n c.self.inside.k c.index.result.now.kind) c.args.step)) c.dims.ensures.value)
+    ∙ ap (λ (n : ℕ). lane_number c.self.inside.k (round_kind_number n c.self.inside.k c.index.result.now.kind)
+    (mover c.self.inside.k (round_kind_number n c.self.inside.k c.index.result.now.kind) c.args.step)) c.dims.ensures.value)
     c.index_mut.result.now c.index_mut-2.result.now c.index_mut.ensures.value c.index_mut-2.ensures.value
     c.weave.new.block c.weave.new.lane c.go_on.result c.go_on.ensures.value
     (subst (λ (acts : List Act). HasWoven acts c.args.step c.index.result.now c.index_mut.result.now
