@@ -8,7 +8,7 @@ use Rattle.cm_outside.specs.Takings.{Reads}
 use Rattle.cm_outside.specs.Streams.{Streams, IsUnread, IsUntouched}
 use Rattle.cm_tools.specs.Tools.{DoesChip, DoesFresh, DoesList}
 use Rattle.cm_cli.specs.Runs.{DoesRun}
-use Rattle.cm_tools.specs.Weaving.{outgoing}
+use Rattle.cm_tools.specs.Weaving.{outgoing_of}
 use Rattle.cm_tools.specs.Weaves.{DoesWeave}
 
 -- what the program does for a line
@@ -32,4 +32,4 @@ DoesLine reads (line.Weave image program steps split out) streams result deeds =
     IsUnread streams
     × DoesWeave reads
     (record { image = image; program = program; steps = steps; split = split; out = out })
-    (outgoing streams.held streams.holds streams.write_failed) result deeds
+    (outgoing_of streams.held streams.holds streams.write_failed) result deeds

@@ -8,22 +8,22 @@ use Rattle.cm_line.specs.declared.fault.LineFault.TheVariants.{BadLine}
 use Rattle.cm_line.specs.declared.line.Line.{Line}
 use Rattle.cm_line.specs.Lines.{AsksFor, IsBadLine}
 use Rattle.cm_outside.specs.declared.program_fault.ProgramFault.{ProgramFault}
-use Rattle.cm_outside.specs.ProgramFault.{of_line, told_number, line_of}
-use Rattle.cm_outside.specs.Report.{HasFront, message_of, status_of}
+use Rattle.cm_outside.specs.ProgramFault.{of_line, reported_number, fault_line}
+use Rattle.cm_outside.specs.Report.{HasFront, report_line, status_of}
 use Rattle.cm_outside.specs.Deeds.{Deed, Asked}
 use Rattle.cm_outside.specs.Takings.{Reads}
 use Rattle.cm_outside.specs.Streams.{Streams, IsUntouched}
 use Rattle.cm_cli.specs.Lines.{DoesLine}
 
 -- words that were asked for
-abbrev pub words_in : Vec (String Global) Global → List (List ℕ)
-words_in words = map string_bytes words.items
+abbrev pub asked_words : Vec (String Global) Global → List (List ℕ)
+asked_words words = map string_bytes words.items
 
 -- no line was made of these words: they are none, or memory ran out
 pub record AreNoLine (words : Vec (String Global) Global) (fault : ProgramFault) : Type 0 where
   pub own : LineFault
   pub told : fault ≡ of_line own
-  pub bad : own ≡ BadLine → IsBadLine (words_in words)
+  pub bad : own ≡ BadLine → IsBadLine (asked_words words)
 
 -- why there is no line: the words were not to be had, or are none
 abbrev pub HasNoLine : Result (Vec (String Global) Global) LineFault → ProgramFault → Type 0
@@ -34,7 +34,7 @@ HasNoLine (Err own) fault = fault ≡ of_line own
 pub record AsksLine {F P : Type 0} (line : Line) (deeds : List (Deed F P)) : Type 0 where
   pub words : Vec (String Global) Global
   pub did : deeds ≡ Asked (Ok words) ∷ []
-  pub asks : AsksFor (words_in words) line
+  pub asks : AsksFor (asked_words words) line
 
 -- the deeds are to ask for the words, and there is no line
 pub record AsksNoLine {F P : Type 0} (fault : ProgramFault) (deeds : List (Deed F P)) : Type 0 where
@@ -66,16 +66,16 @@ DoesWords reads streams result deeds =
 
 -- what standard error takes, and the status, where the program ends so: nothing and 0 without a fault; else the
 -- fault's line and its status, and 4 where that line could not be written
-abbrev pub Tells : Result (Unit {0}) ProgramFault → Option (List ℕ) → Option (List ℕ) → Bool → ℕ → Type 0
-Tells (Ok done) held holds failed status = (holds ≡ held) × (failed ≡ false) × (status ≡ 0)
-Tells (Err fault) held holds false status =
-    Appends held holds (message_of (told_number fault) (line_of fault)) × (status ≡ status_of (told_number fault))
-Tells (Err fault) held holds true status =
-    HasFront held holds (message_of (told_number fault) (line_of fault)) × (status ≡ 4)
+abbrev pub ReportsFault : Result (Unit {0}) ProgramFault → Option (List ℕ) → Option (List ℕ) → Bool → ℕ → Type 0
+ReportsFault (Ok done) held holds failed status = (holds ≡ held) × (failed ≡ false) × (status ≡ 0)
+ReportsFault (Err fault) held holds false status =
+    Appends held holds (report_line (reported_number fault) (fault_line fault)) × (status ≡ status_of (reported_number fault))
+ReportsFault (Err fault) held holds true status =
+    HasFront held holds (report_line (reported_number fault) (fault_line fault)) × (status ≡ 4)
 
 -- the whole program: what it does by its words, and what it tells
 pub record Performs {F P : Type 0} (reads : Reads F) (streams : Streams) (held holds : Option (List ℕ))
     (failed : Bool) (status : ℕ) (deeds : List (Deed F P)) : Type 0 where
   pub result : Result (Unit {0}) ProgramFault
   pub does : DoesWords reads streams result deeds
-  pub tells : Tells result held holds failed status
+  pub tells : ReportsFault result held holds failed status

@@ -7,7 +7,7 @@ use Rattle.cm_session.specs.declared.fault.SessionFault.{SessionFault}
 use Rattle.cm_session.specs.Ends.{Ends}
 use Rattle.cm_outside.specs.declared.program_fault.ProgramFault.{ProgramFault}
 use Rattle.cm_outside.specs.declared.program_fault.ProgramFault.TheVariants.{Memory}
-use Rattle.cm_outside.specs.Puttings.{IsKept}
+use Rattle.cm_outside.specs.Puttings.{IsImageKept}
 use Rattle.cm_outside.specs.ProgramFault.{of_session}
 use Rattle.cm_sizes.specs.Sizes.{SizedMachine}
 
@@ -16,7 +16,7 @@ pub record HasLeft (start : SizedMachine) (acts : List Act) (lines : List ℕ) (
     (keeps : Bool) (image : Option (List ℕ)) : Type 0 where
   pub after : Machine
   pub ends : Ends start.n start.cap acts lines rest start.machine held after holds (Ok tt)
-  pub kept : IsKept start.n start.cap after keeps image
+  pub kept : IsImageKept start.n start.cap after keeps image
 
 -- the commands gave some text to their end, all of whose lines were answered, and this image is kept of the machine
 -- that they left: this can be said of commands that do not tell their bytes

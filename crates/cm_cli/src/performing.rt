@@ -6,7 +6,7 @@ ghost use Rattle.cm_outside.specs.Deeds.{Did};
 ghost use Rattle.cm_outside.specs.Takings.{reads_by};
 ghost use Rattle.cm_outside.specs.Streams.{streams};
 ghost use Rattle.cm_cli.specs.Lines.{DoesLine};
-ghost use Rattle.cm_cli.specs.Performed.{AsksLine, AsksNoLine, DoesWords, Performs, Tells, words_in};
+ghost use Rattle.cm_cli.specs.Performed.{AsksLine, AsksNoLine, DoesWords, Performs, ReportsFault, asked_words};
 
 use crate::files::{RunLine, run_files};
 use crate::lent::{Alone, Several};
@@ -144,8 +144,8 @@ fn ask_line<H: Outside>(alloc: Global, outside: &mut H) -> Result<Line, ProgramF
 
 /// The line that these words are.
 fn line_of(alloc: Global, texts: &Vec<String>) -> Result<Line, LineFault>
-    ensures value { IfOk result (AsksFor (words_in texts.now)) }
-    ensures bad { IsErrOf result LineFault.BadLine → IsBadLine (words_in texts.now) }
+    ensures value { IfOk result (AsksFor (asked_words texts.now)) }
+    ensures bad { IsErrOf result LineFault.BadLine → IsBadLine (asked_words texts.now) }
 {
     let mut words = Vec::new(alloc);
     for text in texts {
@@ -159,7 +159,8 @@ fn line_of(alloc: Global, texts: &Vec<String>) -> Result<Line, LineFault>
 /// Tells a fault, if there is one, and answers the status to end with.
 fn tell<E: Sink>(ended: Result<(), ProgramFault>, errors: &mut E) -> u8
     requires working { E.has_failed errors.old ≡ false }
-    ensures value { Tells ended (E.contents errors.old) (E.contents errors.new) (E.has_failed errors.new) result }
+    ensures value { ReportsFault ended (E.contents errors.old) (E.contents errors.new)
+        (E.has_failed errors.new) result }
 {
     let fault = match ended {
         Ok(()) => return 0,

@@ -16,8 +16,8 @@ use Rattle.cm_session.specs.Ends.{IsOnTheWay}
 use Rattle.cm_session.proofs.Stretching.{going-stretch, going-rises, arrived-rises}
 use Rattle.cm_debug.specs.declared.want.Want.{Want}
 use Rattle.cm_debug.specs.declared.debugger.Stops.{Stops}
-use Rattle.cm_debug.specs.Longest.{IsLongest, HasRun}
-use Rattle.cm_debug.specs.State.{State, stops_at, gone, come, Goes, IsDone, IsLeft}
+use Rattle.cm_debug.specs.Longest.{IsLongest, HasRunStretch}
+use Rattle.cm_debug.specs.State.{DebuggerView, stops_at, gone, come, Goes, IsDone, IsLeft}
 use Rattle.cm_debug.specs.Telling.{is_thread}
 
 -- acts whose first ones are a stretch
@@ -175,13 +175,13 @@ goes_on n cap stops session rest is =
 -- ---- states
 
 -- it is left for a want
-left_by : (n cap : ℕ) (one : Answered) (before after : State) (result : Result (Unit {0}) Want) (want : Want)
+left_by : (n cap : ℕ) (one : Answered) (before after : DebuggerView) (result : Result (Unit {0}) Want) (want : Want)
     → result ≡ Err want → IsLeft n cap one before after want → Goes n cap one before after result
 left_by n cap one before after result want is left =
     subst (λ (r : Result (Unit {0}) Want). Goes n cap one before after r) (sym is) left
 
 -- a stretch is run
-pub has_run : (n cap : ℕ) (stops : Stops) (before : State) (rest : List Act) (first : Act) (count clock : ℕ)
+pub has_run : (n cap : ℕ) (stops : Stops) (before : DebuggerView) (rest : List Act) (first : Act) (count clock : ℕ)
     (machine : Machine) (text : List ℕ) (lacked : ℕ) → before.session.position < length before.acts
     → rest ≡ take (length before.acts - before.session.position) (drop before.session.position before.acts)
     → first ≡ slice_index_or rest 0 first → 0 < count → count ≤ length rest → clock ≡ before.session.machine.clock
@@ -190,7 +190,7 @@ pub has_run : (n cap : ℕ) (stops : Stops) (before : State) (rest : List Act) (
     → IsLongest (stops_at stops before.session.breaks) before.session.report before.session.position clock rest count
     → text ≡ before.answer ++ answer_of_act before.session first
     → machine ≡ run_of n cap before.session.machine (take count rest) → lacked ≡ before.lacked
-    → HasRun n cap stops before (record before {
+    → HasRunStretch n cap stops before (record before {
       session = record before.session { machine = machine; position = before.session.position + count };
       answer = text;
       lacked = lacked;
@@ -217,7 +217,7 @@ has_run n cap stops before rest first count clock machine text lacked inside is 
     }
 
 -- acts were run from one state to another, after which it goes on as it would have before
-pub record HasGone (n cap : ℕ) (stops : Stops) (before now : State) : Type 0 where
+pub record HasGone (n cap : ℕ) (stops : Stops) (before now : DebuggerView) : Type 0 where
   pub answer : now.answer ++ (gone n cap stops now).answer ≡ before.answer ++ (gone n cap stops before).answer
   pub session : (gone n cap stops now).session ≡ (gone n cap stops before).session
   pub rises : before.session.position ≤ now.session.position
@@ -227,7 +227,7 @@ pub record HasGone (n cap : ℕ) (stops : Stops) (before now : State) : Type 0 w
   pub lacked : now.lacked ≡ before.lacked
 
 -- none yet
-pub none_gone : (n cap : ℕ) (stops : Stops) (before : State) → HasGone n cap stops before before
+pub none_gone : (n cap : ℕ) (stops : Stops) (before : DebuggerView) → HasGone n cap stops before before
 none_gone n cap stops before = record {
   answer = refl;
   session = refl;
@@ -238,8 +238,8 @@ none_gone n cap stops before = record {
 }
 
 -- by a stretch more
-further_come : {n cap : ℕ} {stops : Stops} {before now after : State} → HasGone n cap stops before now
-    → HasRun n cap stops now after
+further_come : {n cap : ℕ} {stops : Stops} {before now after : DebuggerView} → HasGone n cap stops before now
+    → HasRunStretch n cap stops now after
     → HasCome n cap before.acts before.session.machine before.session.position after.session.position
     after.session.machine
 further_come {n} {cap} {stops} {before} {now} {after} gone run =
@@ -249,8 +249,8 @@ further_come {n} {cap} {stops} {before} {now} {after} gone run =
     (take (after.session.position - now.session.position) (drop now.session.position xs))) gone.acts)
 
 -- which does not stop where it ends
-pub gone_on : {n cap : ℕ} {stops : Stops} {before now after : State} → HasGone n cap stops before now
-    → HasRun n cap stops now after
+pub gone_on : {n cap : ℕ} {stops : Stops} {before now after : DebuggerView} → HasGone n cap stops before now
+    → HasRunStretch n cap stops now after
     → (stops_at stops after.session.breaks after.session.position
     && has_acts (drop after.session.position after.acts)) ≡ false
     → HasGone n cap stops before after
@@ -267,7 +267,7 @@ gone_on {n} {cap} {stops} {before} {now} {after} gone run on =
     }
 
 -- and is given up before the next stretch
-pub gone_left : {n cap : ℕ} {stops : Stops} {before now : State} (after : State) (result : Result (Unit {0}) Want)
+pub gone_left : {n cap : ℕ} {stops : Stops} {before now : DebuggerView} (after : DebuggerView) (result : Result (Unit {0}) Want)
     (want : Want) → result ≡ Err want → HasGone n cap stops before now → after.session.machine ≡ now.session.machine
     → after.lacked ≡ lacked_after (is_thread want) now.lacked
     → Goes n cap (gone n cap stops before) before after result
@@ -285,9 +285,9 @@ gone_left {n} {cap} {stops} {before} {now} after result want is gone' stays lack
     })
 
 -- or where it is to be told that it stops
-pub stop_left : {n cap : ℕ} {stops : Stops} {before now after : State} (last : State)
+pub stop_left : {n cap : ℕ} {stops : Stops} {before now after : DebuggerView} (last : DebuggerView)
     (result : Result (Unit {0}) Want) (want : Want) → result ≡ Err want → HasGone n cap stops before now
-    → HasRun n cap stops now after
+    → HasRunStretch n cap stops now after
     → last.session.machine ≡ after.session.machine
     → last.lacked ≡ lacked_after (is_thread want) after.lacked
     → Goes n cap (gone n cap stops before) before last result
@@ -307,7 +307,7 @@ stop_left {n} {cap} {stops} {before} {now} {after} last result want is gone' run
     })
 
 -- nothing more is run, and this is told
-pub gone_done : {n cap : ℕ} {stops : Stops} {before now : State} {line text : List ℕ} → HasGone n cap stops before now
+pub gone_done : {n cap : ℕ} {stops : Stops} {before now : DebuggerView} {line text : List ℕ} → HasGone n cap stops before now
     → gone n cap stops now ≡ answered_with now.session line → text ≡ now.answer ++ line
     → IsDone (gone n cap stops before) before (record now { answer = text })
 gone_done {n} {cap} {stops} {before} {now} {line} {text} gone' ended says = record {
@@ -318,8 +318,8 @@ gone_done {n} {cap} {stops} {before} {now} {line} {text} gone' ended says = reco
 }
 
 -- it stops where a stretch ends, and this is told
-pub stop_done : {n cap : ℕ} {stops : Stops} {before now after : State} {text : List ℕ} → HasGone n cap stops before now
-    → HasRun n cap stops now after
+pub stop_done : {n cap : ℕ} {stops : Stops} {before now after : DebuggerView} {text : List ℕ} → HasGone n cap stops before now
+    → HasRunStretch n cap stops now after
     → (stops_at stops after.session.breaks after.session.position
     && has_acts (drop after.session.position after.acts)) ≡ true
     → text ≡ after.answer ++ at_line after.session.position

@@ -13,10 +13,10 @@ use Rattle.cm_session.specs.declared.command.Command.{Command}
 use Rattle.cm_session.specs.declared.command.Refusal.{Refusal}
 use Rattle.cm_session.specs.Commands.{command_of}
 use Rattle.cm_session.specs.Session.{Answered, preceded_by, answered, after_line}
-use Rattle.cm_session.specs.Ends.{ended_lines, is_no_thread}
+use Rattle.cm_session.specs.Ends.{ended_lines, is_session_no_thread}
 use Rattle.cm_session.proofs.Lines.{ended_lines-append, ended_lines-end, open_line-end, ended_after}
 use Rattle.cm_debug.specs.Gathering.{BreaksOffBetween}
-use Rattle.cm_debug.specs.Talk.{Talk, Setting, holds_of, count_of, after_all, IsTold, IsBroken, BreaksOffAmong}
+use Rattle.cm_debug.specs.Talk.{Talk, Setting, holds_of, answered_count, after_all, IsTold, IsBroken, BreaksOffAmong}
 use Rattle.cm_debug.specs.Taking.{BreaksOffIn, HasTaken, HasStopped, HasAnswered, HasBrokenOff}
 use Rattle.cm_debug.proofs.Breaking.{among_more, breaks_in, breaks_between}
 use Rattle.cm_debug.proofs.Lines.{ended_lines-part, open_line-part, lines-more, answered_line}
@@ -45,7 +45,7 @@ told_part {n} {cap} {first} {taken} {a} part grown free is told' =
 
 -- what was gathered is written
 told_sent : {n cap : ℕ} {first : Setting} {taken : List ℕ} {a : Talk} (on : Option (List ℕ)) (kept : List ℕ) (sent : ℕ)
-    → Appends (holds_of a) (append_known on kept) [] → sent + length kept ≡ count_of a → IsTold n cap first taken a
+    → Appends (holds_of a) (append_known on kept) [] → sent + length kept ≡ answered_count a → IsTold n cap first taken a
     → IsTold n cap first taken (record a { out = on; kept = kept; sent = sent })
 told_sent {n} {cap} {first} {taken} {a} on kept sent wrote count told' =
     let front : List ℕ = (after_all n cap first (ended_lines taken)).answer in
@@ -128,7 +128,7 @@ stopped_in_front {n} {cap} {a} {c} {front} {fault} more stopped = record {
 -- it breaks off between two lines
 pub stopped_between : {n cap : ℕ} {a : Talk} (c : Talk) (bytes : List ℕ) (fault : SessionFault)
     → BreaksOffBetween a.sent a.kept a.out c.out fault → c.session.machine ≡ a.session.machine
-    → is_no_thread fault ≡ false → c.lacked ≡ a.lacked → HasStopped n cap a bytes c fault
+    → is_session_no_thread fault ≡ false → c.lacked ≡ a.lacked → HasStopped n cap a bytes c fault
 stopped_between {n} {cap} {a} c bytes fault off stays other lacked = record {
   broken = λ first taken told'. broken_on n cap first taken bytes c fault (record {
     breaks = subst (λ (m : Machine). BreaksOffAmong n cap first (ended_lines taken) m c.out fault) (sym stays)
@@ -152,7 +152,7 @@ part_taken n cap a part grown free is = record {
 
 -- what was gathered is written
 pub sent_taken : {n cap : ℕ} {a b : Talk} {bytes : List ℕ} (on : Option (List ℕ)) (kept : List ℕ) (sent : ℕ)
-    → HasTaken n cap a bytes b → Appends (holds_of b) (append_known on kept) [] → sent + length kept ≡ count_of b
+    → HasTaken n cap a bytes b → Appends (holds_of b) (append_known on kept) [] → sent + length kept ≡ answered_count b
     → HasTaken n cap a bytes (record b { out = on; kept = kept; sent = sent })
 sent_taken {n} {cap} {a} {b} {bytes} on kept sent here wrote count = record {
   told = λ first taken told'. told_sent on kept sent wrote count (here.told first taken told');
@@ -178,7 +178,7 @@ sent_on holds on kept now wrote none =
 pub line_taken : {n cap : ℕ} {a c : Talk} {asked : Result (Option Command) Refusal} (part cleared kept : List ℕ)
     (on : Option (List ℕ)) (sent : ℕ) → IsUnended part
     → asked ≡ command_of n (length a.acts) (words_of (a.line ++ part)) → cleared ≡ []
-    → Appends (holds_of a) (append_known on kept) [] → sent + length kept ≡ count_of a
+    → Appends (holds_of a) (append_known on kept) [] → sent + length kept ≡ answered_count a
     → HasAnswered (answered n cap a.acts a.session asked)
     (record a { line = cleared; out = on; kept = kept; sent = sent }) c
     → HasTaken n cap a (part ++ 10 ∷ []) c
@@ -194,7 +194,7 @@ line_taken {n} {cap} {a} {c} {asked} part cleared kept on sent free is none wrot
 pub line_stopped : {n cap : ℕ} {a c : Talk} {asked : Result (Option Command) Refusal} {fault : SessionFault}
     (part cleared kept : List ℕ) (on : Option (List ℕ)) (sent : ℕ) → IsUnended part
     → asked ≡ command_of n (length a.acts) (words_of (a.line ++ part))
-    → Appends (holds_of a) (append_known on kept) [] → sent + length kept ≡ count_of a
+    → Appends (holds_of a) (append_known on kept) [] → sent + length kept ≡ answered_count a
     → HasBrokenOff n cap (answered n cap a.acts a.session asked)
     (record a { line = cleared; out = on; kept = kept; sent = sent }) c fault
     → HasStopped n cap a (part ++ 10 ∷ []) c fault
@@ -209,7 +209,7 @@ line_stopped {n} {cap} {a} {c} {asked} {fault} part cleared kept on sent free is
             (subst (λ (x : Answered). BreaksOffIn n cap x
             (record a { line = cleared; out = on; kept = kept; sent = sent }) c.session.machine c.out fault)
             (answered_line n cap a.acts a.session (a.line ++ part) asked is) off.breaks);
-        lacked = off.lacked ∙ ap (λ (k : ℕ). lacked_after (is_no_thread fault) k) told'.lacked;
+        lacked = off.lacked ∙ ap (λ (k : ℕ). lacked_after (is_session_no_thread fault) k) told'.lacked;
       });
 }
 

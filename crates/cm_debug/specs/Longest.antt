@@ -7,7 +7,7 @@ use Rattle.cm_array.specs.Faults.{lacked_after}
 use Rattle.cm_session.specs.Stretches.{IsStretch}
 use Rattle.cm_debug.specs.declared.debugger.Stops.{Stops}
 use Rattle.cm_debug.specs.declared.want.Want.{Want}
-use Rattle.cm_debug.specs.State.{State, come, gone, stops_at}
+use Rattle.cm_debug.specs.State.{DebuggerView, come, gone, stops_at}
 use Rattle.cm_debug.specs.Telling.{is_thread}
 
 -- with one act more, if there is one, a runner does not take them at once, or something is told or stops within
@@ -17,7 +17,7 @@ IsLongest stops report position clock acts count =
     → IsStretch stops report position clock (take (count + 1) acts) → ⊥
 
 -- a stretch is run, after which the debugger goes on as it would have before
-pub record HasRun (n cap : ℕ) (stops : Stops) (before after : State) : Type 0 where
+pub record HasRunStretch (n cap : ℕ) (stops : Stops) (before after : DebuggerView) : Type 0 where
   pub answer : before.answer ++ (gone n cap stops before).answer ≡ after.answer ++ (come n cap stops after).answer
   pub session : (gone n cap stops before).session ≡ (come n cap stops after).session
   pub machine : after.session.machine ≡ run_of n cap before.session.machine
@@ -30,11 +30,11 @@ pub record HasRun (n cap : ℕ) (stops : Stops) (before after : State) : Type 0 
   pub lacked : after.lacked ≡ before.lacked
 
 -- it is not
-pub record IsRefused (before after : State) (want : Want) : Type 0 where
+pub record IsNotRun (before after : DebuggerView) (want : Want) : Type 0 where
   pub machine : after.session.machine ≡ before.session.machine
   pub lacked : after.lacked ≡ lacked_after (is_thread want) before.lacked
 
 -- how a stretch is run
-abbrev pub Ran : ℕ → ℕ → Stops → State → State → Result (Unit {0}) Want → Type 0
-Ran n cap stops before after (Ok done) = HasRun n cap stops before after
-Ran n cap stops before after (Err want) = IsRefused before after want
+abbrev pub Ran : ℕ → ℕ → Stops → DebuggerView → DebuggerView → Result (Unit {0}) Want → Type 0
+Ran n cap stops before after (Ok done) = HasRunStretch n cap stops before after
+Ran n cap stops before after (Err want) = IsNotRun before after want

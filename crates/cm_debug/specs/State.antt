@@ -27,14 +27,14 @@ stops_at Everywhere breaks = everywhere
 stops_at AtBreaks breaks = at_breaks breaks
 
 -- the program, the session, the answer that is made, and how often the runner lacked a thread
-pub record State : Type 0 where
+pub record DebuggerView : Type 0 where
   pub acts : List Act
   pub session : Session
   pub answer : List ℕ
   pub lacked : ℕ
 
 -- the state of a machine and its debugger
-abbrev pub state : Machine → Debugger → List ℕ → ℕ → State
+abbrev pub state : Machine → Debugger → List ℕ → ℕ → DebuggerView
 state machine debugger answer lacked = record {
   acts = debugger.acts.now;
   session = session_of machine debugger;
@@ -43,28 +43,28 @@ state machine debugger answer lacked = record {
 }
 
 -- the acts that are left are run until they stop
-abbrev pub gone : ℕ → ℕ → Stops → State → Answered
+abbrev pub gone : ℕ → ℕ → Stops → DebuggerView → Answered
 gone n cap stops now =
     going n cap (stops_at stops now.session.breaks) now.session (drop now.session.position now.acts)
 
 -- acts have come to this position, where they may stop
-abbrev pub come : ℕ → ℕ → Stops → State → Answered
+abbrev pub come : ℕ → ℕ → Stops → DebuggerView → Answered
 come n cap stops now =
     arrived n cap (stops_at stops now.session.breaks) now.session (drop now.session.position now.acts)
 
 -- what was to be done is done, and its answer is made
-pub record IsDone (one : Answered) (before after : State) : Type 0 where
+pub record IsDone (one : Answered) (before after : DebuggerView) : Type 0 where
   pub session : after.session ≡ one.session
   pub answer : after.answer ≡ before.answer ++ one.answer
   pub acts : after.acts ≡ before.acts
   pub lacked : after.lacked ≡ before.lacked
 
 -- it is given up: the machine is as it was, or on the way
-pub record IsLeft (n cap : ℕ) (one : Answered) (before after : State) (want : Want) : Type 0 where
+pub record IsLeft (n cap : ℕ) (one : Answered) (before after : DebuggerView) (want : Want) : Type 0 where
   pub machine : IsOnTheWay n cap before.acts before.session one.session after.session.machine
   pub lacked : after.lacked ≡ lacked_after (is_thread want) before.lacked
 
 -- how a debugger goes on that is to do and answer this
-abbrev pub Goes : ℕ → ℕ → Answered → State → State → Result (Unit {0}) Want → Type 0
+abbrev pub Goes : ℕ → ℕ → Answered → DebuggerView → DebuggerView → Result (Unit {0}) Want → Type 0
 Goes n cap one before after (Ok done) = IsDone one before after
 Goes n cap one before after (Err want) = IsLeft n cap one before after want

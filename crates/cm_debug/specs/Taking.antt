@@ -6,9 +6,9 @@ use Rattle.cm_array.specs.Faults.{lacked_after}
 use Rattle.cm_session.specs.declared.fault.SessionFault.{SessionFault}
 use Rattle.cm_session.specs.declared.fault.SessionFault.TheVariants.{Write, Memory, NoThread}
 use Rattle.cm_session.specs.Session.{Answered}
-use Rattle.cm_session.specs.Ends.{ended_lines, is_no_thread, IsOnTheWay}
+use Rattle.cm_session.specs.Ends.{ended_lines, is_session_no_thread, IsOnTheWay}
 use Rattle.cm_debug.specs.Gathering.{IsCutOff}
-use Rattle.cm_debug.specs.Talk.{Talk, Setting, holds_of, count_of, IsTold, IsBroken}
+use Rattle.cm_debug.specs.Talk.{Talk, Setting, holds_of, answered_count, IsTold, IsBroken}
 
 -- ---- bytes
 
@@ -16,7 +16,7 @@ use Rattle.cm_debug.specs.Talk.{Talk, Setting, holds_of, count_of, IsTold, IsBro
 pub record HasTaken (n cap : ℕ) (before : Talk) (bytes : List ℕ) (after : Talk) : Type 0 where
   pub told : (first : Setting) (taken : List ℕ) → IsTold n cap first taken before
       → IsTold n cap first (taken ++ bytes) after
-  pub few : count_of after ≤ count_of before + length bytes * 2 ^ 64
+  pub few : answered_count after ≤ answered_count before + length bytes * 2 ^ 64
 
 -- the session breaks off among them
 pub record HasStopped (n cap : ℕ) (before : Talk) (bytes : List ℕ) (after : Talk) (fault : SessionFault)
@@ -37,8 +37,8 @@ pub record HasAnswered (one : Answered) (before after : Talk) : Type 0 where
   pub session : after.session ≡ one.session
   pub line : after.line ≡ before.line
   pub written : Appends (holds_of before) (holds_of after) one.answer
-  pub count : count_of after ≡ count_of before + length one.answer
-  pub few : count_of after ≤ count_of before + 2 ^ 64
+  pub count : answered_count after ≡ answered_count before + length one.answer
+  pub few : answered_count after ≤ answered_count before + 2 ^ 64
   pub lacked : after.lacked ≡ before.lacked
 
 -- how it breaks off. Where its answer cannot be written whole a front of that and of what was gathered went out, and the
@@ -57,9 +57,9 @@ BreaksOffIn n cap one before machine holds _ = ⊥
 -- it has broken off
 pub record HasBrokenOff (n cap : ℕ) (one : Answered) (before after : Talk) (fault : SessionFault) : Type 0 where
   pub breaks : BreaksOffIn n cap one before after.session.machine after.out fault
-  pub lacked : after.lacked ≡ lacked_after (is_no_thread fault) before.lacked
+  pub lacked : after.lacked ≡ lacked_after (is_session_no_thread fault) before.lacked
 
 -- how a console goes on that is to answer this
-abbrev pub Tells : ℕ → ℕ → Answered → Talk → Talk → Result (Unit {0}) SessionFault → Type 0
-Tells n cap one before after (Ok done) = HasAnswered one before after
-Tells n cap one before after (Err fault) = HasBrokenOff n cap one before after fault
+abbrev pub ConsoleAnswers : ℕ → ℕ → Answered → Talk → Talk → Result (Unit {0}) SessionFault → Type 0
+ConsoleAnswers n cap one before after (Ok done) = HasAnswered one before after
+ConsoleAnswers n cap one before after (Err fault) = HasBrokenOff n cap one before after fault

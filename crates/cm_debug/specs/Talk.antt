@@ -8,7 +8,7 @@ use Rattle.cm_array.specs.Faults.{CountsLacks, lacked_after}
 use Rattle.cm_session.specs.declared.fault.SessionFault.{SessionFault}
 use Rattle.cm_session.specs.declared.fault.SessionFault.TheVariants.{Write, Memory, NoThread}
 use Rattle.cm_session.specs.Session.{Session, Answered, opening, after_lines}
-use Rattle.cm_session.specs.Ends.{COMMANDS_LIMIT, ended_lines, open_line, is_no_thread, IsStopped, IsBrokenOff, Ends}
+use Rattle.cm_session.specs.Ends.{COMMANDS_LIMIT, ended_lines, open_line, is_session_no_thread, IsStopped, IsBrokenOff, Ends}
 use Rattle.cm_debug.specs.declared.console.Console.{Console}
 use Rattle.cm_debug.specs.State.{session_of}
 
@@ -40,8 +40,8 @@ abbrev pub holds_of : Talk → Option (List ℕ)
 holds_of now = append_known now.out now.kept
 
 -- how many bytes it has answered
-abbrev pub count_of : Talk → ℕ
-count_of now = now.sent + length now.kept
+abbrev pub answered_count : Talk → ℕ
+answered_count now = now.sent + length now.kept
 
 -- ---- since the session began
 
@@ -68,7 +68,7 @@ pub record IsTold (n cap : ℕ) (first : Setting) (taken : List ℕ) (now : Talk
   pub session : now.session ≡ (after_all n cap first (ended_lines taken)).session
   pub line : now.line ≡ open_line taken
   pub written : Appends first.out (holds_of now) (after_all n cap first (ended_lines taken)).answer
-  pub count : count_of now ≡ length (after_all n cap first (ended_lines taken)).answer
+  pub count : answered_count now ≡ length (after_all n cap first (ended_lines taken)).answer
   pub lacked : now.lacked ≡ first.lacked
 
 -- how it breaks off among lines
@@ -85,7 +85,7 @@ BreaksOffAmong n cap first lines machine holds _ = ⊥
 pub record IsBroken (n cap : ℕ) (first : Setting) (lines : List (List ℕ)) (now : Talk) (fault : SessionFault)
     : Type 0 where
   pub breaks : BreaksOffAmong n cap first lines now.session.machine now.out fault
-  pub lacked : now.lacked ≡ lacked_after (is_no_thread fault) first.lacked
+  pub lacked : now.lacked ≡ lacked_after (is_session_no_thread fault) first.lacked
 
 -- ---- a source
 
@@ -101,7 +101,7 @@ pub record HasEnded (n cap : ℕ) (first : Setting) (source rest : Option (List 
   pub ends : (more : List ℕ) → MayBeLeft rest more → Ends n cap first.acts (text ++ more) (Some more) first.machine
       first.out last.machine last.out result
   pub end : OnOk result (IsAtEnd rest)
-  pub lacked : CountsLacks is_no_thread first.lacked last.lacked result
+  pub lacked : CountsLacks is_session_no_thread first.lacked last.lacked result
 
 -- the source gave a text to its end, which is taken
 pub record HasTakenAll (n cap : ℕ) (first : Setting) (source rest : Option (List ℕ)) (now : Talk) : Type 0 where

@@ -11,7 +11,7 @@ ghost use Rattle.cm_session.specs.Ends.{is_write};
 ghost use Rattle.cm_debug.specs.Gathering.{answered_bytes, with_gathered, IsCutOff};
 ghost use Rattle.cm_debug.specs.State.{session_of};
 ghost use Rattle.cm_debug.specs.Talk.{talk};
-ghost use Rattle.cm_debug.specs.Taking.{Takes, Tells};
+ghost use Rattle.cm_debug.specs.Taking.{Takes, ConsoleAnswers};
 ghost use Rattle.cm_debug.specs.Telling.{asks_for_acts, asks_to_run};
 
 use crate::commands::asks_for_acts;
@@ -169,7 +169,7 @@ impl<'a> Console<'a> {
         requires run { IsTrue (asks_to_run asked) → self.old.output.bytes.items ≡ [] }
         requires writer { O.has_failed out.old ≡ false }
         requires room { answered_bytes self.old.output + 2 ^ 64 < 2 ^ 128 }
-        ensures tells { Tells N CAP
+        ensures tells { ConsoleAnswers N CAP
             (answered N CAP self.old.debugger.acts.now (session_of machine.old.machine self.old.debugger) asked)
             (talk machine.old.machine self.old (O.contents out.old) (R.threads_lacked runner.old))
             (talk machine.new.machine self.new (O.contents out.new) (R.threads_lacked runner.new)) result }

@@ -3,7 +3,7 @@
 ghost use Rattle.std.specs.Prelude.{◌≡◌, ◌+◌, ◌<◌, ◌^◌, ◌++◌, [], false, length, is_err, OnOk, IfErr, Err};
 ghost use Rattle.std.specs.Prelude.{if◌then◌else◌};
 ghost use Rattle.std.specs.Io.KnownBytes.{Appends};
-ghost use Rattle.cm_session.specs.Ends.{is_no_thread, is_write};
+ghost use Rattle.cm_session.specs.Ends.{is_session_no_thread, is_write};
 ghost use Rattle.cm_debug.specs.Gathering.{answered_bytes, with_gathered, BreaksOffBetween, IsCutOff};
 ghost use Rattle.cm_debug.specs.Telling.{is_thread};
 ghost use Rattle.cm_debug.specs.declared.want.Want.TheVariants.{Thread};
@@ -111,7 +111,7 @@ impl Gathered {
         ensures value { BreaksOffBetween self.old.sent self.old.bytes.items (O.contents out.old)
             (O.contents out.new) result }
         ensures failed { O.has_failed out.new ≡ is_write (Err result) }
-        ensures thread { is_no_thread result ≡ is_thread want }
+        ensures thread { is_session_no_thread result ≡ is_thread want }
     {
         match self.send(out) {
             Ok(()) => {}

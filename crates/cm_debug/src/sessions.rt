@@ -4,7 +4,7 @@ ghost use Rattle.std.specs.Prelude.{◌≡◌, ◌≤◌, ◌*◌, ◌^◌, ◌�
 ghost use Rattle.std.specs.Prelude.{OnOk};
 ghost use Rattle.std.specs.Io.KnownBytes.{IsAtEnd};
 ghost use Rattle.cm_array.specs.Faults.{CountsLacks};
-ghost use Rattle.cm_session.specs.Ends.{Ends, EndsForSome, is_no_thread, is_write};
+ghost use Rattle.cm_session.specs.Ends.{Ends, EndsForSome, is_session_no_thread, is_write};
 ghost use Rattle.cm_debug.specs.Talk.{setting, talk, IsTold, HasEnded, TakesAll};
 
 use crate::console::Console;
@@ -43,7 +43,8 @@ pub fn session<const N: usize, const CAP: usize, R: Runner<N, CAP>, I: Source, O
     ensures end { OnOk result (IsAtEnd (I.left commands.new)) }
     ensures read { (I.has_failed commands.new ≡ true) ↔ IsErrOf result SessionFault.Read }
     ensures write { O.has_failed out.new ≡ is_write result }
-    ensures thread { CountsLacks is_no_thread (R.threads_lacked runner.old) (R.threads_lacked runner.new) result }
+    ensures thread { CountsLacks is_session_no_thread (R.threads_lacked runner.old)
+        (R.threads_lacked runner.new) result }
 {
     answer_all(alloc, machine, program.acts(), commands, out, runner)
 }

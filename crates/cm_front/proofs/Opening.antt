@@ -5,14 +5,14 @@ use Rattle.std.specs.declared.alloc.Global.{Global}
 use Rattle.cm_sizes.specs.declared.opening.OpenFault.{OpenFault}
 use Rattle.cm_sizes.specs.declared.opening.OpenFault.TheVariants as unopened
 use Rattle.cm_sizes.specs.Sizes.{SizedMachine}
-use Rattle.cm_sizes.specs.Opening.{opened, IsUnopened}
+use Rattle.cm_sizes.specs.Opening.{image_opened, IsUnopened}
 use Rattle.cm_front.specs.declared.images.FrontFault.{FrontFault}
 use Rattle.cm_front.specs.declared.images.FrontFault.TheVariants.{Image, Room, Ended, Memory}
-use Rattle.cm_front.specs.Images.{refusal_of, HasEnded, HasFailed, EndsImage, FailsImage}
+use Rattle.cm_front.specs.Images.{image_refusal, HasEnded, HasFailed, EndsImage, FailsImage}
 
 -- it is refused
 pub unopened_so : (image : List ℕ) (before held : Option (List ℕ)) (fault : OpenFault) (told : FrontFault)
-    → told ≡ refusal_of fault → IsUnopened image fault → FailsImage image before before held held told
+    → told ≡ image_refusal fault → IsUnopened image fault → FailsImage image before before held held told
 unopened_so image before held (unopened.Image fault) told same refused =
     subst (FailsImage image before before held held) (sym same) (refused, (refl, refl))
 unopened_so image before held unopened.Room told same refused =
@@ -20,7 +20,7 @@ unopened_so image before held unopened.Room told same refused =
 
 -- it is opened
 pub ended_so : (image : List ℕ) (start : SizedMachine) (before after held holds : Option (List ℕ))
-    (r : Result (Vec ℕ Global) FrontFault) → opened image ≡ Ok start
+    (r : Result (Vec ℕ Global) FrontFault) → image_opened image ≡ Ok start
     → IfOk r (λ text. HasEnded start before after held holds text.items)
     → IfOk r (λ text. EndsImage image before after held holds text.items)
 ended_so image start before after held holds (Ok text) opens ended =
@@ -28,7 +28,7 @@ ended_so image start before after held holds (Ok text) opens ended =
 ended_so image start before after held holds (Err fault) opens ended = tt
 
 pub failed_so : (image : List ℕ) (start : SizedMachine) (before after held holds : Option (List ℕ))
-    (r : Result (Vec ℕ Global) FrontFault) → opened image ≡ Ok start
+    (r : Result (Vec ℕ Global) FrontFault) → image_opened image ≡ Ok start
     → IfErr r (HasFailed start before after held holds) → IfErr r (FailsImage image before after held holds)
 failed_so image start before after held holds (Ok text) opens failed = tt
 failed_so image start before after held holds (Err (Ended fault)) opens failed =

@@ -6,15 +6,15 @@ use Rattle.cm_session.specs.declared.fault.SessionFault.{SessionFault}
 use Rattle.cm_sizes.specs.declared.opening.OpenFault.{OpenFault}
 use Rattle.cm_sizes.specs.declared.opening.OpenFault.TheVariants as unopened
 use Rattle.cm_sizes.specs.Sizes.{SizedMachine}
-use Rattle.cm_sizes.specs.Opening.{opened, IsUnopened}
+use Rattle.cm_sizes.specs.Opening.{image_opened, IsUnopened}
 use Rattle.cm_front.specs.declared.images.FrontFault.{FrontFault}
 use Rattle.cm_front.specs.declared.images.FrontFault.TheVariants.{Image, Room, Ended, Memory}
 use Rattle.cm_front.specs.Ends.{Ends}
 
 -- why an image is refused
-abbrev pub refusal_of : OpenFault → FrontFault
-refusal_of (unopened.Image fault) = Image fault
-refusal_of unopened.Room = Room
+abbrev pub image_refusal : OpenFault → FrontFault
+image_refusal (unopened.Image fault) = Image fault
+image_refusal unopened.Room = Room
 
 -- all was done and answered, and this is the image of the machine that is left
 pub record HasEnded (start : SizedMachine) (before after held holds : Option (List ℕ)) (text : List ℕ) : Type 0 where
@@ -43,7 +43,7 @@ HasFailed start before after held holds _ = ⊥
 -- an image is that of a machine with which all was so
 pub record IsOfMachine (image : List ℕ) (So : SizedMachine → Type 0) : Type 0 where
   pub start : SizedMachine
-  pub opens : opened image ≡ Ok start
+  pub opens : image_opened image ≡ Ok start
   pub so : So start
 
 -- no front end began, and nothing was read or written
@@ -62,7 +62,7 @@ abbrev pub FailsImage : List ℕ → Option (List ℕ) → Option (List ℕ) →
 FailsImage image before after held holds (Image fault) =
     IsUnopened image (unopened.Image fault) × HasNotBegun before after held holds
 FailsImage image before after held holds Room =
-    (opened image ≡ Err unopened.Room) × HasNotBegun before after held holds
+    (image_opened image ≡ Err unopened.Room) × HasNotBegun before after held holds
 FailsImage image before after held holds (Ended fault) =
     IsOfMachine image (λ start. HasStopped start before after held holds fault)
 FailsImage image before after held holds Memory =

@@ -31,9 +31,9 @@ pub enum FrontFault {
 
 impl From<OpenFault> for FrontFault {
     ghost use Rattle.std.specs.Prelude.{◌≡◌};
-    ghost use Rattle.cm_front.specs.Images.{refusal_of};
+    ghost use Rattle.cm_front.specs.Images.{image_refusal};
 
-    ghost from_gives = { λ fault whole. whole ≡ refusal_of fault };
+    ghost from_gives = { λ fault whole. whole ≡ image_refusal fault };
 
     fn from(fault: OpenFault) -> FrontFault {
         match fault {

@@ -4,7 +4,7 @@ ghost use Rattle.std.specs.Prelude.{◌≡◌, ◌+◌, ◌<◌, ◌≤◌, ◌^
 ghost use Rattle.std.specs.Prelude.{IsFalse, IsTrue, OnOk};
 ghost use Rattle.std.specs.Io.KnownBytes.{Appends, IsAtEnd};
 ghost use Rattle.cm_array.specs.Faults.{one_more_lacked};
-ghost use Rattle.cm_session.specs.Ends.{is_no_thread, is_write};
+ghost use Rattle.cm_session.specs.Ends.{is_session_no_thread, is_write};
 ghost use Rattle.cm_debug.specs.Gathering.{answered_bytes, with_gathered, BreaksOffBetween};
 ghost use Rattle.cm_debug.specs.Telling.{is_thread};
 ghost use Rattle.cm_front.specs.Front.{front_of, front_after_line};
@@ -168,7 +168,7 @@ fn give_up<O: Sink>(answers: &mut Gathered, want: Want, out: &mut O) -> SessionF
     ensures value { BreaksOffBetween answers.old.sent answers.old.bytes.items (O.contents out.old) (O.contents out.new)
         result }
     ensures failed { O.has_failed out.new ≡ is_write (Err result) }
-    ensures thread { is_no_thread result ≡ true → is_thread want ≡ true }
+    ensures thread { is_session_no_thread result ≡ true → is_thread want ≡ true }
     ensures memory { result ≡ SessionFault.Memory → is_thread want ≡ false }
 {
     match answers.send(out) {

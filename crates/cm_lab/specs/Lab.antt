@@ -16,7 +16,7 @@ use Rattle.cm_image_format.specs.Whole.{text_of}
 use Rattle.cm_sizes.specs.declared.opening.OpenFault.{OpenFault}
 use Rattle.cm_sizes.specs.declared.opening.OpenFault.TheVariants as unopened
 use Rattle.cm_sizes.specs.Sizes.{SizedMachine}
-use Rattle.cm_sizes.specs.Opening.{opened}
+use Rattle.cm_sizes.specs.Opening.{image_opened}
 use Rattle.cm_figures.specs.declared.numbers.NumbersFault.{NumbersFault}
 use Rattle.cm_lab.specs.declared.lab.Task.{Task}
 use Rattle.cm_lab.specs.declared.lab.Task.TheVariants.{Get, Flags, Put, Show, Paint, Study, Route}
@@ -97,15 +97,15 @@ abbrev pub work_on : Task → List ℕ → SizedMachine → Result (List ℕ) La
 work_on task given any = work_of any.n any.cap task given any.machine
 
 -- why an image is refused
-abbrev pub refusal_of : OpenFault → LabFault
-refusal_of (unopened.Image fault) = Image fault
-refusal_of unopened.Room = Room
+abbrev pub lab_refusal : OpenFault → LabFault
+lab_refusal (unopened.Image fault) = Image fault
+lab_refusal unopened.Room = Room
 
 -- what is made of the machine of an image, if it is one
 abbrev pub of_opened : Task → List ℕ → Result SizedMachine OpenFault → Result (List ℕ) LabFault
 of_opened task given (Ok any) = work_on task given any
-of_opened task given (Err fault) = Err (refusal_of fault)
+of_opened task given (Err fault) = Err (lab_refusal fault)
 
 -- what a task makes of an image and of what is given; the image is judged first
 unfoldable pub done_with : Task → List ℕ → List ℕ → Result (List ℕ) LabFault
-done_with task given image = of_opened task given (opened image)
+done_with task given image = of_opened task given (image_opened image)

@@ -8,7 +8,7 @@ ghost use Rattle.cm_figures.specs.PictureReading.{picture_in};
 ghost use Rattle.cm_lab.specs.Data.{processors};
 ghost use Rattle.cm_lab.specs.declared.lab.Task.TheVariants as task;
 ghost use Rattle.cm_sizes.specs.Sizes.{sized};
-ghost use Rattle.cm_lab.specs.Lab.{work_of, work_on, refusal_of, done_with, IsNoPicture};
+ghost use Rattle.cm_lab.specs.Lab.{work_of, work_on, lab_refusal, done_with, IsNoPicture};
 
 use crate::data::{flags, get, put};
 use crate::order::{Order, columns, processors, rows};
@@ -166,7 +166,7 @@ fn work<const N: usize, const CAP: usize, W: Watch>(
 /// Why an image has no machine: want of memory is the same everywhere.
 fn of_open(fault: OpenFault) -> LabFault
     ensures memory { fault ≡ OpenFault.Image ImageFault.Memory → result ≡ LabFault.Memory }
-    ensures other { fault ≢ OpenFault.Image ImageFault.Memory → result ≡ refusal_of fault }
+    ensures other { fault ≢ OpenFault.Image ImageFault.Memory → result ≡ lab_refusal fault }
 {
     match fault {
         OpenFault::Image(ImageFault::Memory) => LabFault::Memory,

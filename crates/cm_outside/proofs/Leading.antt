@@ -1,21 +1,21 @@
 -- Deeds that lead from one state of the outside to another, put together.
 use Rattle.std.proofs.Common.{List, [], ◌∷◌, ◌++◌, refl, sym, subst}
-use Rattle.cm_outside.specs.Deeds.{Lead, Did}
+use Rattle.cm_outside.specs.Deeds.{TraceLeads, Did}
 
 -- one deed
 pub one : {S D : Type 0} (does : S → D → S → Type 0) (from : S) (deed : D) (to : S) → does from deed to
-    → Lead does from (deed ∷ []) to
+    → TraceLeads does from (deed ∷ []) to
 one does from deed to h = (to, h, refl)
 
 -- a deed before others
 pub followed : {S D : Type 0} (does : S → D → S → Type 0) (from : S) (deed : D) (next : S) (deeds : List D) (to : S)
-    → does from deed next → Lead does next deeds to → Lead does from (deed ∷ deeds) to
+    → does from deed next → TraceLeads does next deeds to → TraceLeads does from (deed ∷ deeds) to
 followed does from deed next deeds to h rest = (next, h, rest)
 
 -- deeds before others
 joined : {S D : Type 0} (does : S → D → S → Type 0) (from : S) (deeds : List D) (next : S) (more : List D) (to : S)
-    → Lead does from deeds next → Lead does next more to → Lead does from (deeds ++ more) to
-joined does from [] next more to h rest = subst (λ s. Lead does s more to) (sym h) rest
+    → TraceLeads does from deeds next → TraceLeads does next more to → TraceLeads does from (deeds ++ more) to
+joined does from [] next more to h rest = subst (λ s. TraceLeads does s more to) (sym h) rest
 joined does from (deed ∷ deeds) next more to h rest = (h.0, h.1, joined does h.0 deeds next more to h.2 rest)
 
 -- what follows of the deeds that were done

@@ -21,12 +21,12 @@ pub data Deed (F P : Type 0) : Type 0 where
   LetGo : (part : P) → Deed F P
 
 -- these deeds, in turn, lead from one state of the outside to another
-abbrev pub Lead : {S D : Type 0} → (S → D → S → Type 0) → S → List D → S → Type 0
-Lead {S} does from [] to = from ≡ to
-Lead {S} does from (deed ∷ deeds) to = (next : S) × does from deed next × Lead does next deeds to
+abbrev pub TraceLeads : {S D : Type 0} → (S → D → S → Type 0) → S → List D → S → Type 0
+TraceLeads {S} does from [] to = from ≡ to
+TraceLeads {S} does from (deed ∷ deeds) to = (next : S) × does from deed next × TraceLeads does next deeds to
 
 -- deeds lead from one state of the outside to another, of which this holds
 pub record Did {S D : Type 0} (does : S → D → S → Type 0) (from to : S) (So : List D → Type 0) : Type 0 where
   pub deeds : List D
-  pub lead : Lead does from deeds to
+  pub lead : TraceLeads does from deeds to
   pub so : So deeds

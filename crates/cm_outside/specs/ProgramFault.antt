@@ -26,38 +26,38 @@ use Rattle.cm_outside.specs.declared.program_fault.ProgramFault.TheVariants.{Too
 use Rattle.cm_outside.specs.declared.program_fault.ProgramFault.TheVariants.{Long, Clock, Unfinished}
 
 -- the number of a fault
-abbrev pub told_number : ProgramFault → ℕ
-told_number BadLine = 38
-told_number (Text fault) = kind_number fault.kind
-told_number (Image fault) = image_number fault
-told_number Cap = 5
-told_number Read = 30
-told_number Write = 31
-told_number TooMuch = 32
-told_number Memory = 33
-told_number NoThread = 9
-told_number Split = 37
-told_number Workers = 36
-told_number Long = 6
-told_number Clock = 7
-told_number Unfinished = 35
+abbrev pub reported_number : ProgramFault → ℕ
+reported_number BadLine = 38
+reported_number (Text fault) = kind_number fault.kind
+reported_number (Image fault) = image_number fault
+reported_number Cap = 5
+reported_number Read = 30
+reported_number Write = 31
+reported_number TooMuch = 32
+reported_number Memory = 33
+reported_number NoThread = 9
+reported_number Split = 37
+reported_number Workers = 36
+reported_number Long = 6
+reported_number Clock = 7
+reported_number Unfinished = 35
 
 -- the line of the text, if the fault stands in one
-abbrev pub line_of : ProgramFault → Option ℕ
-line_of BadLine = None
-line_of (Text fault) = Some fault.line
-line_of (Image fault) = None
-line_of Cap = None
-line_of Read = None
-line_of Write = None
-line_of TooMuch = None
-line_of Memory = None
-line_of NoThread = None
-line_of Split = None
-line_of Workers = None
-line_of Long = None
-line_of Clock = None
-line_of Unfinished = None
+abbrev pub fault_line : ProgramFault → Option ℕ
+fault_line BadLine = None
+fault_line (Text fault) = Some fault.line
+fault_line (Image fault) = None
+fault_line Cap = None
+fault_line Read = None
+fault_line Write = None
+fault_line TooMuch = None
+fault_line Memory = None
+fault_line NoThread = None
+fault_line Split = None
+fault_line Workers = None
+fault_line Long = None
+fault_line Clock = None
+fault_line Unfinished = None
 
 -- a session's fault as one of the program
 abbrev pub of_chip : ChipFault → ProgramFault
@@ -92,21 +92,21 @@ of_session session.Memory = Memory
 of_session session.NoThread = NoThread
 
 -- a fault of an image as one of the program: want of memory is told as any other
-abbrev pub of_image : ImageFault → ProgramFault
-of_image image.Memory = Memory
-of_image image.Short = Image image.Short
-of_image image.Magic = Image image.Magic
-of_image image.Version = Image image.Version
-of_image image.Shape = Image image.Shape
-of_image image.Order = Image image.Order
-of_image image.Count = Image image.Count
-of_image image.Value = Image image.Value
-of_image image.TagTwice = Image image.TagTwice
-of_image image.Extra = Image image.Extra
+abbrev pub program_fault_of_image : ImageFault → ProgramFault
+program_fault_of_image image.Memory = Memory
+program_fault_of_image image.Short = Image image.Short
+program_fault_of_image image.Magic = Image image.Magic
+program_fault_of_image image.Version = Image image.Version
+program_fault_of_image image.Shape = Image image.Shape
+program_fault_of_image image.Order = Image image.Order
+program_fault_of_image image.Count = Image image.Count
+program_fault_of_image image.Value = Image image.Value
+program_fault_of_image image.TagTwice = Image image.TagTwice
+program_fault_of_image image.Extra = Image image.Extra
 
 -- why no machine comes of an image that a source has, as a fault of the program
 abbrev pub of_open : OpenSourceFault → ProgramFault
-of_open (unopened.Source (source.Image fault)) = of_image fault
+of_open (unopened.Source (source.Image fault)) = program_fault_of_image fault
 of_open (unopened.Source source.Read) = Read
 of_open (unopened.Source source.TooMuch) = TooMuch
 of_open unopened.Room = Cap

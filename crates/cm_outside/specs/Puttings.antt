@@ -12,15 +12,15 @@ use Rattle.cm_outside.specs.ProgramFault.{of_put}
 use Rattle.cm_outside.specs.Deeds.{Deed, Readied, Flushed, Filled, LetGo}
 
 -- the bytes of the image that is kept of a machine, if one is to be kept
-abbrev pub IsKept : ℕ → ℕ → Machine → Bool → Option (List ℕ) → Type 0
-IsKept n cap machine true (Some image) = image ≡ text_of n cap machine
-IsKept n cap machine true None = ⊥
-IsKept n cap machine false (Some image) = ⊥
-IsKept n cap machine false None = Unit {0}
+abbrev pub IsImageKept : ℕ → ℕ → Machine → Bool → Option (List ℕ) → Type 0
+IsImageKept n cap machine true (Some image) = image ≡ text_of n cap machine
+IsImageKept n cap machine true None = ⊥
+IsImageKept n cap machine false (Some image) = ⊥
+IsImageKept n cap machine false None = Unit {0}
 
 -- the same, or want of memory for an image that is to be kept
 abbrev pub KeepsImage : ℕ → ℕ → Machine → Bool → Result (Option (List ℕ)) ProgramFault → Type 0
-KeepsImage n cap machine keeps (Ok kept) = IsKept n cap machine keeps kept
+KeepsImage n cap machine keeps (Ok kept) = IsImageKept n cap machine keeps kept
 KeepsImage n cap machine keeps (Err fault) = (keeps ≡ true) × (fault ≡ Memory)
 
 -- the deeds make the file ready that is to be written, if one is named

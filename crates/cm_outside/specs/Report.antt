@@ -13,19 +13,19 @@ abbrev pub HasLine : ℕ → Type 0
 HasLine number = T (number == 1 || number == 2 || nat_le 10 number && nat_le number 20)
 
 -- where a fault stands, if it stands in a line
-abbrev pub place_of : Option ℕ → List ℕ
-place_of None = []
-place_of (Some line) = codes "line " ++ decimal line ++ codes ": "
+abbrev pub line_place : Option ℕ → List ℕ
+line_place None = []
+line_place (Some line) = codes "line " ++ decimal line ++ codes ": "
 
 -- a bad command line
 abbrev pub BAD_LINE : ℕ
 BAD_LINE = 38
 
 -- the line on standard error
-abbrev pub message_of : ℕ → Option ℕ → List ℕ
-message_of number line =
+abbrev pub report_line : ℕ → Option ℕ → List ℕ
+report_line number line =
     if number == BAD_LINE then codes "cm1: bad command line\n"
-    else codes "cm1: " ++ place_of line ++ fault_text number
+    else codes "cm1: " ++ line_place line ++ fault_text number
 
 -- the exit status: 2 for a bad command line, 3 for want of memory or of a thread, 4 for a read or a write, else 1
 abbrev pub status_of : ℕ → ℕ

@@ -10,7 +10,7 @@ use Rattle.cm_image.specs.Pieces.{GivesRest}
 use Rattle.cm_sizes.specs.declared.opening.OpenSourceFault.{OpenSourceFault}
 use Rattle.cm_sizes.specs.declared.opening.OpenSourceFault.TheVariants.{Source}
 use Rattle.cm_sizes.specs.Sizes.{SizedMachine}
-use Rattle.cm_sizes.specs.Opening.{opened}
+use Rattle.cm_sizes.specs.Opening.{image_opened}
 use Rattle.cm_sizes.specs.Sourced.{IMAGE_LIMIT, IsUnopenedSource}
 use Rattle.cm_outside.specs.declared.takes.TakeFault.{TakeFault}
 use Rattle.cm_outside.specs.declared.takes.TakeFault.TheVariants.{Read, TooMuch, Memory}
@@ -67,7 +67,7 @@ pub record OpensImage {F P : Type 0} (reads : Reads F) (path : List ℕ) (start 
   pub file : F
   pub after : F
   pub did : deeds ≡ Opened path (Ok file) ∷ []
-  pub image : GivesRest IMAGE_LIMIT (reads.left file) (reads.left after) (λ bytes. opened bytes ≡ Ok start)
+  pub image : GivesRest IMAGE_LIMIT (reads.left file) (reads.left after) (λ bytes. image_opened bytes ≡ Ok start)
   pub read : ¬ (reads.has_failed after ≡ true)
 
 -- why no machine comes of a file that was opened

@@ -4,7 +4,7 @@ use Rattle.cm_outside.specs.declared.outside.PutFault.{PutFault}
 use Rattle.cm_outside.specs.declared.outside.PutFault.TheVariants.{Write, Memory}
 
 -- whether a write failed
-abbrev pub is_write : Result (Unit {0}) PutFault → Bool
-is_write (Ok done) = false
-is_write (Err Write) = true
-is_write (Err Memory) = false
+abbrev pub is_put_write : Result (Unit {0}) PutFault → Bool
+is_put_write (Ok done) = false
+is_put_write (Err Write) = true
+is_put_write (Err Memory) = false

@@ -2,7 +2,7 @@
 
 ghost use Rattle.std.specs.Prelude.{◌≡◌, ◌≤◌, IfSome};
 ghost use Rattle.cm_outside.specs.Report.{HasLine};
-ghost use Rattle.cm_outside.specs.ProgramFault.{told_number, line_of};
+ghost use Rattle.cm_outside.specs.ProgramFault.{reported_number, fault_line};
 
 use crate::fault::ChipFault;
 use crate::outside::PutFault;
@@ -45,7 +45,7 @@ pub enum ProgramFault {
 impl ProgramFault {
     /// The number that `report` is told.
     pub fn number(&self) -> u8
-        ensures value { result ≡ told_number self.now }
+        ensures value { result ≡ reported_number self.now }
         ensures some { 1 ≤ result }
         ensures known { result ≤ 38 }
     {
@@ -69,8 +69,8 @@ impl ProgramFault {
 
     /// The line of the program text in which it stands.
     pub fn line(&self) -> Option<u64>
-        ensures value { result ≡ line_of self.now }
-        ensures place { IfSome result (λ _. HasLine (told_number self.now)) }
+        ensures value { result ≡ fault_line self.now }
+        ensures place { IfSome result (λ _. HasLine (reported_number self.now)) }
     {
         match self {
             ProgramFault::Text(fault) => Some(fault.line),
@@ -81,9 +81,9 @@ impl ProgramFault {
 
 impl From<ImageFault> for ProgramFault {
     ghost use Rattle.std.specs.Prelude.{◌≡◌};
-    ghost use Rattle.cm_outside.specs.ProgramFault.{of_image};
+    ghost use Rattle.cm_outside.specs.ProgramFault.{program_fault_of_image};
 
-    ghost from_gives = { λ fault whole. whole ≡ of_image fault };
+    ghost from_gives = { λ fault whole. whole ≡ program_fault_of_image fault };
 
     fn from(fault: ImageFault) -> ProgramFault {
         match fault {

@@ -2,7 +2,7 @@
 
 ghost use Rattle.std.specs.Prelude.{◌≡◌, ◌≤◌, ◌++◌, ◌==◌, false, codes, decimal, IfOk, OnErr, OnOk, IfSome, is_err};
 ghost use Rattle.std.specs.Io.KnownBytes.{Appends};
-ghost use Rattle.cm_outside.specs.Report.{HasFront, HasLine, fault_text, place_of, message_of, status_of};
+ghost use Rattle.cm_outside.specs.Report.{HasFront, HasLine, fault_text, line_place, report_line, status_of};
 
 use cm_bits::{Failed, Sink, write_all};
 use cm_refusals::fault_name;
@@ -20,9 +20,9 @@ pub fn report<O: Sink>(number: u8, line: Option<u64>, sink: &mut O) -> Result<u8
     requires place { IfSome line (λ _. HasLine number) }
     requires working { O.has_failed sink.old ≡ false }
 
-    ensures ok { OnOk result (Appends (O.contents sink.old) (O.contents sink.new) (message_of number line)) }
+    ensures ok { OnOk result (Appends (O.contents sink.old) (O.contents sink.new) (report_line number line)) }
     ensures status { IfOk result (λ status. status ≡ status_of number) }
-    ensures err { OnErr result (HasFront (O.contents sink.old) (O.contents sink.new) (message_of number line)) }
+    ensures err { OnErr result (HasFront (O.contents sink.old) (O.contents sink.new) (report_line number line)) }
     ensures failed { O.has_failed sink.new ≡ is_err result }
 {
     write_message(sink, number, line)?;
@@ -66,8 +66,8 @@ fn write_message<O: Sink>(sink: &mut O, number: u8, line: Option<u64>) -> Result
     requires some { 1 ≤ number }
     requires known { number ≤ 38 }
     requires working { O.has_failed sink.old ≡ false }
-    ensures ok { OnOk result (Appends (O.contents sink.old) (O.contents sink.new) (message_of number line)) }
-    ensures err { OnErr result (HasFront (O.contents sink.old) (O.contents sink.new) (message_of number line)) }
+    ensures ok { OnOk result (Appends (O.contents sink.old) (O.contents sink.new) (report_line number line)) }
+    ensures err { OnErr result (HasFront (O.contents sink.old) (O.contents sink.new) (report_line number line)) }
     ensures failed { O.has_failed sink.new ≡ is_err result }
 {
     if number == BAD_LINE {
@@ -80,8 +80,8 @@ fn write_message<O: Sink>(sink: &mut O, number: u8, line: Option<u64>) -> Result
 
 fn write_place<O: Sink>(sink: &mut O, line: Option<u64>) -> Result<(), Failed>
     requires working { O.has_failed sink.old ≡ false }
-    ensures ok { OnOk result (Appends (O.contents sink.old) (O.contents sink.new) (place_of line)) }
-    ensures err { OnErr result (HasFront (O.contents sink.old) (O.contents sink.new) (place_of line)) }
+    ensures ok { OnOk result (Appends (O.contents sink.old) (O.contents sink.new) (line_place line)) }
+    ensures err { OnErr result (HasFront (O.contents sink.old) (O.contents sink.new) (line_place line)) }
     ensures failed { O.has_failed sink.new ≡ is_err result }
 {
     let Some(line) = line else {

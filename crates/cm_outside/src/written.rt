@@ -4,7 +4,7 @@ ghost use Rattle.std.specs.Prelude.{◌≡◌, List, ℕ, false, IfOk, IfErr, Is
 ghost use Rattle.std.specs.Io.KnownBytes.{Appends};
 ghost use Rattle.cm_image_format.specs.Whole.{text_of};
 ghost use Rattle.cm_image.specs.Sending.{GoesOutInPart};
-ghost use Rattle.cm_outside.specs.Written.{is_write};
+ghost use Rattle.cm_outside.specs.Written.{is_put_write};
 
 use crate::outside::PutFault;
 use cm_array::Machine;
@@ -23,7 +23,7 @@ pub trait Written: Drop {
         requires working { O.has_failed sink.old ≡ false }
         ensures ok { OnOk result (Appends (O.contents sink.old) (O.contents sink.new) (bytes self)) }
         ensures err { IfErr result (λ _. GoesOutInPart (O.contents sink.old) (O.contents sink.new) (bytes self)) }
-        ensures failed { O.has_failed sink.new ≡ is_write result }
+        ensures failed { O.has_failed sink.new ≡ is_put_write result }
         ensures memory { ¬ IsErrOf result PutFault.Memory };
 }
 

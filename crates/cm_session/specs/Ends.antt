@@ -134,9 +134,9 @@ is_write (Err Memory) = false
 is_write (Err NoThread) = false
 
 -- a thread was wanting
-abbrev pub is_no_thread : SessionFault → Bool
-is_no_thread Read = false
-is_no_thread (Write count) = false
-is_no_thread TooMuch = false
-is_no_thread Memory = false
-is_no_thread NoThread = true
+abbrev pub is_session_no_thread : SessionFault → Bool
+is_session_no_thread Read = false
+is_session_no_thread (Write count) = false
+is_session_no_thread TooMuch = false
+is_session_no_thread Memory = false
+is_session_no_thread NoThread = true

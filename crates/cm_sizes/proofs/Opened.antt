@@ -10,17 +10,17 @@ use Rattle.cm_image_format.specs.Header.{is_dimension, is_room, shape_part, cloc
 use Rattle.cm_image_format.specs.Whole.{read_shape, read_image, header_fault}
 use Rattle.cm_sizes.specs.declared.opening.OpenFault.TheVariants.{Image, Room}
 use Rattle.cm_sizes.specs.Sizes.{is_own_room}
-use Rattle.cm_sizes.specs.Opening.{of_read, of_shape, opened, IsUnopened}
+use Rattle.cm_sizes.specs.Opening.{of_read, opened_of_shape, image_opened, IsUnopened}
 
 -- the whole image, where its shape is one of the programs' own
 opened_as : (bytes : List ℕ) (n cap : ℕ) → read_shape bytes ≡ Ok (n, cap) → is_own_room cap ≡ true
-    → opened bytes ≡ of_read n cap (read_image n cap bytes)
-unfolding opened
-opened_as bytes n cap shape own = ap (of_shape bytes) shape ∙ rw own refl
+    → image_opened bytes ≡ of_read n cap (read_image n cap bytes)
+unfolding image_opened
+opened_as bytes n cap shape own = ap (opened_of_shape bytes) shape ∙ rw own refl
 
 pub opened_ok : (bytes : List ℕ) (n cap : ℕ) (machine : Machine) → read_shape bytes ≡ Ok (n, cap)
     → is_own_room cap ≡ true → read_image n cap bytes ≡ Ok machine
-    → opened bytes ≡ Ok (record { n = n; cap = cap; machine = machine })
+    → image_opened bytes ≡ Ok (record { n = n; cap = cap; machine = machine })
 opened_ok bytes n cap machine shape own is = opened_as bytes n cap shape own ∙ ap (of_read n cap) is
 
 is_fault : (read : Result Machine ImageFault) (fault : ImageFault) → fault_in read ≡ Some fault → read ≡ Err fault
@@ -28,19 +28,19 @@ is_fault (Ok machine) fault h = absurd (let wrong : None ≡ Some fault = h in c
 is_fault (Err own) fault h = let same : own ≡ fault = cc in ap (λ f. Err f) same
 
 pub opened_err : (bytes : List ℕ) (n cap : ℕ) (fault : ImageFault) → read_shape bytes ≡ Ok (n, cap)
-    → is_own_room cap ≡ true → fault_in (read_image n cap bytes) ≡ Some fault → opened bytes ≡ Err (Image fault)
+    → is_own_room cap ≡ true → fault_in (read_image n cap bytes) ≡ Some fault → image_opened bytes ≡ Err (Image fault)
 opened_err bytes n cap fault shape own h =
     opened_as bytes n cap shape own ∙ ap (of_read n cap) (is_fault (read_image n cap bytes) fault h)
 
 -- an image of no shape, or of a room that the programs have no machines of
-shapeless : (bytes : List ℕ) (fault : ImageFault) → read_shape bytes ≡ Err fault → opened bytes ≡ Err (Image fault)
-unfolding opened
-shapeless bytes fault shape = ap (of_shape bytes) shape
+shapeless : (bytes : List ℕ) (fault : ImageFault) → read_shape bytes ≡ Err fault → image_opened bytes ≡ Err (Image fault)
+unfolding image_opened
+shapeless bytes fault shape = ap (opened_of_shape bytes) shape
 
 of_room : (bytes : List ℕ) (n cap : ℕ) → read_shape bytes ≡ Ok (n, cap) → is_own_room cap ≡ false
-    → opened bytes ≡ Err Room
-unfolding opened
-of_room bytes n cap shape other = ap (of_shape bytes) shape ∙ rw other refl
+    → image_opened bytes ≡ Err Room
+unfolding image_opened
+of_room bytes n cap shape other = ap (opened_of_shape bytes) shape ∙ rw other refl
 
 pub foreign : (bytes : List ℕ) (n cap : ℕ) → read_shape bytes ≡ Ok (n, cap) → is_own_room cap ≡ false
     → IsUnopened bytes Room

@@ -13,7 +13,7 @@ use Rattle.cm_sizes.specs.declared.opening.OpenFault.{OpenFault}
 use Rattle.cm_sizes.specs.declared.opening.OpenFault.TheVariants.{Image, Room}
 use Rattle.cm_sizes.specs.declared.opening.OpenSourceFault.{OpenSourceFault}
 use Rattle.cm_sizes.specs.declared.opening.OpenSourceFault.TheVariants as unopened
-use Rattle.cm_sizes.specs.Opening.{opened, IsUnopened}
+use Rattle.cm_sizes.specs.Opening.{image_opened, IsUnopened}
 use Rattle.cm_sizes.specs.Sourced.{IsRefusedAs, of_open}
 
 consumes-more : (a b c : Option (List ℕ)) (xs ys : List ℕ) → Consumes a b xs → Consumes b c ys → Consumes a c (xs ++ ys)
@@ -117,15 +117,15 @@ same_fault {a} {b} h = let same : Image a ≡ Image b = h in cc
 -- bytes that were all taken are refused
 pub held_refused : (front bytes : List ℕ) (most : ℕ) (a c : Option (List ℕ)) (fault : OpenFault)
     → GivesRest most a c (λ more. bytes ≡ front ++ more) → IsUnopened bytes fault
-    → IsRefusedAs (λ own more. opened (front ++ more) ≡ Err own) most a c (of_open fault)
+    → IsRefusedAs (λ own more. image_opened (front ++ more) ≡ Err own) most a c (of_open fault)
 held_refused front bytes most a c (Image own) given is = (
   record { bytes = given.bytes; few = given.few; consumed = given.consumed },
-  λ other. rest_so most a c (λ more. bytes ≡ front ++ more) (λ more. opened (front ++ more) ≡ Err (Image own))
-      (λ more same. subst (λ (b : List ℕ). opened b ≡ Err (Image own)) same (is.own (λ e. other (same_fault e)))) given,
+  λ other. rest_so most a c (λ more. bytes ≡ front ++ more) (λ more. image_opened (front ++ more) ≡ Err (Image own))
+      (λ more same. subst (λ (b : List ℕ). image_opened b ≡ Err (Image own)) same (is.own (λ e. other (same_fault e)))) given,
 )
 held_refused front bytes most a c Room given is =
-    rest_so most a c (λ more. bytes ≡ front ++ more) (λ more. opened (front ++ more) ≡ Err Room)
-    (λ more same. subst (λ (b : List ℕ). opened b ≡ Err Room) same
+    rest_so most a c (λ more. bytes ≡ front ++ more) (λ more. image_opened (front ++ more) ≡ Err Room)
+    (λ more same. subst (λ (b : List ℕ). image_opened b ≡ Err Room) same
     (is.own (λ e. let wrong : Room ≡ Image Memory = e in cc))) given
 
 -- ---- a failed read

@@ -14,14 +14,14 @@ of_read n cap (Ok machine) = Ok (record { n = n; cap = cap; machine = machine })
 of_read n cap (Err fault) = Err (Image fault)
 
 -- of an image of this shape: a room that the programs have no machines of is refused before all of it is read
-abbrev pub of_shape : List ℕ → Result (ℕ × ℕ) ImageFault → Result SizedMachine OpenFault
-of_shape bytes (Ok shape) =
+abbrev pub opened_of_shape : List ℕ → Result (ℕ × ℕ) ImageFault → Result SizedMachine OpenFault
+opened_of_shape bytes (Ok shape) =
     if is_own_room shape.1 then of_read shape.0 shape.1 (read_image shape.0 shape.1 bytes) else Err Room
-of_shape bytes (Err fault) = Err (Image fault)
+opened_of_shape bytes (Err fault) = Err (Image fault)
 
 -- the machine of an image, or its first fault
-unfoldable pub opened : List ℕ → Result SizedMachine OpenFault
-opened bytes = of_shape bytes (read_shape bytes)
+unfoldable pub image_opened : List ℕ → Result SizedMachine OpenFault
+image_opened bytes = opened_of_shape bytes (read_shape bytes)
 
 -- the header of an image has no fault, and its machine is one of the programs' own
 pub record HasHeader (image : List ℕ) : Type 0 where
@@ -34,5 +34,5 @@ pub record HasHeader (image : List ℕ) : Type 0 where
 -- an image is refused with this fault: it is the image's own, or want of memory, which is told only where the header
 -- has no fault
 pub record IsUnopened (image : List ℕ) (fault : OpenFault) : Type 0 where
-  pub own : fault ≢ Image Memory → opened image ≡ Err fault
+  pub own : fault ≢ Image Memory → image_opened image ≡ Err fault
   pub memory : fault ≡ Image Memory → HasHeader image

@@ -6,7 +6,7 @@ use Rattle.cm_sizes.specs.declared.opening.OpenFault.{OpenFault}
 use Rattle.cm_sizes.specs.declared.opening.OpenFault.TheVariants.{Image, Room}
 use Rattle.cm_sizes.specs.declared.opening.OpenSourceFault.{OpenSourceFault}
 use Rattle.cm_sizes.specs.declared.opening.OpenSourceFault.TheVariants as unopened
-use Rattle.cm_sizes.specs.Opening.{opened}
+use Rattle.cm_sizes.specs.Opening.{image_opened}
 
 -- the most bytes of an image's file
 abbrev pub IMAGE_LIMIT : ℕ
@@ -20,7 +20,7 @@ IsRefusedAs Wrong most old new unopened.Room = GivesRest most old new (Wrong Roo
 
 -- why the bytes of a source, at most so many, are no image of a machine of the programs' own
 abbrev pub IsUnopenedSource : ℕ → Option (List ℕ) → Option (List ℕ) → OpenSourceFault → Type 0
-IsUnopenedSource most old new fault = IsRefusedAs (λ own image. opened image ≡ Err own) most old new fault
+IsUnopenedSource most old new fault = IsRefusedAs (λ own image. image_opened image ≡ Err own) most old new fault
 
 -- a fault of an image that is held, as one of a source
 abbrev pub of_open : OpenFault → OpenSourceFault

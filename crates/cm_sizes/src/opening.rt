@@ -4,7 +4,7 @@ ghost use Rattle.std.specs.Prelude.{◌≡◌, ◌↔◌, ◌≤◌, ◌++◌, t
 ghost use Rattle.cm_image_format.specs.Whole.{read_shape};
 ghost use Rattle.cm_image.specs.Pieces.{GivesRest};
 ghost use Rattle.cm_sizes.specs.Sizes.{sized, is_own_room};
-ghost use Rattle.cm_sizes.specs.Opening.{opened, IsUnopened};
+ghost use Rattle.cm_sizes.specs.Opening.{image_opened, IsUnopened};
 ghost use Rattle.cm_sizes.specs.Sourced.{IsRefusedAs, IsUnopenedSource};
 
 use crate::any_machine::AnyMachine;
@@ -105,7 +105,7 @@ macro_rules! at_size {
 /// it.
 #[tactic(auto, using(crate::proofs::Opened::unshaped, crate::proofs::Opened::foreign))]
 pub fn open_image(alloc: Global, image: &[u8]) -> Result<AnyMachine, OpenFault>
-    ensures value { IfOk result (λ machine. opened image.now ≡ Ok (sized machine)) }
+    ensures value { IfOk result (λ machine. image_opened image.now ≡ Ok (sized machine)) }
     ensures refused { IfErr result (IsUnopened image.now) }
 {
     let (n, cap) = match shape(image) {
@@ -122,7 +122,7 @@ fn machine_of<const N: usize, const CAP: usize>(
 ) -> Result<Machine<N, CAP>, OpenFault>
     requires shape { read_shape image.now ≡ Ok (N, CAP) }
     requires own { is_own_room CAP ≡ true }
-    ensures value { IfOk result (λ kept. opened image.now
+    ensures value { IfOk result (λ kept. image_opened image.now
         ≡ Ok (record { n = N; cap = CAP; machine = kept.machine })) }
     ensures refused { IfErr result (IsUnopened image.now) }
 {
@@ -139,7 +139,7 @@ pub fn open_image_source<I: Source>(
 ) -> Result<AnyMachine, OpenSourceFault>
     requires working { I.has_failed source.old ≡ false }
     ensures value { IfOk result (λ machine. GivesRest IMAGE_LIMIT (I.left source.old) (I.left source.new)
-        (λ image. opened image ≡ Ok (sized machine))) }
+        (λ image. image_opened image ≡ Ok (sized machine))) }
     ensures refused { IfErr result (IsUnopenedSource IMAGE_LIMIT (I.left source.old) (I.left source.new)) }
     ensures read { (I.has_failed source.new ≡ true)
         ↔ IsErrOf result (OpenSourceFault.Source SourceFault.Read) }
@@ -162,8 +162,8 @@ fn open_behind<I: Source>(
     requires few { length front.now ≤ 65536 }
     requires working { I.has_failed source.old ≡ false }
     ensures value { IfOk result (λ machine. GivesRest most (I.left source.old) (I.left source.new)
-        (λ more. opened (front.now ++ more) ≡ Ok (sized machine))) }
-    ensures refused { IfErr result (IsRefusedAs (λ own more. opened (front.now ++ more) ≡ Err own)
+        (λ more. image_opened (front.now ++ more) ≡ Ok (sized machine))) }
+    ensures refused { IfErr result (IsRefusedAs (λ own more. image_opened (front.now ++ more) ≡ Err own)
         most (I.left source.old) (I.left source.new)) }
     ensures read { (I.has_failed source.new ≡ true)
         ↔ IsErrOf result (OpenSourceFault.Source SourceFault.Read) }
@@ -188,8 +188,8 @@ fn open_held<I: Source>(
 ) -> Result<AnyMachine, OpenSourceFault>
     requires working { I.has_failed source.old ≡ false }
     ensures value { IfOk result (λ machine. GivesRest most (I.left source.old) (I.left source.new)
-        (λ more. opened (front.now ++ more) ≡ Ok (sized machine))) }
-    ensures refused { IfErr result (IsRefusedAs (λ own more. opened (front.now ++ more) ≡ Err own)
+        (λ more. image_opened (front.now ++ more) ≡ Ok (sized machine))) }
+    ensures refused { IfErr result (IsRefusedAs (λ own more. image_opened (front.now ++ more) ≡ Err own)
         most (I.left source.old) (I.left source.new)) }
     ensures read { (I.has_failed source.new ≡ true)
         ↔ IsErrOf result (OpenSourceFault.Source SourceFault.Read) }
@@ -216,8 +216,8 @@ fn machine_behind<const N: usize, const CAP: usize, I: Source>(
     requires few { length front.now ≤ 65536 }
     requires working { I.has_failed source.old ≡ false }
     ensures value { IfOk result (λ kept. GivesRest most (I.left source.old) (I.left source.new)
-        (λ more. opened (front.now ++ more) ≡ Ok (record { n = N; cap = CAP; machine = kept.machine }))) }
-    ensures refused { IfErr result (IsRefusedAs (λ own more. opened (front.now ++ more) ≡ Err own)
+        (λ more. image_opened (front.now ++ more) ≡ Ok (record { n = N; cap = CAP; machine = kept.machine }))) }
+    ensures refused { IfErr result (IsRefusedAs (λ own more. image_opened (front.now ++ more) ≡ Err own)
         most (I.left source.old) (I.left source.new)) }
     ensures read { (I.has_failed source.new ≡ true)
         ↔ IsErrOf result (OpenSourceFault.Source SourceFault.Read) }

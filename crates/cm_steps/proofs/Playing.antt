@@ -21,7 +21,7 @@ use Rattle.cm_steps.specs.Alone.{step_line, with_rest, by_itself, step_count, ow
 use Rattle.cm_steps.specs.Ends.{finished_line, IsCutBy}
 use Rattle.cm_weave.specs.Woven.{Woven, IsOnItsWay}
 use Rattle.cm_weave.proofs.Following.{exchange_is}
-use Rattle.cm_steps.specs.Hearing.{exchange_in, BreaksOff, HasGone, HasPlayed}
+use Rattle.cm_steps.specs.Hearing.{exchange_in, BreaksOff, HasSentFront, HasPlayed}
 use Rattle.cm_steps.proofs.Going.{cut_text}
 
 -- ---- steps
@@ -157,7 +157,7 @@ module _ (exchange : Exchange) (is : HasItsKinds exchange) (start world : World)
     -- a step more
     pub plays_on : (new : World) (on : Option (List ℕ)) (kept : List ℕ) (now : ℕ) → is_possible exchange world step ≡ true
         → new ≡ world_after exchange world step → now < sent + 2 ^ 64
-        → HasGone (rest ++ step_line step) sent holds on kept now
+        → HasSentFront (rest ++ step_line step) sent holds on kept now
         → IsPlaying exchange start new held on kept (steps + 1) now
     plays_on new on kept now possible goes few has = record {
       done = mid.done ++ step ∷ [];
@@ -242,7 +242,7 @@ module _ (exchange : Exchange) (start world : World) (held holds : Option (List 
 
   -- all is told
   pub plays_told : (text : List ℕ) (on : Option (List ℕ)) (now : ℕ) → text ≡ rest ++ end_text steps
-      → HasGone text sent holds on [] now → Appends held on (own_text exchange start)
+      → HasSentFront text sent holds on [] now → Appends held on (own_text exchange start)
   plays_told text on now is goes =
       let last : goes.gone ≡ rest ++ end_text steps = sym (append-nil goes.gone) ∙ sym goes.text_is ∙ is in
       subst (Appends held on) (ap (λ (xs : List ℕ). has.gone ++ xs) last ∙ sym whole)

@@ -50,12 +50,12 @@ told_text exchange start text = world_answers exchange start (processed_step_lin
 -- ---- ends
 
 -- so many bytes of a text are written, not all
-pub record IsCut (text : List ℕ) (held holds : Option (List ℕ)) (count : ℕ) : Type 0 where
+pub record IsShortWrite (text : List ℕ) (held holds : Option (List ℕ)) (count : ℕ) : Type 0 where
   pub within : count < length text
   pub written : Appends held holds (take count text)
 
 -- some bytes of a text are written
-pub record IsBegun (text : List ℕ) (held holds : Option (List ℕ)) : Type 0 where
+pub record IsPartWritten (text : List ℕ) (held holds : Option (List ℕ)) : Type 0 where
   pub count : ℕ
   pub within : count ≤ length text
   pub written : Appends held holds (take count text)
@@ -77,8 +77,8 @@ pub record IsTold (exchange : Exchange) (text : List ℕ) (start : World) (last 
 
 -- a text is written in part: it was cut by a write, or for want of memory
 abbrev pub IsCutBy : List ℕ → Option (List ℕ) → Option (List ℕ) → WeaveFault → Type 0
-IsCutBy text held holds (Write count) = IsCut text held holds count
-IsCutBy text held holds Memory = IsBegun text held holds
+IsCutBy text held holds (Write count) = IsShortWrite text held holds count
+IsCutBy text held holds Memory = IsPartWritten text held holds
 IsCutBy text held holds Read = ⊥
 IsCutBy text held holds TooMuch = ⊥
 IsCutBy text held holds Unfinished = ⊥
@@ -115,10 +115,10 @@ pub record EndsByForSome (exchange : Exchange) (start : World) (held holds : Opt
   pub ends : EndsBy exchange text (Some []) start held holds fault
 
 -- it ended by a write
-abbrev pub is_write : {M : Type 0} → Result M WeaveFault → Bool
-is_write (Ok machine) = false
-is_write (Err Read) = false
-is_write (Err (Write count)) = true
-is_write (Err TooMuch) = false
-is_write (Err Memory) = false
-is_write (Err Unfinished) = false
+abbrev pub is_weave_write : {M : Type 0} → Result M WeaveFault → Bool
+is_weave_write (Ok machine) = false
+is_weave_write (Err Read) = false
+is_weave_write (Err (Write count)) = true
+is_weave_write (Err TooMuch) = false
+is_weave_write (Err Memory) = false
+is_weave_write (Err Unfinished) = false

@@ -64,14 +64,14 @@ pub record HasHeard (exchange : Exchange) (old new : World) (line kept piece : L
 -- ---- text as it goes
 
 -- of a text a front went out, behind so many bytes, and the rest is kept
-pub record HasGone (text : List ℕ) (sent : ℕ) (held holds : Option (List ℕ)) (rest : List ℕ) (now : ℕ) : Type 0 where
+pub record HasSentFront (text : List ℕ) (sent : ℕ) (held holds : Option (List ℕ)) (rest : List ℕ) (now : ℕ) : Type 0 where
   pub gone : List ℕ
   pub written : Appends held holds gone
   pub text_is : text ≡ gone ++ rest
   pub count_is : now ≡ sent + length gone
 
 -- of a text a front went out, behind so many bytes, and no more
-pub record IsCutOff (text : List ℕ) (sent : ℕ) (held holds : Option (List ℕ)) (count : ℕ) : Type 0 where
+pub record IsShortWriteBehind (text : List ℕ) (sent : ℕ) (held holds : Option (List ℕ)) (count : ℕ) : Type 0 where
   pub part : ℕ
   pub count_is : count ≡ sent + part
   pub within : part < length text
@@ -79,7 +79,7 @@ pub record IsCutOff (text : List ℕ) (sent : ℕ) (held holds : Option (List �
 
 -- how a text breaks off: cut by a write, or nothing of it went out
 abbrev pub BreaksOff : List ℕ → ℕ → Option (List ℕ) → Option (List ℕ) → WeaveFault → Type 0
-BreaksOff text sent held holds (Write count) = IsCutOff text sent held holds count
+BreaksOff text sent held holds (Write count) = IsShortWriteBehind text sent held holds count
 BreaksOff text sent held holds Memory = Appends held holds []
 BreaksOff text sent held holds Read = ⊥
 BreaksOff text sent held holds TooMuch = ⊥

@@ -8,8 +8,8 @@ ghost use Rattle.cm_exchange.specs.Steps.{is_possible, world_after};
 ghost use Rattle.cm_exchange.specs.Worlds.{IsFinished};
 ghost use Rattle.cm_session.specs.Answer.{line};
 ghost use Rattle.cm_steps.specs.Alone.{own_text, step_line};
-ghost use Rattle.cm_steps.specs.Ends.{finished_line, is_write, IsCutBy};
-ghost use Rattle.cm_steps.specs.Hearing.{exchange_in, BreaksOff, HasGone, HasPlayed, IsOfRun};
+ghost use Rattle.cm_steps.specs.Ends.{finished_line, is_weave_write, IsCutBy};
+ghost use Rattle.cm_steps.specs.Hearing.{exchange_in, BreaksOff, HasSentFront, HasPlayed, IsOfRun};
 
 use crate::fault::WeaveFault;
 use crate::outgoing::send;
@@ -44,7 +44,7 @@ pub fn weave_self<const N: usize, const CAP: usize, O: Sink>(
         (own_text (exchange_in N CAP world.entry) world.entry.world) }
     ensures err { IfErr result (IsCutBy (own_text (exchange_in N CAP world.entry) world.entry.world)
         (O.contents out.old) (O.contents out.new)) }
-    ensures write { O.has_failed out.new ≡ is_write result }
+    ensures write { O.has_failed out.new ≡ is_weave_write result }
 {
     let mut world = world;
     match tell_all(alloc, &mut world, out) {
@@ -70,7 +70,7 @@ fn tell_all<const N: usize, const CAP: usize, O: Sink>(
         (own_text (exchange_in N CAP world.old) world.old.world)) }
     ensures err { IfErr result (IsCutBy (own_text (exchange_in N CAP world.old) world.old.world)
         (O.contents out.old) (O.contents out.new)) }
-    ensures write { O.has_failed out.new ≡ is_write result }
+    ensures write { O.has_failed out.new ≡ is_weave_write result }
 {
     let mut text = Vec::new(alloc);
     let played = match play_on(world, &mut text, out) {
@@ -101,7 +101,7 @@ fn play_on<const N: usize, const CAP: usize, O: Sink>(
     ensures few { IfOk result (λ played. played.sent < 2 ^ 127) }
     ensures err { IfErr result (IsCutBy (own_text (exchange_in N CAP world.old) world.old.world)
         (O.contents out.old) (O.contents out.new)) }
-    ensures write { O.has_failed out.new ≡ is_write result }
+    ensures write { O.has_failed out.new ≡ is_weave_write result }
 {
     world.k();
     let mut steps = 0;
@@ -130,12 +130,13 @@ fn tell_step<const N: usize, const CAP: usize, O: Sink>(
     ensures run { IsOfRun world.old world.new }
     ensures world { OnOk result (world.new.world
         ≡ world_after (exchange_in N CAP world.old) world.old.world step) }
-    ensures ok { IfOk result (HasGone (text.old.items ++ step_line step) sent (O.contents out.old) (O.contents out.new)
+    ensures ok { IfOk result (HasSentFront (text.old.items
+        ++ step_line step) sent (O.contents out.old) (O.contents out.new)
         text.new.items) }
     ensures few { IfOk result (λ now. now < sent + 2 ^ 64) }
     ensures err { IfErr result (BreaksOff (text.old.items ++ step_line step) sent (O.contents out.old)
         (O.contents out.new)) }
-    ensures write { O.has_failed out.new ≡ is_write result }
+    ensures write { O.has_failed out.new ≡ is_weave_write result }
 {
     match push_step(text, step) {
         Ok(()) => {}

@@ -1,8 +1,8 @@
 //! Text on its way to a sink.
 
 ghost use Rattle.std.specs.Prelude.{◌≡◌, ◌+◌, ◌<◌, ◌^◌, [], false, length, is_err, IfOk, IfErr, OnOk};
-ghost use Rattle.cm_steps.specs.Ends.{is_write};
-ghost use Rattle.cm_steps.specs.Hearing.{HasGone, BreaksOff};
+ghost use Rattle.cm_steps.specs.Ends.{is_weave_write};
+ghost use Rattle.cm_steps.specs.Hearing.{HasSentFront, BreaksOff};
 
 use crate::fault::WeaveFault;
 use cm_bits::{Sink, write_all};
@@ -11,10 +11,10 @@ use cm_bits::{Sink, write_all};
 pub fn send<O: Sink>(text: &mut Vec<u8>, sent: u128, out: &mut O) -> Result<u128, WeaveFault>
     requires writer { O.has_failed out.old ≡ false }
     requires room { sent + length text.old.items < 2 ^ 128 }
-    ensures ok { IfOk result (HasGone text.old.items sent (O.contents out.old) (O.contents out.new) []) }
+    ensures ok { IfOk result (HasSentFront text.old.items sent (O.contents out.old) (O.contents out.new) []) }
     ensures none { OnOk result (text.new.items ≡ []) }
     ensures err { IfErr result (BreaksOff text.old.items sent (O.contents out.old) (O.contents out.new)) }
-    ensures failed { O.has_failed out.new ≡ is_write result }
+    ensures failed { O.has_failed out.new ≡ is_weave_write result }
 {
     match write_all(out, text) {
         Ok(()) => {

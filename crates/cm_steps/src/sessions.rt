@@ -3,7 +3,7 @@
 ghost use Rattle.std.specs.Prelude.{◌≡◌, ◌↔◌, ◌+◌, ◌<◌, ◌^◌, [], false, true, IfOk, IfErr, IfSome, IsOk, IsErrOf};
 ghost use Rattle.std.specs.Prelude.{MatchResult};
 ghost use Rattle.cm_model.specs.Machine.{run_of};
-ghost use Rattle.cm_steps.specs.Ends.{is_write, EndsBy, EndsByForSome, EndsFinished, EndsFinishedForSome};
+ghost use Rattle.cm_steps.specs.Ends.{is_weave_write, EndsBy, EndsByForSome, EndsFinished, EndsFinishedForSome};
 ghost use Rattle.cm_steps.specs.Hearing.{exchange_in, heard, BreaksOff, HasHeard, IsHeard, IsHeardForSome, IsOfRun};
 
 use crate::fault::WeaveFault;
@@ -41,7 +41,7 @@ pub fn weave_session<const N: usize, const CAP: usize, I: Source, O: Sink>(
         (O.contents out.new))
         (EndsByForSome (exchange_in N CAP world.entry) world.entry.world (O.contents out.old) (O.contents out.new)) }
     ensures read { (I.has_failed steps.new ≡ true) ↔ IsErrOf result WeaveFault.Read }
-    ensures write { O.has_failed out.new ≡ is_write result }
+    ensures write { O.has_failed out.new ≡ is_weave_write result }
 {
     let mut world = world;
     let sent = match hear_all(alloc, &mut world, steps, out) {
@@ -80,7 +80,7 @@ fn hear_all<const N: usize, const CAP: usize, I: Source, O: Sink>(
         (O.contents out.new))
         (EndsByForSome (exchange_in N CAP world.old) world.old.world (O.contents out.old) (O.contents out.new)) }
     ensures read { (I.has_failed steps.new ≡ true) ↔ IsErrOf result WeaveFault.Read }
-    ensures write { O.has_failed out.new ≡ is_write result }
+    ensures write { O.has_failed out.new ≡ is_weave_write result }
 {
     let mut line = Vec::new(alloc);
     let mut answers = Vec::new(alloc);
@@ -133,7 +133,7 @@ fn tell<const N: usize, const CAP: usize, O: Sink>(
     ensures err { IfErr result (BreaksOff (heard (exchange_in N CAP world.old)
         (record { world = world.old.world; line = line.old.items; answers = [] }) piece.now).answers sent
         (O.contents out.old) (O.contents out.new)) }
-    ensures write { O.has_failed out.new ≡ is_write result }
+    ensures write { O.has_failed out.new ≡ is_weave_write result }
 {
     answers.clear();
     match hear(world, piece, line, answers) {

@@ -38,5 +38,5 @@ unfoldable pub lines_below : ℕ → (ℕ → List ℕ) → List ℕ
 lines_below count line = flat_map line (range_with_len 0 count)
 
 -- the flags, then the planes of memory that are not 0
-unfoldable pub chip_text : List Processor → List ℕ
-chip_text chip = lines_below 16 (flag_line chip) ++ lines_below 4096 (memory_line chip)
+unfoldable pub chip_session_text : List Processor → List ℕ
+chip_session_text chip = lines_below 16 (flag_line chip) ++ lines_below 4096 (memory_line chip)

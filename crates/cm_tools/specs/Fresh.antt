@@ -4,7 +4,7 @@ use Rattle.cm_outside.specs.declared.program_fault.ProgramFault.{ProgramFault}
 use Rattle.cm_outside.specs.declared.program_fault.ProgramFault.TheVariants.{BadLine, Cap}
 
 -- the dimension and the room are looked at as the command line does, then the program's own rooms, 1 and 7
-abbrev pub fresh_fault : ℕ → ℕ → Option ProgramFault
-fresh_fault n cap =
+abbrev pub program_fresh_fault : ℕ → ℕ → Option ProgramFault
+program_fresh_fault n cap =
     if nat_lt 12 n || (cap == 0 || nat_lt 15 cap) then Some BadLine
     else if cap == 1 || cap == 7 then None else Some Cap

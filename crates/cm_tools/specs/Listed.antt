@@ -71,9 +71,9 @@ pub record EndsListingForSome (source rest held holds : Option (List ℕ)) (resu
   pub ends : EndsListing text held holds result
 
 -- it ended by a write
-abbrev pub is_write : Result (Unit {0}) ProgramFault → Bool
-is_write (Err Write) = true
-is_write _ = false
+abbrev pub is_listing_write : Result (Unit {0}) ProgramFault → Bool
+is_listing_write (Err Write) = true
+is_listing_write _ = false
 
 -- it came to the end of the text: the text was listed, or refused for what stands in it
 abbrev pub has_read_all : Result (Unit {0}) ProgramFault → Bool

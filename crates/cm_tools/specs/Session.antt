@@ -10,7 +10,7 @@ use Rattle.cm_language.specs.declared.fault.AsmFault.{AsmFault}
 use Rattle.cm_outside.specs.declared.fault.ChipFault.{ChipFault}
 use Rattle.cm_outside.specs.declared.fault.ChipFault.TheVariants.{Text, Read, Write, TooMuch, Memory}
 use Rattle.cm_tools.specs.Program.{nanos_of, IsChipFaultOf}
-use Rattle.cm_tools.specs.ChipText.{chip_text}
+use Rattle.cm_tools.specs.ChipText.{chip_session_text}
 
 -- the most bytes that a session reads
 abbrev pub CHIP_LIMIT : ℕ
@@ -22,7 +22,7 @@ chip_left nanos = chip_at (run_of 0 7 (blank_machine 0) (map Nano nanos)).chips 
 
 -- what is written for instructions that were read
 abbrev pub answer_to : Result (List Instruction) AsmFault → Result (List ℕ) AsmFault
-answer_to (Ok nanos) = Ok (chip_text (chip_left nanos))
+answer_to (Ok nanos) = Ok (chip_session_text (chip_left nanos))
 answer_to (Err fault) = Err fault
 
 -- what a session writes for a text, or its first faulty line
@@ -45,7 +45,7 @@ pub record IsCutShort (text : List ℕ) (held holds : Option (List ℕ)) (count 
   pub written : Appends held holds (take count answer)
 
 -- the text is refused, and nothing was written
-pub record IsRefused (text : List ℕ) (held holds : Option (List ℕ)) (fault : AsmFault) : Type 0 where
+pub record IsTextRefused (text : List ℕ) (held holds : Option (List ℕ)) (fault : AsmFault) : Type 0 where
   pub within : length text ≤ CHIP_LIMIT
   pub is : IsChipFaultOf text fault
   pub nothing : Keeps held holds
@@ -56,25 +56,25 @@ pub record IsTooLong (text : List ℕ) (held holds : Option (List ℕ)) : Type 0
   pub nothing : Keeps held holds
 
 -- how a session ends whose source has this text
-abbrev pub Ends : List ℕ → Option (List ℕ) → Option (List ℕ) → Result (Unit {0}) ChipFault → Type 0
-Ends text held holds (Ok done) = IsAnswered text held holds
-Ends text held holds (Err (Text fault)) = IsRefused text held holds fault
-Ends text held holds (Err Read) = Keeps held holds
-Ends text held holds (Err (Write count)) = IsCutShort text held holds count
-Ends text held holds (Err TooMuch) = IsTooLong text held holds
-Ends text held holds (Err Memory) = Keeps held holds
+abbrev pub ChipSessionEnds : List ℕ → Option (List ℕ) → Option (List ℕ) → Result (Unit {0}) ChipFault → Type 0
+ChipSessionEnds text held holds (Ok done) = IsAnswered text held holds
+ChipSessionEnds text held holds (Err (Text fault)) = IsTextRefused text held holds fault
+ChipSessionEnds text held holds (Err Read) = Keeps held holds
+ChipSessionEnds text held holds (Err (Write count)) = IsCutShort text held holds count
+ChipSessionEnds text held holds (Err TooMuch) = IsTooLong text held holds
+ChipSessionEnds text held holds (Err Memory) = Keeps held holds
 
 -- a source, of which that is left in the end, gave some text, and it ended so as of that text and nothing more: this can
 -- be said of a source that does not tell its bytes
 pub record EndsForSome (source rest held holds : Option (List ℕ)) (result : Result (Unit {0}) ChipFault) : Type 0 where
   pub text : List ℕ
   pub read : Consumes source rest text
-  pub ends : Ends text held holds result
+  pub ends : ChipSessionEnds text held holds result
 
 -- the session ended by a write
-abbrev pub is_write : Result (Unit {0}) ChipFault → Bool
-is_write (Err (Write count)) = true
-is_write _ = false
+abbrev pub is_chip_write : Result (Unit {0}) ChipFault → Bool
+is_chip_write (Err (Write count)) = true
+is_chip_write _ = false
 
 -- the session came to the end of its text: it was answered, or refused for what stands in it
 abbrev pub has_read_all : Result (Unit {0}) ChipFault → Bool

@@ -12,11 +12,11 @@ use Rattle.cm_outside.specs.declared.program_fault.ProgramFault.{ProgramFault}
 use Rattle.cm_outside.specs.declared.program_fault.ProgramFault.TheVariants.{Read, Memory}
 use Rattle.cm_outside.specs.ProgramFault.{of_chip}
 use Rattle.cm_outside.specs.Take.{ConsumesAtMost}
-use Rattle.cm_tools.specs.Session.{CHIP_LIMIT, Ends, EndsForSome, has_read_all as has_heard_all}
-use Rattle.cm_tools.specs.Session.{is_write as is_chip_write}
+use Rattle.cm_tools.specs.Session.{CHIP_LIMIT, ChipSessionEnds, EndsForSome, has_read_all as has_heard_all}
+use Rattle.cm_tools.specs.Session.{is_chip_write}
 use Rattle.cm_outside.specs.Takings.{PROGRAM_LIMIT}
-use Rattle.cm_tools.specs.Listed.{EndsListing, EndsListingForSome, has_read_all, is_write}
-use Rattle.cm_tools.specs.Fresh.{fresh_fault}
+use Rattle.cm_tools.specs.Listed.{EndsListing, EndsListingForSome, has_read_all, is_listing_write}
+use Rattle.cm_tools.specs.Fresh.{program_fresh_fault}
 use Rattle.cm_outside.specs.Deeds.{Deed, Opened}
 use Rattle.cm_outside.specs.Takings.{Reads}
 use Rattle.cm_outside.specs.Puttings.{Flushes, Puts}
@@ -31,7 +31,7 @@ chip_end (Err fault) = Err (of_chip fault)
 pub record DoesChip {F P : Type 0} (streams : Streams) (result : Result (Unit {0}) ProgramFault)
     (deeds : List (Deed F P)) : Type 0 where
   pub ended : Result (Unit {0}) ChipFault
-  pub ends : IfSome streams.lines (λ text. Ends text streams.held streams.holds ended)
+  pub ends : IfSome streams.lines (λ text. ChipSessionEnds text streams.held streams.holds ended)
   pub heard : EndsForSome streams.lines streams.rest streams.held streams.holds ended
   pub end : IsTrue (has_heard_all ended) → IsAtEnd streams.rest
   pub read : (streams.read_failed ≡ true) ↔ IsErrOf ended chip.Read
@@ -51,7 +51,7 @@ pub record ListsOut {F P : Type 0} (reads : Reads F) (file : F) (held holds : Op
   pub read : (reads.has_failed after ≡ true) ↔ IsErrOf ended Read
   pub read_within : IsErrOf ended Read → ConsumesAtMost PROGRAM_LIMIT (reads.left file) (reads.left after)
   pub memory_within : IsErrOf ended Memory → ConsumesAtMost PROGRAM_LIMIT (reads.left file) (reads.left after)
-  pub write : failed ≡ is_write ended
+  pub write : failed ≡ is_listing_write ended
   pub then : Flushes holds ended result deeds
 
 -- the same of a file that was to be opened
@@ -73,8 +73,8 @@ pub record DoesList {F P : Type 0} (reads : Reads F) (path : List ℕ) (held hol
 -- the image of a blank machine, or why there is none
 pub record IsBlankImage (n cap : ℕ) (made : Result (Vec ℕ Global) ProgramFault) : Type 0 where
   pub value : IfOk made (λ image. image.items ≡ text_of n cap (blank_machine n))
-  pub refused : IfSome (fresh_fault n cap) (λ fault. IsErrOf made fault)
-  pub otherwise : fresh_fault n cap ≡ None → IsOkUnless made Memory
+  pub refused : IfSome (program_fresh_fault n cap) (λ fault. IsErrOf made fault)
+  pub otherwise : program_fresh_fault n cap ≡ None → IsOkUnless made Memory
 
 -- an image that was made is put where the path says
 abbrev pub PutsMade : {F P : Type 0} → List ℕ → Result (Vec ℕ Global) ProgramFault → Result (Unit {0}) ProgramFault

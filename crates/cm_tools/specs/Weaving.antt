@@ -8,7 +8,7 @@ use Rattle.cm_weave.specs.Woven.{Woven}
 use Rattle.cm_steps.specs.declared.fault.WeaveFault.{WeaveFault}
 use Rattle.cm_steps.specs.declared.fault.WeaveFault.TheVariants as weave
 use Rattle.cm_steps.specs.Alone.{own_text}
-use Rattle.cm_steps.specs.Ends.{EndsBy, EndsByForSome, EndsFinished, EndsFinishedForSome, IsCutBy, is_write}
+use Rattle.cm_steps.specs.Ends.{EndsBy, EndsByForSome, EndsFinished, EndsFinishedForSome, IsCutBy, is_weave_write}
 use Rattle.cm_steps.specs.Hearing.{exchange_in}
 use Rattle.cm_outside.specs.declared.program_fault.ProgramFault.{ProgramFault}
 use Rattle.cm_outside.specs.ProgramFault.{of_weave}
@@ -22,8 +22,8 @@ pub record Outgoing : Type 0 where
   pub failed : Bool
 
 -- the same of its parts
-abbrev pub outgoing : Option (List ℕ) → Option (List ℕ) → Bool → Outgoing
-outgoing held holds failed = record { held = held; holds = holds; failed = failed }
+abbrev pub outgoing_of : Option (List ℕ) → Option (List ℕ) → Bool → Outgoing
+outgoing_of held holds failed = record { held = held; holds = holds; failed = failed }
 
 -- how an exchange ended, whatever machine it left
 abbrev pub ended_of : {M : Type 0} → Result M WeaveFault → Result (Unit {0}) WeaveFault
@@ -72,5 +72,5 @@ pub record IsWoven {F : Type 0} (reads : Reads F) (n cap : ℕ) (woven : Woven) 
     (out : Outgoing) (ran : Result (Option (List ℕ)) ProgramFault) : Type 0 where
   pub ended : Result (Unit {0}) WeaveFault
   pub ends : EndsExchange reads (exchange_in n cap woven) woven.world file out ended
-  pub write : out.failed ≡ is_write ended
+  pub write : out.failed ≡ is_weave_write ended
   pub kept : KeepsLeft n cap (run_of n cap woven.machine woven.acts) keeps ended ran

@@ -3,7 +3,7 @@
 ghost use Rattle.std.specs.Prelude.{◌≡◌, None, IfOk, IfSome, IsErrOf, IsOkUnless};
 ghost use Rattle.cm_model.specs.Machine.{blank_machine};
 ghost use Rattle.cm_image_format.specs.Whole.{text_of};
-ghost use Rattle.cm_tools.specs.Fresh.{fresh_fault};
+ghost use Rattle.cm_tools.specs.Fresh.{program_fresh_fault};
 
 use cm_image::blank_image;
 use cm_outside::ProgramFault;
@@ -14,8 +14,8 @@ use std::alloc::Global;
 /// has machines of room 1 and 7 alone.
 pub fn fresh(alloc: Global, n: u8, cap: u8) -> Result<Vec<u8>, ProgramFault>
     ensures value { IfOk result (λ image. image.items ≡ text_of n cap (blank_machine n)) }
-    ensures refused { IfSome (fresh_fault n cap) (λ fault. IsErrOf result fault) }
-    ensures otherwise { fresh_fault n cap ≡ None → IsOkUnless result ProgramFault.Memory }
+    ensures refused { IfSome (program_fresh_fault n cap) (λ fault. IsErrOf result fault) }
+    ensures otherwise { program_fresh_fault n cap ≡ None → IsOkUnless result ProgramFault.Memory }
 {
     if n > 12 || cap == 0 || cap > 15 {
         return Err(ProgramFault::BadLine);

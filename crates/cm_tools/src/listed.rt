@@ -4,7 +4,7 @@ ghost use Rattle.std.specs.Prelude.{◌≡◌, ◌↔◌, true, false, IfSome, I
 ghost use Rattle.std.specs.Io.KnownBytes.{IsAtEnd};
 ghost use Rattle.cm_outside.specs.Take.{ConsumesAtMost};
 ghost use Rattle.cm_tools.specs.Listed.{EndsListing, EndsListingForSome, IsListingOf, HasNoListing, has_read_all};
-ghost use Rattle.cm_tools.specs.Listed.{is_write};
+ghost use Rattle.cm_tools.specs.Listed.{is_listing_write};
 
 use cm_asm::assemble;
 use cm_bits::{Sink, Source, write_all};
@@ -32,7 +32,7 @@ pub fn list<I: Source, O: Sink>(
         → ConsumesAtMost PROGRAM_LIMIT (I.left source.old) (I.left source.new) }
     ensures memory_within { IsErrOf result ProgramFault.Memory
         → ConsumesAtMost PROGRAM_LIMIT (I.left source.old) (I.left source.new) }
-    ensures write { O.has_failed sink.new ≡ is_write result }
+    ensures write { O.has_failed sink.new ≡ is_listing_write result }
 {
     let text = match take(alloc, source, PROGRAM_LIMIT) {
         Ok(text) => text,

@@ -3,7 +3,8 @@
 ghost use Rattle.std.specs.Prelude.{◌≡◌, ◌<◌, ◌^◌, ◌↔◌, true, false, length, Ok, IfSome, IsErrOf, IsTrue, MatchResult};
 ghost use Rattle.std.specs.Io.KnownBytes.{IsAtEnd};
 ghost use Rattle.cm_outside.specs.Take.{ConsumesAtMost};
-ghost use Rattle.cm_tools.specs.Session.{Ends, EndsForSome, has_read_all, is_write, answer_of, HasNoAnswer};
+ghost use Rattle.cm_tools.specs.Session.{ChipSessionEnds, EndsForSome, has_read_all, is_chip_write, answer_of};
+ghost use Rattle.cm_tools.specs.Session.{HasNoAnswer};
 
 use crate::one_chip::run_chip;
 use crate::program::read_program;
@@ -23,7 +24,8 @@ pub fn chip_session<I: Source, O: Sink>(
 ) -> Result<(), ChipFault>
     requires reader { I.has_failed source.old ≡ false }
     requires writer { O.has_failed sink.old ≡ false }
-    ensures ends { IfSome (I.left source.old) (λ text. Ends text (O.contents sink.old) (O.contents sink.new) result) }
+    ensures ends { IfSome (I.left source.old)
+        (λ text. ChipSessionEnds text (O.contents sink.old) (O.contents sink.new) result) }
     ensures heard { EndsForSome (I.left source.old) (I.left source.new) (O.contents sink.old) (O.contents sink.new)
         result }
     ensures end { IsTrue (has_read_all result) → IsAtEnd (I.left source.new) }
@@ -32,7 +34,7 @@ pub fn chip_session<I: Source, O: Sink>(
         → ConsumesAtMost CHIP_LIMIT (I.left source.old) (I.left source.new) }
     ensures memory_within { IsErrOf result ChipFault.Memory
         → ConsumesAtMost CHIP_LIMIT (I.left source.old) (I.left source.new) }
-    ensures write { O.has_failed sink.new ≡ is_write result }
+    ensures write { O.has_failed sink.new ≡ is_chip_write result }
 {
     let text = match take(alloc, source, CHIP_LIMIT) {
         Ok(text) => text,

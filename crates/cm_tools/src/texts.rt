@@ -3,7 +3,7 @@
 ghost use Rattle.std.specs.Prelude.{◌≡◌, ◌<◌, ◌++◌, OnOk, IfOk};
 ghost use Rattle.cm_tools.specs.ChipText.{plane_text, plane_line, flag_plane, memory_plane, flag_line};
 ghost use Rattle.cm_language.specs.Listing.{hex_digit};
-ghost use Rattle.cm_tools.specs.ChipText.{memory_line, lines_below, chip_text};
+ghost use Rattle.cm_tools.specs.ChipText.{memory_line, lines_below, chip_session_text};
 
 use cm_bits::{Addr, FlagNo, Plane};
 use cm_element::ChipView;
@@ -16,7 +16,7 @@ const ADDRESSES: u16 = 4096;
 
 /// The flag planes, then each plane of memory that is not 0, addresses rising.
 pub fn chip_text(alloc: Global, chip: &ChipView<'_>) -> Result<Vec<u8>, AllocError>
-    ensures value { IfOk result (λ text. text.items ≡ chip_text chip.now) }
+    ensures value { IfOk result (λ text. text.items ≡ chip_session_text chip.now) }
 {
     let mut text = Vec::new(alloc);
     push_flags(&mut text, chip)?;

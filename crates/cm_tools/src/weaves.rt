@@ -2,12 +2,12 @@
 
 ghost use Rattle.std.specs.Prelude.{◌≡◌, false, IfOk, IfErr, IfSome, option_map, string_bytes};
 ghost use Rattle.cm_model.specs.Machine.{run_of};
-ghost use Rattle.cm_steps.specs.Ends.{is_write};
+ghost use Rattle.cm_steps.specs.Ends.{is_weave_write};
 ghost use Rattle.cm_steps.specs.Hearing.{exchange_in};
 ghost use Rattle.cm_sizes.specs.Sizes.{sized};
 ghost use Rattle.cm_outside.specs.Deeds.{Did};
 ghost use Rattle.cm_outside.specs.Takings.{reads_by};
-ghost use Rattle.cm_tools.specs.Weaving.{EndsExchange, ended_of, outgoing};
+ghost use Rattle.cm_tools.specs.Weaving.{EndsExchange, ended_of, outgoing_of};
 ghost use Rattle.cm_tools.specs.Weaves.{DoesWeave, OpensEnds, OpensSteps, RefusesEnds, RefusesSteps, WeavesAt, WeavesWorld};
 
 use cm_array::Machine;
@@ -47,7 +47,7 @@ pub fn weave_files<H: Outside, O: Sink>(
 ) -> Result<(), ProgramFault>
     requires writer { O.has_failed answers.old ≡ false }
     ensures does { Did H.does outside.old outside.new (DoesWeave (reads_by H.File.left H.File.has_failed) line.now
-        (outgoing (O.contents answers.old) (O.contents answers.new) (O.has_failed answers.new)) result) }
+        (outgoing_of (O.contents answers.old) (O.contents answers.new) (O.has_failed answers.new)) result) }
 {
     match take_both(alloc, outside, line.image.as_str(), line.program.as_str()) {
         Ok(taken) => {
@@ -70,7 +70,7 @@ fn weave_any<H: Outside, O: Sink>(
     requires writer { O.has_failed answers.old ≡ false }
     ensures does { Did H.does outside.old outside.new (WeavesAt (reads_by H.File.left H.File.has_failed) line.now
         (sized machine) program.now.acts
-        (outgoing (O.contents answers.old) (O.contents answers.new) (O.has_failed answers.new)) result) }
+        (outgoing_of (O.contents answers.old) (O.contents answers.new) (O.has_failed answers.new)) result) }
 {
     on_machine!(machine, machine => weave_machine(alloc, outside, line, machine, program, answers))
 }
@@ -87,7 +87,7 @@ fn weave_machine<const N: usize, const CAP: usize, H: Outside, O: Sink>(
     requires writer { O.has_failed answers.old ≡ false }
     ensures does { Did H.does outside.old outside.new (WeavesAt (reads_by H.File.left H.File.has_failed)
         line.now (record { n = N; cap = CAP; machine = machine.entry.machine }) program.now.acts
-        (outgoing (O.contents answers.old) (O.contents answers.new) (O.has_failed answers.new)) result) }
+        (outgoing_of (O.contents answers.old) (O.contents answers.new) (O.has_failed answers.new)) result) }
 {
     match World::new(alloc, machine, program.acts(), line.split) {
         Ok(world) => weave_world(alloc, outside, line, world, answers),
@@ -107,7 +107,7 @@ fn weave_world<const N: usize, const CAP: usize, H: Outside, O: Sink>(
     requires writer { O.has_failed answers.old ≡ false }
     ensures does { Did H.does outside.old outside.new (WeavesWorld (reads_by H.File.left H.File.has_failed) line.now
         N CAP world.entry
-        (outgoing (O.contents answers.old) (O.contents answers.new) (O.has_failed answers.new)) result) }
+        (outgoing_of (O.contents answers.old) (O.contents answers.new) (O.has_failed answers.new)) result) }
 {
     let Ends { steps, part } = match open_ends(alloc, outside, line) {
         Ok(ends) => ends,
@@ -170,8 +170,8 @@ fn step_world<const N: usize, const CAP: usize, I: Source + Drop, O: Sink>(
     requires writer { O.has_failed answers.old ≡ false }
     ensures machine { IfOk result (λ done. done.machine ≡ run_of N CAP world.entry.machine world.entry.acts) }
     ensures ends { EndsExchange (reads_by I.left I.has_failed) (exchange_in N CAP world.entry) world.entry.world steps
-        (outgoing (O.contents answers.old) (O.contents answers.new) (O.has_failed answers.new)) (ended_of result) }
-    ensures write { O.has_failed answers.new ≡ is_write result }
+        (outgoing_of (O.contents answers.old) (O.contents answers.new) (O.has_failed answers.new)) (ended_of result) }
+    ensures write { O.has_failed answers.new ≡ is_weave_write result }
 {
     match steps {
         Some(mut steps) => weave_session(alloc, world, &mut steps, answers),

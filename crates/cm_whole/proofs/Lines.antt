@@ -11,7 +11,7 @@ use Rattle.cm_session.specs.Session.{Session, Answered, preceded_by, everywhere,
 use Rattle.cm_session.specs.Session.{opening, after_line, after_lines}
 use Rattle.cm_session.specs.Laws.{LinesCanBeParted}
 use Rattle.cm_whole.specs.Inputs.{Setup, session_at, written_at, next_line}
-use Rattle.cm_whole.specs.Acts.{Does, DoesAsRead, IsDone}
+use Rattle.cm_whole.specs.Acts.{Does, DoesAsRead, IsLineDone}
 use Rattle.cm_whole.proofs.Going.{goes_on}
 
 does : (n cap : ℕ) (acts : List Act) (before : Session) (asked : Command) → length before.machine.buffers ≡ 2 ^ n
@@ -49,7 +49,7 @@ one_more parted setup before line =
     parted setup.n setup.cap setup.program.acts (opening setup.machine (length setup.program.acts)) before (line ∷ [])
 
 pub is_done : LinesCanBeParted → (setup : Setup) (before : List (List ℕ)) (line : List ℕ)
-    → length (session_at setup before).machine.buffers ≡ 2 ^ setup.n → IsDone setup before line
+    → length (session_at setup before).machine.buffers ≡ 2 ^ setup.n → IsLineDone setup before line
 unfolding after_line
 is_done parted setup before line long =
     let both = one_more parted setup before line in

@@ -70,7 +70,7 @@ DoesAsRead n cap acts before after (Ok (Some asked)) = Does n cap acts before af
 DoesAsRead n cap acts before after _ = after.session ≡ before
 
 -- a line that comes next is done: its answer is written behind what was written, and its command does what it is for
-pub record IsDone (setup : Setup) (before : List (List ℕ)) (line : List ℕ) : Type 0 where
+pub record IsLineDone (setup : Setup) (before : List (List ℕ)) (line : List ℕ) : Type 0 where
   pub session_is : session_at setup (before ++ line ∷ []) ≡ (next_line setup before line).session
   pub written : written_at setup (before ++ line ∷ []) ≡ written_at setup before ++ (next_line setup before line).answer
   pub does : DoesAsRead setup.n setup.cap setup.program.acts (session_at setup before) (next_line setup before line)

@@ -12,7 +12,7 @@ use Rattle.cm_language.specs.Program.{Reading}
 use Rattle.cm_language.specs.Places.{IsMacroOf}
 use Rattle.cm_session.specs.Whole.{HaveNoPoke, HasRun, HasDoneMacro, IsDeliveryIn}
 use Rattle.cm_whole.specs.Inputs.{Inputs, Setup, AreAccepted, ComeNext, session_at, machine_left}
-use Rattle.cm_whole.specs.Acts.{IsDone}
+use Rattle.cm_whole.specs.Acts.{IsLineDone}
 
 -- these lines come next, and none of them puts a bit into the machine
 pub record ComeWithoutPoke (inputs : Inputs) (setup : Setup) (before lines : List (List ℕ)) : Type 0 where
@@ -32,7 +32,7 @@ pub record RunWhole (inputs : Inputs) (setup : Setup) (r : Reading) (m : Macro) 
 pub record IsAsWritten (inputs : Inputs) (setup : Setup) : Type 0 where
   -- what it writes, line by line, and what each line does: acts go one after another
   pub lines : (before : List (List ℕ)) (line : List ℕ) → ComeNext inputs.commands before (line ∷ [])
-      → IsDone setup before line
+      → IsLineDone setup before line
   -- so lines without a poke leave the machine after the acts between the two places where the session stands
   pub acts : (before lines : List (List ℕ)) → ComeWithoutPoke inputs setup before lines
       → HasRun setup.n setup.cap setup.program.acts (session_at setup before) (session_at setup (before ++ lines))

@@ -2,7 +2,7 @@ use Rattle.std.proofs.Common.{◌≡◌, ◌++◌, Err, ap}
 use Rattle.cm_image_format.specs.Reading.{fault_in}
 use Rattle.cm_image_format.specs.Whole.{read_image}
 use Rattle.cm_sizes.specs.declared.opening.OpenFault.TheVariants.{Image}
-use Rattle.cm_sizes.specs.Opening.{opened}
+use Rattle.cm_sizes.specs.Opening.{image_opened}
 use Rattle.cm_sizes.proofs.Opened.{opened_ok, opened_err}
 use Rattle.cm_sizes.proofs.Sourcing.{reads_so, rest_so, stopped_so}
 use Rattle.cm_sizes.proofs.opening.machine_behind.Goals as goal
@@ -18,7 +18,7 @@ pub returns-in-Err-clause-refused : goal.returns-in-Err-clause-refused
 returns-in-Err-clause-refused g c =
     stopped_so c.args.most (g.I.Source.left c.args.source.now) (g.I.Source.left c.load_source.new.source)
     (λ own more. read_image g.row.N g.row.CAP (c.args.front.now ++ more) ≡ Err own)
-    (λ own more. opened (c.args.front.now ++ more) ≡ Err (Image own)) c.in-Err.fault
+    (λ own more. image_opened (c.args.front.now ++ more) ≡ Err (Image own)) c.in-Err.fault
     (λ own more is. opened_err (c.args.front.now ++ more) g.row.N g.row.CAP own
     (c.shapes_go_on.ensures c.args.front.now more (g.row.N, g.row.CAP) c.requires.shape) c.requires.own (ap fault_in is))
     c.in-Err.ensures.refused

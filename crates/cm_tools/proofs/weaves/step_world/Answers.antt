@@ -1,6 +1,6 @@
 use Rattle.cm_steps.specs.Hearing.{exchange_in}
 use Rattle.cm_outside.specs.Takings.{reads_by}
-use Rattle.cm_tools.specs.Weaving.{outgoing}
+use Rattle.cm_tools.specs.Weaving.{outgoing_of}
 use Rattle.cm_tools.proofs.Weaving.{hears_so, tells_so}
 use Rattle.cm_tools.proofs.weaves.step_world.Goals as goal
 
@@ -9,7 +9,7 @@ returns-in-Some g c = rw c.in-Some.is (record {
   machine = c.weave_session.ensures.machine;
   ends = hears_so (reads_by g.I.Source.left g.I.Source.has_failed) (exchange_in g.row.N g.row.CAP c.args.world)
       c.args.world.world c.in-Some.steps c.weave_session.new.steps
-      (outgoing (g.O.Sink.contents c.args.answers.now) (g.O.Sink.contents c.weave_session.new.out)
+      (outgoing_of (g.O.Sink.contents c.args.answers.now) (g.O.Sink.contents c.weave_session.new.out)
       (g.O.Sink.has_failed c.weave_session.new.out))
       c.weave_session.result c.weave_session.ensures.finished c.weave_session.ensures.err
       c.weave_session.ensures.heard c.weave_session.ensures.read;
@@ -20,7 +20,7 @@ pub returns-in-None : goal.returns-in-None
 returns-in-None g c = rw c.in-None.is (record {
   machine = c.weave_self.ensures.machine;
   ends = tells_so (exchange_in g.row.N g.row.CAP c.args.world) c.args.world.world
-      (outgoing (g.O.Sink.contents c.args.answers.now) (g.O.Sink.contents c.weave_self.new.out)
+      (outgoing_of (g.O.Sink.contents c.args.answers.now) (g.O.Sink.contents c.weave_self.new.out)
       (g.O.Sink.has_failed c.weave_self.new.out))
       c.weave_self.result c.weave_self.ensures.ok c.weave_self.ensures.err;
   write = c.weave_self.ensures.write;
