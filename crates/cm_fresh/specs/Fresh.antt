@@ -38,15 +38,15 @@ wire_fault n None = None
 wire_fault n (Some end) = Some (no_wire n end.chip end.dim)
 
 -- the first fault: of the dimension, the room, the ends in their order, the rule
-abbrev pub or_fault : Option FreshFault → Option FreshFault → Option FreshFault
-or_fault None later = later
-or_fault (Some fault) later = Some fault
+abbrev pub or_fresh_fault : Option FreshFault → Option FreshFault → Option FreshFault
+or_fresh_fault None later = later
+or_fresh_fault (Some fault) later = Some fault
 
 abbrev pub fresh_fault : ℕ → ℕ → List WireEnd → ℕ → Option FreshFault
 fresh_fault n room ends rule =
     if nat_lt 12 n then Some (Dimension n)
     else if room == 0 || nat_lt 15 room then Some (Room room)
-    else or_fault (wire_fault n (find (is_stray n) ends)) (if nat_lt 1 rule then Some (no_rule rule) else None)
+    else or_fresh_fault (wire_fault n (find (is_stray n) ends)) (if nat_lt 1 rule then Some (no_rule rule) else None)
 
 -- the text, unless there is a fault
 abbrev pub unless_fault : Option FreshFault → List ℕ → Result (List ℕ) FreshFault

@@ -29,7 +29,7 @@ use Rattle.cm_front.specs.declared.for_all.Asked.{Asked}
 use Rattle.cm_front.specs.declared.for_all.Asked.TheVariants.{Get, GetFlag, GetBuffers, Put, Standing, Clock, Image}
 use Rattle.cm_front.specs.declared.for_all.Asked.TheVariants.{Forget}
 use Rattle.cm_front.specs.ForAll.{is_for_all, asked_of}
-use Rattle.cm_front.specs.Telling.{numbers_lines, standing_line, image_lines}
+use Rattle.cm_front.specs.Telling.{numbers_lines, standing_counts_line, image_lines}
 
 -- a front end between two lines
 pub record Front : Type 0 where
@@ -135,7 +135,7 @@ for_all_obeyed n cap machine GetBuffers numbers =
     done machine (numbers_lines (chip_rows n) (chip_columns n) (buffered n machine))
 for_all_obeyed n cap machine (Put field) numbers =
     done (machine_with_numbers n by_chips field.at field.len numbers machine) ok_line
-for_all_obeyed n cap machine Standing numbers = done machine (standing_line n machine)
+for_all_obeyed n cap machine Standing numbers = done machine (standing_counts_line n machine)
 for_all_obeyed n cap machine Clock numbers = done machine (line (codes "clock" ∷ decimal machine.clock ∷ []))
 for_all_obeyed n cap machine Image numbers = done machine (image_lines (text_of n cap machine))
 for_all_obeyed n cap machine Forget numbers = done (unlogged n machine) ok_line

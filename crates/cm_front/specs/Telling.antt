@@ -5,23 +5,23 @@ use Rattle.cm_model.specs.Machine.{Machine}
 use Rattle.cm_language.specs.Listing.{hex_digit}
 use Rattle.cm_session.specs.Answer.{line}
 use Rattle.cm_figures.specs.Numbers.{numbers_text}
-use Rattle.cm_study.specs.Counts.{standing_at, asking_at}
+use Rattle.cm_study.specs.Counts.{standing_count_at, asking_at}
 
 -- numbers, so many in a line, after a line that tells how many lines they are
 abbrev pub numbers_lines : ℕ → ℕ → List ℕ → List ℕ
 numbers_lines count width numbers = line (codes "numbers" ∷ decimal count ∷ []) ++ numbers_text width 0 numbers
 
 -- how many messages stand in all routers
-abbrev pub standing : ℕ → Machine → ℕ
-standing n machine = sum (each_from 0 (2 ^ n) (standing_at machine))
+abbrev pub standing_count : ℕ → Machine → ℕ
+standing_count n machine = sum (each_from 0 (2 ^ n) (standing_count_at machine))
 
 -- how many processors ask
 abbrev pub asking : ℕ → Machine → ℕ
 asking n machine = sum (each_from 0 (2 ^ n) (asking_at machine))
 
 -- both
-abbrev pub standing_line : ℕ → Machine → List ℕ
-standing_line n machine = line (codes "standing" ∷ decimal (standing n machine) ∷ decimal (asking n machine) ∷ [])
+abbrev pub standing_counts_line : ℕ → Machine → List ℕ
+standing_counts_line n machine = line (codes "standing" ∷ decimal (standing_count n machine) ∷ decimal (asking n machine) ∷ [])
 
 -- what stands behind byte i of so many: the end of a line behind each thirty-second and the last
 abbrev pub behind_byte : ℕ → ℕ → List ℕ

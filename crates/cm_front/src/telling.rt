@@ -9,7 +9,8 @@ ghost use Rattle.cm_lab.specs.declared.order.Order.TheVariants.{Chips};
 ghost use Rattle.cm_lab.specs.Data.{numbers_of, flags_of};
 ghost use Rattle.cm_lab.specs.Pictures.{buffered, chip_rows};
 ghost use Rattle.cm_model.specs.Place.{chip_columns};
-ghost use Rattle.cm_front.specs.Telling.{numbers_lines, standing, asking, standing_line, behind_byte, hex_text};
+ghost use Rattle.cm_front.specs.Telling.{numbers_lines, standing_count, asking, standing_counts_line, behind_byte};
+ghost use Rattle.cm_front.specs.Telling.{hex_text};
 ghost use Rattle.cm_front.specs.Telling.{image_lines};
 
 use cm_array::Machine;
@@ -98,7 +99,7 @@ pub fn push_standing<const N: usize, const CAP: usize>(
     text: &mut Vec<u8>,
     machine: &Machine<N, CAP>,
 ) -> Result<(), NoMemory>
-    ensures ok { OnOk result (text.new.items ≡ text.old.items ++ standing_line N machine.now.machine) }
+    ensures ok { OnOk result (text.new.items ≡ text.old.items ++ standing_counts_line N machine.now.machine) }
 {
     push_words(text, b"standing ")?;
     cm_digits::push_number(text, standing(machine), b' ')?;
@@ -107,7 +108,7 @@ pub fn push_standing<const N: usize, const CAP: usize>(
 
 /// How many messages stand in all routers.
 fn standing<const N: usize, const CAP: usize>(machine: &Machine<N, CAP>) -> u128
-    ensures value { result ≡ standing N machine.now.machine }
+    ensures value { result ≡ standing_count N machine.now.machine }
 {
     // For the prover alone: a call brings in what holds of every machine.
     let _dims = machine.dims();

@@ -19,7 +19,7 @@ use Rattle.cm_figures.specs.Pictures.{Dots}
 use Rattle.cm_lab.specs.declared.order.Order.TheVariants.{Rows as by_rows}
 use Rattle.cm_lab.specs.declared.pictures.Shown.TheVariants.{Flag, Number, Buffers}
 use Rattle.cm_lab.specs.Data.{processors, place_in, numbers_of, flags_of, machine_with_numbers}
-use Rattle.cm_lab.specs.Pictures.{chip_rows, buffered, greatest_of, picture_of, bits_from, bits_of}
+use Rattle.cm_lab.specs.Pictures.{chip_rows, buffered, greatest_number, machine_picture, bits_from, depth_of_greatest}
 use Rattle.cm_lab.specs.PictureLaws.{AreDotsOfPlaces}
 use Rattle.cm_lab.proofs.Orders.{grid_size}
 use Rattle.cm_lab.proofs.ReadingBack.{numbers_read_back}
@@ -67,8 +67,8 @@ bits_from-greatest greatest len (suc more) found h =
 pub pictures_read_back : (n cap at len : ℕ) (picture : Dots) (machine : Machine)
     → IsMachine n cap machine → picture.width ≡ columns n → picture.height ≡ rows n
     → length picture.dots ≡ processors n → All (λ dot. dot ≤ picture.greatest) picture.dots
-    → bits_of picture.greatest ≡ Some len → at + len ≤ 4096
-    → picture_of n cap (Number (record { at = at; len = len }))
+    → depth_of_greatest picture.greatest ≡ Some len → at + len ≤ 4096
+    → machine_picture n cap (Number (record { at = at; len = len }))
     (machine_with_numbers n by_rows at len picture.dots machine) ≡ picture
 pictures_read_back n cap at len picture machine whole width height count small bits within = λ j. record {
   width = sym width j;
@@ -80,7 +80,7 @@ pictures_read_back n cap at len picture machine whole width height count small b
     power : picture.greatest + 1 ≡ 2 ^ len
     power = bits_from-greatest picture.greatest 1 16 len bits
 
-    greatest : greatest_of len ≡ picture.greatest
+    greatest : greatest_number len ≡ picture.greatest
     greatest = omega (arith, power)
 
     few : All (λ dot. dot < 2 ^ len) picture.dots

@@ -20,7 +20,7 @@ abbrev pub EachProcessorComesOnce : Type 0
 EachProcessorComesOnce = (n : ℕ) (order : Order) → AreOrdered n order
 
 -- numbers that were put into a field of every processor are those that it has then
-abbrev pub NumbersReadBack : Type 0
-NumbersReadBack = (n cap : ℕ) (order : Order) (at len : ℕ) (numbers : List ℕ) (machine : Machine)
+abbrev pub PutNumbersReadBack : Type 0
+PutNumbersReadBack = (n cap : ℕ) (order : Order) (at len : ℕ) (numbers : List ℕ) (machine : Machine)
     → IsMachine n cap machine → at + len ≤ 4096 → length numbers ≡ processors n → All (λ x. x < 2 ^ len) numbers
     → numbers_of n order at len (machine_with_numbers n order at len numbers machine).chips ≡ numbers

@@ -9,7 +9,7 @@ use Rattle.cm_language.specs.declared.fault.AsmFault.{AsmFault}
 use Rattle.cm_language.specs.Program.{ProgramText, program_of}
 use Rattle.cm_study.specs.declared.studies.StudyFault.{StudyFault}
 use Rattle.cm_study.specs.declared.studies.StudyFault.TheVariants as study
-use Rattle.cm_study.specs.Study.{table_of}
+use Rattle.cm_study.specs.Study.{study_table}
 use Rattle.cm_study.specs.declared.routes.RouteFault.{RouteFault}
 use Rattle.cm_study.specs.Routes.{route_of}
 use Rattle.cm_image_format.specs.Whole.{text_of}
@@ -25,7 +25,7 @@ use Rattle.cm_lab.specs.declared.lab.LabFault.TheVariants.{Image, Room, Numbers,
 use Rattle.cm_lab.specs.declared.lab.LabFault.TheVariants.{Program, Clock, NoRoute, Memory}
 use Rattle.cm_lab.specs.declared.order.Order.TheVariants.{Rows as by_rows}
 use Rattle.cm_lab.specs.Data.{processors, width_in, numbers_of, flags_of, machine_with_numbers}
-use Rattle.cm_lab.specs.Pictures.{is_narrow, picture_of, bits_of}
+use Rattle.cm_lab.specs.Pictures.{is_narrow, machine_picture, depth_of_greatest}
 use Rattle.cm_figures.specs.declared.picture_reading.PictureFault.{PictureFault}
 use Rattle.cm_figures.specs.Numbers.{numbers_in, numbers_text}
 use Rattle.cm_figures.specs.Pictures.{Dots}
@@ -51,7 +51,7 @@ of_bits image at picture None = Err (Greatest picture.greatest)
 abbrev pub of_picture : ℕ → ℕ → ℕ → Machine → Result Dots PictureFault → Result (List ℕ) LabFault
 of_picture n cap at machine (Ok picture) =
     of_bits (λ len. text_of n cap (machine_with_numbers n by_rows at len picture.dots machine)) at picture
-    (bits_of picture.greatest)
+    (depth_of_greatest picture.greatest)
 of_picture n cap at machine (Err fault) = Err (Picture fault)
 
 -- a text that is no picture is refused with this fault
@@ -85,10 +85,10 @@ work_of n cap (Put order field) given machine =
     of_numbers (λ numbers. text_of n cap (machine_with_numbers n order field.at field.len numbers machine))
     (numbers_in field.len (processors n) given)
 work_of n cap (Show shown look) given machine =
-    if is_narrow shown then Ok (look_bytes look (picture_of n cap shown machine)) else Err Wide
+    if is_narrow shown then Ok (look_bytes look (machine_picture n cap shown machine)) else Err Wide
 work_of n cap (Paint at) given machine = of_picture n cap at machine (picture_in (columns n) (rows n) given)
 work_of n cap (Study table) given machine =
-    of_program (λ acts. of_table (table_of n cap table machine acts)) (program_of given)
+    of_program (λ acts. of_table (study_table n cap table machine acts)) (program_of given)
 work_of n cap (Route tag) given machine =
     of_program (λ acts. of_route (route_of n cap tag machine acts)) (program_of given)
 

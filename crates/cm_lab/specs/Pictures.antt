@@ -17,8 +17,8 @@ is_narrow (Number field) = nat_lt field.len 17
 is_narrow Buffers = true
 
 -- the greatest number of so many bits
-abbrev pub greatest_of : ℕ → ℕ
-greatest_of len = 2 ^ len - 1
+abbrev pub greatest_number : ℕ → ℕ
+greatest_number len = 2 ^ len - 1
 
 -- rows of chips
 abbrev pub chip_rows : ℕ → ℕ
@@ -33,11 +33,11 @@ abbrev pub grid_picture : ℕ → ℕ → List ℕ → Dots
 grid_picture n greatest dots = record { width = columns n; height = rows n; greatest = greatest; dots = dots }
 
 -- the picture of a machine on a cube of n dimensions whose routers have room for cap messages each
-abbrev pub picture_of : ℕ → ℕ → Shown → Machine → Dots
-picture_of n cap (Flag number) machine = grid_picture n 1 (flags_of n by_rows number machine.chips)
-picture_of n cap (Number field) machine =
-    grid_picture n (greatest_of field.len) (numbers_of n by_rows field.at field.len machine.chips)
-picture_of n cap Buffers machine = record {
+abbrev pub machine_picture : ℕ → ℕ → Shown → Machine → Dots
+machine_picture n cap (Flag number) machine = grid_picture n 1 (flags_of n by_rows number machine.chips)
+machine_picture n cap (Number field) machine =
+    grid_picture n (greatest_number field.len) (numbers_of n by_rows field.at field.len machine.chips)
+machine_picture n cap Buffers machine = record {
   width = chip_columns n;
   height = chip_rows n;
   greatest = cap;
@@ -51,5 +51,5 @@ bits_from greatest len (suc more) =
     if greatest + 1 == 2 ^ len then Some len else bits_from greatest (len + 1) more
 
 -- how many bits a number has of which this is the greatest, if it is one of 1, 3, 7 and so on to 65,535
-abbrev pub bits_of : ℕ → Option ℕ
-bits_of greatest = bits_from greatest 1 16
+abbrev pub depth_of_greatest : ℕ → Option ℕ
+depth_of_greatest greatest = bits_from greatest 1 16

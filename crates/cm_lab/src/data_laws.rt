@@ -1,6 +1,6 @@
 //! Laws of data: what each function is named for holds, of every machine.
 
-ghost use Rattle.cm_lab.specs.DataLaws.{EachProcessorComesOnce, NumbersReadBack};
+ghost use Rattle.cm_lab.specs.DataLaws.{EachProcessorComesOnce, PutNumbersReadBack};
 
 /// In either order each processor comes once.
 pub fn each_processor_comes_once()
@@ -9,5 +9,5 @@ pub fn each_processor_comes_once()
 
 /// Numbers that were put into a field of every processor are those that it has then.
 pub fn numbers_read_back()
-    ensures { NumbersReadBack }
+    ensures { PutNumbersReadBack }
 {}

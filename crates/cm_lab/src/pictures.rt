@@ -4,7 +4,8 @@ ghost use Rattle.std.specs.Prelude.{◌≡◌, ◌≢◌, ◌*◌, ◌<◌, ◌�
 ghost use Rattle.cm_model.specs.Place.{chip_columns, columns, rows};
 ghost use Rattle.cm_figures.specs.Pictures.{picture_seen};
 ghost use Rattle.cm_lab.specs.Data.{processors};
-ghost use Rattle.cm_lab.specs.Pictures.{chip_rows, is_narrow, greatest_of, buffered, picture_of, bits_of};
+ghost use Rattle.cm_lab.specs.Pictures.{chip_rows, is_narrow, greatest_number, buffered, machine_picture};
+ghost use Rattle.cm_lab.specs.Pictures.{depth_of_greatest};
 
 use crate::data::{flags, get};
 use crate::order::{Order, chip_columns, chip_rows, columns, processors, rows};
@@ -51,7 +52,7 @@ pub fn show<const N: usize, const CAP: usize>(
     machine: &Machine<N, CAP>,
     shown: Shown,
 ) -> Result<Picture, ShowFault>
-    ensures value { IfOk result (λ picture. picture_seen picture ≡ picture_of N CAP shown machine.now.machine) }
+    ensures value { IfOk result (λ picture. picture_seen picture ≡ machine_picture N CAP shown machine.now.machine) }
     ensures narrow { OnOk result (is_narrow shown ≡ true) }
     ensures some { IfOk result (λ picture. 0 < picture.width) }
     ensures dots { IfOk result (λ picture. length picture.dots.items ≡ picture.height * picture.width) }
@@ -106,7 +107,7 @@ fn of_grid<const N: usize>(greatest: u16, dots: Vec<u64>) -> Picture
 /// The greatest number of so many bits.
 fn greatest_of(len: u16) -> u16
     requires narrow { len ≤ 16 }
-    ensures value { result ≡ greatest_of len }
+    ensures value { result ≡ greatest_number len }
 {
     ((1u32 << len) - 1) as u16
 }
@@ -132,7 +133,7 @@ fn buffered<const N: usize, const CAP: usize>(
 
 /// How many bits the numbers of a picture have, of which this is the greatest.
 pub(crate) fn bits_of(greatest: u16) -> Option<u16>
-    ensures value { result ≡ bits_of greatest }
+    ensures value { result ≡ depth_of_greatest greatest }
 {
     for len in 1..17u16 {
         if u64::from(greatest) + 1 == 1 << len {

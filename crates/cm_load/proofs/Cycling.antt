@@ -16,9 +16,9 @@ use Rattle.cm_petit.specs.Routers.{machine_from_logs, events_of}
 use Rattle.cm_load.specs.declared.offers.Load.{Load}
 use Rattle.cm_load.specs.declared.sources.Source.{Source}
 use Rattle.cm_load.specs.Offers.{places}
-use Rattle.cm_load.specs.Asking.{Asking, after_places}
-use Rattle.cm_load.specs.Telling.{taken_in, latencies_in}
-use Rattle.cm_load.specs.Loaded.{Loaded, all_ready, asking_of, machine_asked, told_by, cycled, after_one}
+use Rattle.cm_load.specs.Asking.{Asking, asking_after_places}
+use Rattle.cm_load.specs.Telling.{injected_count, latencies_in}
+use Rattle.cm_load.specs.Loaded.{Loaded, all_ready, asking_of, machine_asked, load_after, cycled, after_one}
 
 module _ (n cap : ℕ) (load : Load) (routing : Routing) (chips asked left ready : Chips)
     (buffers crossed : List (List Message)) (logs emptied told : List Log) (t begun ended : ℕ)
@@ -43,10 +43,10 @@ module _ (n cap : ℕ) (load : Load) (routing : Routing) (chips asked left ready
 
   pub one_cycle : n ≡ load.dims
       → record { chips = asked; sources = next; deepest = deeper }
-      ≡ after_places load t (record { chips = chips; sources = sources; deepest = deepest }) (places load.dims)
+      ≡ asking_after_places load t (record { chips = chips; sources = sources; deepest = deepest }) (places load.dims)
       → events_of emptied ≡ each_from {X = List Event} 0 (2 ^ n) (λ c. [])
       → machine_from_logs routing left crossed told ended ≡ after_act n cap (machine_from_logs routing asked buffers emptied begun) Cycle
-      → begun ≡ t → ended ≡ begun + 1 → more ≡ taken_in (events_of told)
+      → begun ≡ t → ended ≡ begun + 1 → more ≡ injected_count (events_of told)
       → all ≡ latencies ++ latencies_in t (events_of told)
       → ready ≡ each_from 0 (2 ^ n) (λ c. with_flag_plane (chip_at left c) RECV (bit 0))
       → after ≡ after_one cap load before
@@ -66,7 +66,7 @@ module _ (n cap : ℕ) (load : Load) (routing : Routing) (chips asked left ready
       ≡ after_act n cap (machine_asked n (machine_from_logs routing chips buffers logs t) asking.chips) Cycle =
       goes ∙ ap (λ (m : Machine). after_act n cap m Cycle) opening in
       let clock : t + 1 ≡ ended = sym (ends ∙ ap (λ (k : ℕ). k + 1) starts) in
-      let told_so : after ≡ told_by n before asking (machine_from_logs routing left crossed told ended) =
+      let told_so : after ≡ load_after n before asking (machine_from_logs routing left crossed told ended) =
       λ i. record {
         machine = record {
           chips = fetched i;
@@ -80,4 +80,4 @@ module _ (n cap : ℕ) (load : Load) (routing : Routing) (chips asked left ready
         taken = taken + takes i;
         latencies = tells i;
       } in
-      told_so ∙ (ap (told_by n before asking) machine ∙ (λ i. cycled (dims i) cap before asking))
+      told_so ∙ (ap (load_after n before asking) machine ∙ (λ i. cycled (dims i) cap before asking))

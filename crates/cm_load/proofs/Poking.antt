@@ -4,7 +4,7 @@ use Rattle.std.proofs.lemmas.List.{get_or-set_same, set-set, length-set}
 use Rattle.cm_model.specs.Processor.{Processor}
 use Rattle.cm_model.specs.Array.{Chips, chip_at}
 use Rattle.cm_load.specs.declared.offers.Load.{Load}
-use Rattle.cm_load.specs.Asking.{Asking, after_place, after_places}
+use Rattle.cm_load.specs.Asking.{Asking, asking_after_place, asking_after_places}
 
 -- the chip that was put in its place is changed
 pub poked_again : (f : List Processor → List Processor) (old now new : Chips) (c : ℕ) (chip : List Processor)
@@ -18,8 +18,8 @@ poked_again f old now new c chip h is more =
 pub as_many : (old new : Chips) (c : ℕ) (chip : List Processor) → new ≡ set old c chip → length new ≡ length old
 as_many old new c chip is = ap length is ∙ length-set old c chip
 
-pub after_places-more : (load : Load) (t : ℕ) (asking : Asking) (k : ℕ)
-    → after_place load t (after_places load t asking k) k ≡ after_places load t asking (k + 1)
-unfolding after_places
-after_places-more load t asking k =
-    let next : suc k ≡ k + 1 = omega arith in ap (λ (j : ℕ). after_places load t asking j) next
+pub asking_after_places-more : (load : Load) (t : ℕ) (asking : Asking) (k : ℕ)
+    → asking_after_place load t (asking_after_places load t asking k) k ≡ asking_after_places load t asking (k + 1)
+unfolding asking_after_places
+asking_after_places-more load t asking k =
+    let next : suc k ≡ k + 1 = omega arith in ap (λ (j : ℕ). asking_after_places load t asking j) next

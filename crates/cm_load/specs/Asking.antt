@@ -91,11 +91,11 @@ with_source load t place asking source =
     with_asked load place asking source (offer_asked load t place asking.chips source)
 
 -- after the processor of a place has offered and asked in petit cycle t
-unfoldable pub after_place : Load → ℕ → Asking → ℕ → Asking
-after_place load t asking place =
+unfoldable pub asking_after_place : Load → ℕ → Asking → ℕ → Asking
+asking_after_place load t asking place =
     with_source load t place asking (with_offer (offers load t place) (source_at asking.sources place))
 
 -- after the first so many
-unfoldable pub after_places : Load → ℕ → Asking → ℕ → Asking
-after_places load t asking zero = asking
-after_places load t asking (suc count) = after_place load t (after_places load t asking count) count
+unfoldable pub asking_after_places : Load → ℕ → Asking → ℕ → Asking
+asking_after_places load t asking zero = asking
+asking_after_places load t asking (suc count) = asking_after_place load t (asking_after_places load t asking count) count

@@ -24,8 +24,8 @@ abbrev pub most_of : ℕ → List ℕ → Option ℕ
 most_of cycles latencies = find (is_reached latencies (95 * length latencies)) (range_with_len 0 (cycles + 1))
 
 -- the greatest, or 0
-abbrev pub greatest_of : List ℕ → ℕ
-greatest_of latencies = fold max 0 latencies
+abbrev pub greatest_latency : List ℕ → ℕ
+greatest_latency latencies = fold max 0 latencies
 
 -- the numbers of a load after so many petit cycles, which left this, without the first so many
 pub record AreFigures (load : Load) (skip cycles : ℕ) (loaded : Loaded) (figures : Figures) : Type 0 where
@@ -37,5 +37,5 @@ pub record AreFigures (load : Load) (skip cycles : ℕ) (loaded : Loaded) (figur
   pub throughput : figures.throughput ≡ throughput_of (length loaded.latencies) (2 ^ load.dims * (cycles - skip))
   pub mean : figures.mean ≡ mean_of loaded.latencies
   pub most : figures.most ≡ most_of cycles loaded.latencies
-  pub greatest : figures.greatest ≡ greatest_of loaded.latencies
+  pub greatest : figures.greatest ≡ greatest_latency loaded.latencies
   pub deepest : figures.deepest ≡ loaded.deepest

@@ -12,8 +12,8 @@ use Rattle.cm_element.specs.Wide.{with_flag_plane}
 use Rattle.cm_load.specs.declared.offers.Load.{Load}
 use Rattle.cm_load.specs.declared.sources.Source.{Source}
 use Rattle.cm_load.specs.Offers.{places, offers}
-use Rattle.cm_load.specs.Asking.{no_source, Asking, after_places}
-use Rattle.cm_load.specs.Telling.{taken_in, latencies_in}
+use Rattle.cm_load.specs.Asking.{no_source, Asking, asking_after_places}
+use Rattle.cm_load.specs.Telling.{injected_count, latencies_in}
 
 -- ---- one petit cycle
 
@@ -34,7 +34,7 @@ pub record Loaded : Type 0 where
 -- before a petit cycle: its processors have offered and asked
 abbrev pub asking_of : Load → Loaded → Asking
 asking_of load loaded =
-    after_places load loaded.machine.clock
+    asking_after_places load loaded.machine.clock
     (record { chips = loaded.machine.chips; sources = loaded.sources; deepest = loaded.deepest })
     (places load.dims)
 
@@ -42,18 +42,18 @@ abbrev pub machine_asked : ℕ → Machine → Chips → Machine
 machine_asked n machine chips = record machine { chips = chips; logs = each_chip n (λ c. []) }
 
 -- after it, where it left this machine
-abbrev pub told_by : ℕ → Loaded → Asking → Machine → Loaded
-told_by n loaded asking after = record {
+abbrev pub load_after : ℕ → Loaded → Asking → Machine → Loaded
+load_after n loaded asking after = record {
   machine = record after { chips = all_ready n after.chips };
   sources = asking.sources;
   deepest = asking.deepest;
-  taken = loaded.taken + taken_in after.logs;
+  taken = loaded.taken + injected_count after.logs;
   latencies = loaded.latencies ++ latencies_in loaded.machine.clock after.logs;
 }
 
 abbrev pub cycled : ℕ → ℕ → Loaded → Asking → Loaded
 cycled n cap loaded asking =
-    told_by n loaded asking (after_act n cap (machine_asked n loaded.machine asking.chips) Cycle)
+    load_after n loaded asking (after_act n cap (machine_asked n loaded.machine asking.chips) Cycle)
 
 -- one petit cycle on, on the cube of the load, whose routers have room for cap messages each
 unfoldable pub after_one : ℕ → Load → Loaded → Loaded

@@ -30,8 +30,8 @@ column_if (Some x) = number_cell x
 
 -- ---- loads
 
-abbrev pub header : List ℕ
-header = codes "rate,offered,taken,delivered,throughput,mean,p95,greatest,deepest\n"
+abbrev pub loads_header : List ℕ
+loads_header = codes "rate,offered,taken,delivered,throughput,mean,p95,greatest,deepest\n"
 
 -- what was offered
 abbrev pub offer_columns : Figures → List ℕ
@@ -53,8 +53,8 @@ load_line figures =
     offer_columns figures ++ message_columns figures ++ latency_columns figures ++ last_number_cell figures.deepest
 
 -- the table: a line of names, and a line for each load
-unfoldable pub table_of : List Figures → List ℕ
-table_of loads = header ++ flat_map load_line loads
+unfoldable pub loads_table : List Figures → List ℕ
+loads_table loads = loads_header ++ flat_map load_line loads
 
 -- ---- loads of many seeds
 

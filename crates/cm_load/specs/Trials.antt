@@ -24,9 +24,9 @@ rate_fault None = None
 rate_fault (Some rate) = Some (Rate rate)
 
 -- the earlier fault
-abbrev pub or_fault : Option LoadFault → Option LoadFault → Option LoadFault
-or_fault None later = later
-or_fault (Some fault) later = Some fault
+abbrev pub or_load_fault : Option LoadFault → Option LoadFault → Option LoadFault
+or_load_fault None later = later
+or_load_fault (Some fault) later = Some fault
 
 abbrev pub cycles_fault : Trial → Option LoadFault
 cycles_fault trial =
@@ -41,8 +41,8 @@ abbrev pub trial_fault : Trial → List WireEnd → List ℕ → Option LoadFaul
 trial_fault trial cuts rates =
     if nat_lt 12 trial.n then Some (Dimension trial.n)
     else if trial.room == 0 || nat_lt 15 trial.room then Some (Room trial.room)
-    else or_fault (end_fault trial.n (find (is_stray trial.n) cuts))
-    (or_fault (rate_fault (find (nat_lt 1600) rates)) (cycles_fault trial))
+    else or_load_fault (end_fault trial.n (find (is_stray trial.n) cuts))
+    (or_load_fault (rate_fault (find (nat_lt 1600) rates)) (cycles_fault trial))
 
 -- the load of a trial at a rate
 abbrev pub load_of : Trial → ℕ → Load

@@ -3,7 +3,8 @@
 ghost use Rattle.std.specs.Prelude.{◌≡◌, ℕ, ◌/◌, ◌%◌, ◌<◌, ◌≤◌, ◌^◌, Some, IfSome, max, length, slice_set};
 ghost use Rattle.cm_model.specs.Array.{chip_at};
 ghost use Rattle.cm_load.specs.Offers.{places};
-ghost use Rattle.cm_load.specs.Asking.{chip_asking, chips_asking, chips_asked, offer_asked, after_place, after_places};
+ghost use Rattle.cm_load.specs.Asking.{chip_asking, chips_asking, chips_asked, offer_asked, asking_after_place};
+ghost use Rattle.cm_load.specs.Asking.{asking_after_places};
 
 use crate::offers::Load;
 use crate::sources::Source;
@@ -19,7 +20,7 @@ pub(crate) fn ask_all(load: &Load, t: u32, run: &mut Run, sources: &mut [Source]
     requires chips { length run.old ≡ 2 ^ load.now.dims }
     requires sources { length sources.old ≡ places load.now.dims }
     ensures value { record { chips = run.new; sources = sources.new; deepest = deepest.new }
-        ≡ after_places load.now t (record { chips = run.old; sources = sources.old; deepest = deepest.old })
+        ≡ asking_after_places load.now t (record { chips = run.old; sources = sources.old; deepest = deepest.old })
         (places load.now.dims) }
     ensures chips { length run.new ≡ length run.old }
 {
@@ -38,7 +39,7 @@ fn ask_at(load: &Load, t: u32, run: &mut Run, sources: &mut [Source], place: u32
     requires place { place < places load.now.dims }
     requires few { place < 65536 }
     ensures value { (deepest : ℕ) → record { chips = run.new; sources = sources.new; deepest = max deepest result }
-        ≡ after_place load.now t (record { chips = run.old; sources = sources.old; deepest = deepest }) place }
+        ≡ asking_after_place load.now t (record { chips = run.old; sources = sources.old; deepest = deepest }) place }
     ensures chips { length run.new ≡ length run.old }
 {
     let offered = load.offers(t, place);

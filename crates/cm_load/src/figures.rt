@@ -10,7 +10,7 @@ ghost use Rattle.cm_load.specs.Offers.{places};
 ghost use Rattle.cm_load.specs.Asking.{no_source};
 ghost use Rattle.cm_load.specs.Loaded.{Loaded, offered_by, offered_in, loaded_for};
 ghost use Rattle.cm_load.specs.Kept.{IsToldOf};
-ghost use Rattle.cm_load.specs.Figures.{throughput_of, mean_of, is_reached, most_of, greatest_of, AreFigures};
+ghost use Rattle.cm_load.specs.Figures.{throughput_of, mean_of, is_reached, most_of, greatest_latency, AreFigures};
 
 use crate::cycles::{Told, go_through};
 use crate::offers::Load;
@@ -139,7 +139,7 @@ fn is_reached(latencies: &[u32], hundredths: u128, most: u32) -> bool
 
 /// The greatest, or 0.
 pub(crate) fn greatest_of(latencies: &[u32]) -> u32
-    ensures value { result ≡ greatest_of latencies.now }
+    ensures value { result ≡ greatest_latency latencies.now }
 {
     let mut greatest = 0u32;
     for latency in latencies {

@@ -3,7 +3,7 @@
 ghost use Rattle.std.specs.Prelude.{◌≡◌, ◌%◌, [], ◌∷◌, codes, None, Some};
 ghost use Rattle.cm_load.specs.declared.offers.Pattern.TheVariants as pattern;
 ghost use Rattle.cm_load.specs.Offers.{aimed};
-ghost use Rattle.cm_load.specs.Figures.{greatest_of, mean_of, most_of, throughput_of};
+ghost use Rattle.cm_load.specs.Figures.{greatest_latency, mean_of, most_of, throughput_of};
 ghost use Rattle.cm_load.specs.declared.spreads.Column.TheVariants.{Throughput};
 ghost use Rattle.cm_load.specs.Spreads.{quantile_of, half_squared, figures_with};
 ghost use Rattle.cm_load.specs.Tables.{load_line, spread_line};
@@ -20,7 +20,7 @@ pub fn patterns_aim_so()
 pub fn loads_are_told_so()
     ensures mean { mean_of (1 ∷ 2 ∷ 2 ∷ []) ≡ 166 }
     ensures most { most_of 9 (1 ∷ 2 ∷ 2 ∷ []) ≡ Some 2 }
-    ensures greatest { greatest_of (1 ∷ 5 ∷ 2 ∷ []) ≡ 5 }
+    ensures greatest { greatest_latency (1 ∷ 5 ∷ 2 ∷ []) ≡ 5 }
     ensures throughput { throughput_of 51010 102400 ≡ 498 }
     ensures no_mean { mean_of [] ≡ 0 }
     ensures no_most { most_of 9 [] ≡ Some 0 }

@@ -2,7 +2,8 @@
 
 ghost use Rattle.std.specs.Prelude.{◌≡◌, ◌++◌, ◌∷◌, [], ◌/◌, ◌%◌, OnOk, IfOk, decimal};
 ghost use Rattle.cm_load.specs.Tables.{last_digit, last_two, hundredths_text, thousandths, column_if};
-ghost use Rattle.cm_load.specs.Tables.{header, offer_columns, message_columns, latency_columns, load_line, table_of};
+ghost use Rattle.cm_load.specs.Tables.{loads_header, offer_columns, message_columns, latency_columns, load_line};
+ghost use Rattle.cm_load.specs.Tables.{loads_table};
 ghost use Rattle.cm_load.specs.Tables.{last_hundredths, spread_header, spread_columns, throughput_columns};
 ghost use Rattle.cm_load.specs.Tables.{spread_line, spread_table_of};
 
@@ -13,9 +14,9 @@ use cm_digits::{push_byte, push_number, push_piece};
 use std::alloc::Global;
 
 /// The table of these loads: a line of names, and a line for each load.
-#[tactic(auto, unfolding(crate::specs::Tables::table_of))]
+#[tactic(auto, unfolding(crate::specs::Tables::loads_table))]
 pub fn table(alloc: Global, loads: &[Figures]) -> Result<Vec<u8>, NoMemory>
-    ensures value { IfOk result (λ text. text.items ≡ table_of loads.now) }
+    ensures value { IfOk result (λ text. text.items ≡ loads_table loads.now) }
 {
     let mut text = opening_text(alloc)?;
     for figures in loads {
@@ -26,7 +27,7 @@ pub fn table(alloc: Global, loads: &[Figures]) -> Result<Vec<u8>, NoMemory>
 
 /// The first line.
 fn opening_text(alloc: Global) -> Result<Vec<u8>, NoMemory>
-    ensures value { IfOk result (λ text. text.items ≡ header) }
+    ensures value { IfOk result (λ text. text.items ≡ loads_header) }
 {
     Ok(Vec::from_slice(
         alloc,

@@ -2,7 +2,7 @@
 
 ghost use Rattle.std.specs.Prelude.{◌≡◌, ◌++◌, ◌∷◌, [], ◌<◌, ◌≤◌, ◌^◌, OnOk, length, sum_by};
 ghost use Rattle.std.specs.List.{count_by, flat_map};
-ghost use Rattle.cm_load.specs.Telling.{is_injection, latency_told};
+ghost use Rattle.cm_load.specs.Telling.{is_injection_event, latency_told};
 
 use cm_bits::NoMemory;
 use cm_message::Event;
@@ -10,7 +10,7 @@ use cm_message::Event;
 /// How many messages were taken in.
 pub(crate) fn taken_in(logs: &[Vec<Event>]) -> u128
     requires few { length logs.now ≤ 4096 }
-    ensures value { result ≡ sum_by (λ log. count_by is_injection log.items) logs.now }
+    ensures value { result ≡ sum_by (λ log. count_by is_injection_event log.items) logs.now }
     ensures within { result ≤ 2 ^ 76 }
 {
     let mut taken = 0;
@@ -21,13 +21,13 @@ pub(crate) fn taken_in(logs: &[Vec<Event>]) -> u128
 }
 
 fn injections(events: &[Event]) -> usize
-    ensures value { result ≡ count_by is_injection events.now }
+    ensures value { result ≡ count_by is_injection_event events.now }
 {
     events.iter().filter(|event| is_injection(event)).count()
 }
 
 fn is_injection(event: &Event) -> bool
-    ensures value { result ≡ is_injection event.now }
+    ensures value { result ≡ is_injection_event event.now }
 {
     matches!(event, Event::Injected(_))
 }

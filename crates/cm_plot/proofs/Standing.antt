@@ -11,10 +11,10 @@ use Rattle.cm_plot.specs.declared.points.Kind.{Kind}
 use Rattle.cm_plot.specs.declared.points.Kind.TheVariants.{Cycles, Messages, Loads, Compared}
 use Rattle.cm_plot.specs.declared.points.Point.{Point}
 use Rattle.cm_plot.specs.declared.panels.Panel.TheVariants.{Moved, Held, Latency, Throughput, Bins, Columns}
-use Rattle.cm_plot.specs.Axes.{along, axis_by, axis_of, highest, higher, in_columns, leftmost, rightmost}
-use Rattle.cm_plot.specs.Axes.{step_of, whole_steps}
+use Rattle.cm_plot.specs.Axes.{place_along, axis_by, axis_of, highest, higher, in_columns, leftmost, rightmost}
+use Rattle.cm_plot.specs.Axes.{tick_step, whole_steps}
 use Rattle.cm_plot.specs.Pictures.{frame_of, right_unit}
-use Rattle.cm_plot.specs.Shown.{count_of, first_of, unit_of}
+use Rattle.cm_plot.specs.Shown.{columns_shown, first_column, unit_of}
 use Rattle.cm_plot.specs.Standing.{Joins, StandsOn}
 
 -- ---- axes
@@ -63,12 +63,12 @@ joined_by step least most some order =
 pub joined : (unit least most : ℕ) → 0 < unit → least ≤ most → Joins (axis_of unit least most) least most
 unfolding axis_of
 joined unit least most some order =
-    let wide : 0 < step_of unit (most - least) = omega arith in
-    joined_by (step_of unit (most - least)) least most wide order
+    let wide : 0 < tick_step unit (most - least) = omega arith in
+    joined_by (tick_step unit (most - least)) least most wide order
 
 -- a number that an axis joins has a place on it
 pub along_within : (axis : Axis) (least most number length : ℕ) → Joins axis least most → least ≤ number → number ≤ most
-    → along axis number length ≤ length
+    → place_along axis number length ≤ length
 along_within axis least most number length joins low high =
     div-le_of_le-mul axis.span (times (number - axis.low) axis.span length (omega (arith, joins.ends))) where
       times : (a b c : ℕ) → a ≤ b → a * c ≤ b * c
@@ -142,7 +142,7 @@ some_upward (Columns count) = omega arith
 
 -- a point of a panel's columns stands on it
 pub standing : (kind : Kind) (x : ℕ) (points : List Point) (panel : Panel) (k : ℕ) (d : Point) → k < length points
-    → in_columns (first_of panel) (count_of panel) (get_or points k d).column ≡ true
+    → in_columns (first_column panel) (columns_shown panel) (get_or points k d).column ≡ true
     → StandsOn (frame_of kind x points panel) (get_or points k d)
 standing kind x points panel k d h is =
     let point = get_or points k d in
@@ -151,14 +151,14 @@ standing kind x points panel k d h is =
     let most = rightmost_of x points k d h in
     let across = joined (right_unit kind) (leftmost x points) (rightmost x points) (some_right kind)
     (omega (arith, least, most)) in
-    let top = highest_of (first_of panel) (count_of panel) 0 points k d h is in
-    let up = joined (unit_of panel) 0 (highest (first_of panel) (count_of panel) points) (some_upward panel)
+    let top = highest_of (first_column panel) (columns_shown panel) 0 points k d h is in
+    let up = joined (unit_of panel) 0 (highest (first_column panel) (columns_shown panel) points) (some_upward panel)
     (omega arith) in
     record {
       across = along_within frame.across (leftmost x points) (rightmost x points) point.x 5600 across least most;
       up = omega (
         arith,
-        along_within frame.up 0 (highest (first_of panel) (count_of panel) points) point.y 2400 up
+        along_within frame.up 0 (highest (first_column panel) (columns_shown panel) points) point.y 2400 up
             (omega arith) top,
       );
     }

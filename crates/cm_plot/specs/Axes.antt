@@ -43,8 +43,8 @@ round_step range power =
     if nat_lt (range / 2) power then power / 5 else (if nat_lt (range / 5) power then power / 2 else power)
 
 -- the distance of two ticks of an axis over this range, no less than one unit
-abbrev pub step_of : ℕ → ℕ → ℕ
-step_of unit range = max unit (round_step range (power_in range 19))
+abbrev pub tick_step : ℕ → ℕ → ℕ
+tick_step unit range = max unit (round_step range (power_in range 19))
 
 -- the next multiple of a step, some way on
 abbrev pub whole_steps : ℕ → ℕ → ℕ
@@ -60,10 +60,10 @@ axis_by step least most = record {
 }
 
 unfoldable pub axis_of : ℕ → ℕ → ℕ → Axis
-axis_of unit least most = axis_by (step_of unit (most - least)) least most
+axis_of unit least most = axis_by (tick_step unit (most - least)) least most
 
 -- ---- places
 
 -- the place of a number along an axis that is drawn so long
-abbrev pub along : Axis → ℕ → ℕ → ℕ
-along axis number length = (number - axis.low) * length / axis.span
+abbrev pub place_along : Axis → ℕ → ℕ → ℕ
+place_along axis number length = (number - axis.low) * length / axis.span

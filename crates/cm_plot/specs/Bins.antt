@@ -2,11 +2,11 @@
 use Rattle.std.specs.Prelude.{ℕ, ◌-◌, ◌*◌, ◌/◌, ◌^◌, ◌==◌, Bool, nat_le, if◌then◌else◌, max, min, List, [], ◌∷◌}
 use Rattle.std.specs.List.{count_by, flat_map, range_with_len}
 use Rattle.cm_plot.specs.declared.points.Point.{Point}
-use Rattle.cm_plot.specs.Axes.{rightmost, step_of}
+use Rattle.cm_plot.specs.Axes.{rightmost, tick_step}
 
 -- the width of a bin, where the slowest took so long: no less than one petit cycle
 abbrev pub bin_width : ℕ → ℕ
-bin_width most = max 1000 (step_of 1000 most / 10)
+bin_width most = max 1000 (tick_step 1000 most / 10)
 
 -- a message took no less than so many bins and less than one more
 abbrev pub is_in_bin : ℕ → ℕ → Point → Bool

@@ -52,18 +52,18 @@ thousandths_of digits =
     100 * digit_or_zero (slice_get digits 0) + 10 * digit_or_zero (slice_get digits 1) + digit_or_zero (slice_get digits 2)
 
 -- the thousandths behind a point, if nothing but digits stands there
-abbrev pub part_of : List ℕ → Option ℕ
-part_of digits = if list_all is_decimal digits then Some (thousandths_of digits) else None
+abbrev pub thousandths_behind : List ℕ → Option ℕ
+thousandths_behind digits = if list_all is_decimal digits then Some (thousandths_of digits) else None
 
 -- whole ones and thousandths, below 2^63 in all
-abbrev pub joined : Option ℕ → Option ℕ → Option ℕ
-joined None part = None
-joined (Some whole) None = None
-joined (Some whole) (Some part) = if nat_lt (1000 * whole + part) (2 ^ 63) then Some (1000 * whole + part) else None
+abbrev pub whole_and_part : Option ℕ → Option ℕ → Option ℕ
+whole_and_part None part = None
+whole_and_part (Some whole) None = None
+whole_and_part (Some whole) (Some part) = if nat_lt (1000 * whole + part) (2 ^ 63) then Some (1000 * whole + part) else None
 
 -- the number of a cell, in thousandths, rounded down: digits, and maybe a point and more digits
-unfoldable pub number_in : List ℕ → Option ℕ
-number_in bytes = joined (digits_of (before_first is_point bytes)) (part_of (after_first is_point bytes))
+unfoldable pub cell_number : List ℕ → Option ℕ
+cell_number bytes = whole_and_part (digits_of (before_first is_point bytes)) (thousandths_behind (after_first is_point bytes))
 
 -- a cell is written as a number, which may be too large
 abbrev pub is_written : List ℕ → Bool
@@ -73,7 +73,7 @@ is_written bytes =
 
 -- a cell has a number, or nothing
 abbrev pub is_cell : List ℕ → Bool
-is_cell bytes = not (has_bytes bytes) || is_some (number_in bytes)
+is_cell bytes = not (has_bytes bytes) || is_some (cell_number bytes)
 
 -- how many cells a line has
 abbrev pub width_of : List ℕ → ℕ

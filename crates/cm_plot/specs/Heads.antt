@@ -26,5 +26,5 @@ unfoldable pub title_text : List ℕ → List ℕ
 title_text title = codes "<text x='3800' y='370' font-size='200'>" ++ title ++ codes "</text>\n"
 
 -- what stands before the panels of a picture of this height
-unfoldable pub head_text : List ℕ → ℕ → List ℕ
-head_text title height = size_text height ++ ground_text height ++ title_text title
+unfoldable pub picture_head : List ℕ → ℕ → List ℕ
+picture_head title height = size_text height ++ ground_text height ++ title_text title

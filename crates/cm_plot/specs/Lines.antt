@@ -4,10 +4,10 @@ use Rattle.std.specs.List.{count_by, flat_map}
 use Rattle.cm_plot.specs.declared.panels.Frame.{Frame}
 use Rattle.cm_plot.specs.declared.panels.Panel.{Panel}
 use Rattle.cm_plot.specs.declared.points.Point.{Point}
-use Rattle.cm_plot.specs.Axes.{along}
+use Rattle.cm_plot.specs.Axes.{place_along}
 use Rattle.cm_plot.specs.Cells.{cell, shortened}
 use Rattle.cm_plot.specs.Pieces.{piece}
-use Rattle.cm_plot.specs.Shown.{first_of}
+use Rattle.cm_plot.specs.Shown.{first_column}
 
 -- the colour of a panel's lines, one after another
 abbrev pub colour : ℕ → List ℕ
@@ -24,10 +24,10 @@ colour k =
 
 -- where a point stands: from the left, and from above
 abbrev pub place_x : Frame → Point → ℕ
-place_x frame point = along frame.across point.x 5600
+place_x frame point = place_along frame.across point.x 5600
 
 abbrev pub place_y : Frame → Point → ℕ
-place_y frame point = 2400 - along frame.up point.y 2400
+place_y frame point = 2400 - place_along frame.up point.y 2400
 
 -- a point is of a column
 abbrev pub is_of : ℕ → Point → Bool
@@ -41,8 +41,8 @@ abbrev pub tip : Frame → Point → List ℕ
 tip frame point = piece (codes " ") (place_x frame point) ++ piece (codes ",") (place_y frame point)
 
 -- a corner of the line of a column
-abbrev pub corner : Frame → ℕ → Point → List ℕ
-corner frame c point = if is_of c point then foot frame point ++ tip frame point ++ foot frame point else []
+abbrev pub column_corner : Frame → ℕ → Point → List ℕ
+column_corner frame c point = if is_of c point then foot frame point ++ tip frame point ++ foot frame point else []
 
 -- a dot here
 unfoldable pub circle : ℕ → ℕ → List ℕ → List ℕ
@@ -62,7 +62,7 @@ line_open paint =
 
 -- the line of a column
 unfoldable pub line_text : Frame → List Point → ℕ → ℕ → List ℕ
-line_text frame points c k = line_open (colour k) ++ flat_map (corner frame c) points ++ codes "'/>\n"
+line_text frame points c k = line_open (colour k) ++ flat_map (column_corner frame c) points ++ codes "'/>\n"
 
 -- each of its points has a dot, where they are not too many
 unfoldable pub dots_text : Frame → List Point → ℕ → ℕ → List ℕ
@@ -82,5 +82,5 @@ name_text header c k = name_open (colour k) (100 + 250 * k) ++ shortened 15 (cel
 -- the k-th line of a panel
 unfoldable pub curve_text : Frame → List ℕ → List Point → Panel → ℕ → List ℕ
 curve_text frame header points panel k =
-    line_text frame points (first_of panel + k) k ++ dots_text frame points (first_of panel + k) k
-    ++ name_text header (first_of panel + k) k
+    line_text frame points (first_column panel + k) k ++ dots_text frame points (first_column panel + k) k
+    ++ name_text header (first_column panel + k) k

@@ -8,7 +8,7 @@ use Rattle.cm_plot.specs.declared.points.Point.{Point}
 use Rattle.cm_plot.specs.Cells.{shortened}
 use Rattle.cm_plot.specs.Lines.{curve_text}
 use Rattle.cm_plot.specs.Pieces.{piece}
-use Rattle.cm_plot.specs.Shown.{count_of, label_of}
+use Rattle.cm_plot.specs.Shown.{columns_shown, label_of}
 use Rattle.cm_plot.specs.Ticks.{ticks_text}
 
 -- what stands below
@@ -36,4 +36,4 @@ unfoldable pub panel_text : ℕ → List ℕ → Frame → List ℕ → List Poi
 panel_text top across frame header points panel =
     place_text top ++ ticks_text frame
     ++ sides_text across (label_of panel header)
-    ++ flat_map (curve_text frame header points panel) (range_with_len 0 (count_of panel)) ++ codes "</g>\n"
+    ++ flat_map (curve_text frame header points panel) (range_with_len 0 (columns_shown panel)) ++ codes "</g>\n"

@@ -2,7 +2,7 @@
 use Rattle.std.specs.Prelude.{ℕ, ◌+◌, ◌-◌, Bool, nat_eq, nat_le, if◌then◌else◌, Option, Some, None, Result, Ok, Err}
 use Rattle.std.specs.Prelude.{List, [], ◌∷◌, ◌++◌, codes}
 use Rattle.std.specs.List.{flat_map, range_with_len, starts_with}
-use Rattle.cm_plot.specs.Cells.{cell, has_words, number_in, width_of}
+use Rattle.cm_plot.specs.Cells.{cell, has_words, cell_number, width_of}
 use Rattle.cm_plot.specs.declared.points.Kind.{Kind}
 use Rattle.cm_plot.specs.declared.points.Kind.TheVariants.{Cycles, Messages, Loads, Compared}
 use Rattle.cm_plot.specs.declared.points.Point.{Point}
@@ -20,8 +20,8 @@ compared number columns = if nat_le columns 10 then Ok Compared else Err (Wide n
 
 -- which table a text is, by its first line that is not blank, which has this number: of petit cycles, of messages, of
 -- loads, of loads that are compared
-abbrev pub kind_of : ℕ → List ℕ → Result Kind PlotFault
-kind_of number header =
+abbrev pub table_kind : ℕ → List ℕ → Result Kind PlotFault
+table_kind number header =
     if has_names header (codes "cycle,taken,delivered,referred,standing,full,asking") then Ok Cycles
     else (if has_names header (codes "chip,processor,taken,to chip,to processor,delivered,crossed,referred")
     then Ok Messages
@@ -36,25 +36,25 @@ point_of c (Some x) (Some y) = record { column = c; x = x; y = y } ∷ []
 
 -- the point of a column: the row's first number to the right, that of the column upward
 abbrev pub point_in : List ℕ → ℕ → List Point
-point_in line c = point_of c (number_in (cell line 0)) (number_in (cell line c))
+point_in line c = point_of c (cell_number (cell line 0)) (cell_number (cell line c))
 
 -- how many petit cycles a message took, from that in which it was taken in to that in which it was delivered, both
 -- counted; in thousandths
-abbrev pub latency : ℕ → ℕ → ℕ
-latency taken delivered = delivered + 1000 - taken
+abbrev pub latency_in_thousandths : ℕ → ℕ → ℕ
+latency_in_thousandths taken delivered = delivered + 1000 - taken
 
 -- one message that took so long
-abbrev pub message_of : Option ℕ → Option ℕ → List Point
-message_of None delivered = []
-message_of (Some taken) None = []
-message_of (Some taken) (Some delivered) = record { column = 1; x = latency taken delivered; y = 1000 } ∷ []
+abbrev pub latency_point : Option ℕ → Option ℕ → List Point
+latency_point None delivered = []
+latency_point (Some taken) None = []
+latency_point (Some taken) (Some delivered) = record { column = 1; x = latency_in_thousandths taken delivered; y = 1000 } ∷ []
 
 -- the points of a row: of each column behind the first; of a message that was delivered how long it took
 abbrev pub row_points : Kind → ℕ → List ℕ → List Point
 row_points Cycles columns line = flat_map (point_in line) (range_with_len 1 (columns - 1))
 row_points Loads columns line = flat_map (point_in line) (range_with_len 1 (columns - 1))
 row_points Compared columns line = flat_map (point_in line) (range_with_len 1 (columns - 1))
-row_points Messages columns line = message_of (number_in (cell line 2)) (number_in (cell line 5))
+row_points Messages columns line = latency_point (cell_number (cell line 2)) (cell_number (cell line 5))
 
 -- the points so far and those of a line, which has this number; a blank line has none
 abbrev pub points_with : Kind → ℕ → ℕ → List Point → List ℕ → Result (List Point) PlotFault

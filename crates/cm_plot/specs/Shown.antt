@@ -21,21 +21,21 @@ label_of Bins header = codes "messages"
 label_of (Columns count) header = after_first is_colon (cell header 0)
 
 -- the first column that it shows, and how many
-abbrev pub first_of : Panel → ℕ
-first_of Moved = 1
-first_of Held = 5
-first_of Latency = 5
-first_of Throughput = 4
-first_of Bins = 1
-first_of (Columns count) = 1
+abbrev pub first_column : Panel → ℕ
+first_column Moved = 1
+first_column Held = 5
+first_column Latency = 5
+first_column Throughput = 4
+first_column Bins = 1
+first_column (Columns count) = 1
 
-abbrev pub count_of : Panel → ℕ
-count_of Moved = 4
-count_of Held = 2
-count_of Latency = 2
-count_of Throughput = 1
-count_of Bins = 1
-count_of (Columns count) = count
+abbrev pub columns_shown : Panel → ℕ
+columns_shown Moved = 4
+columns_shown Held = 2
+columns_shown Latency = 2
+columns_shown Throughput = 1
+columns_shown Bins = 1
+columns_shown (Columns count) = count
 
 -- ticks upward stand at whole numbers; at thousandths, where numbers are not whole
 abbrev pub unit_of : Panel → ℕ

@@ -3,7 +3,7 @@ use Rattle.std.specs.Prelude.{◌≡◌, ℕ, ◌+◌, ◌%◌, ◌<◌, ◌≤�
 use Rattle.cm_plot.specs.declared.axes.Axis.{Axis}
 use Rattle.cm_plot.specs.declared.panels.Frame.{Frame}
 use Rattle.cm_plot.specs.declared.points.Point.{Point}
-use Rattle.cm_plot.specs.Axes.{along}
+use Rattle.cm_plot.specs.Axes.{place_along}
 use Rattle.cm_plot.specs.Lines.{place_x, place_y}
 
 -- an axis goes from a tick at one number or before it to a tick at another or behind it
@@ -18,4 +18,4 @@ pub record Joins (axis : Axis) (least most : ℕ) : Type 0 where
 -- the axis
 pub record StandsOn (frame : Frame) (point : Point) : Type 0 where
   pub across : place_x frame point ≤ 5600
-  pub up : place_y frame point + along frame.up point.y 2400 ≡ 2400
+  pub up : place_y frame point + place_along frame.up point.y 2400 ≡ 2400

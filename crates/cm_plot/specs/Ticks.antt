@@ -3,12 +3,12 @@ use Rattle.std.specs.Prelude.{ℕ, ◌+◌, ◌-◌, ◌*◌, nat_le, nat_lt, if
 use Rattle.std.specs.List.{flat_map, range_with_len}
 use Rattle.cm_plot.specs.declared.axes.Axis.{Axis}
 use Rattle.cm_plot.specs.declared.panels.Frame.{Frame}
-use Rattle.cm_plot.specs.Axes.{along}
+use Rattle.cm_plot.specs.Axes.{place_along}
 use Rattle.cm_plot.specs.Pieces.{number_text, piece}
 
 -- how far behind the beginning of an axis the k-th tick stands
 abbrev pub tick_at : Axis → ℕ → ℕ → ℕ
-tick_at axis length k = along axis (axis.low + k * axis.step) length
+tick_at axis length k = place_along axis (axis.low + k * axis.step) length
 
 -- a line at this height, and how its number begins
 unfoldable pub up_text : ℕ → List ℕ
@@ -39,7 +39,7 @@ across_tick axis k =
 
 -- where the middle of the petit cycle stands that begins at the k-th tick
 abbrev pub middle_at : Axis → ℕ → ℕ
-middle_at axis k = along axis (axis.low + k * axis.step + 500) 5600
+middle_at axis k = place_along axis (axis.low + k * axis.step + 500) 5600
 
 -- the k-th tick to the right, where a petit cycle begins, and its number in its middle; none begins at the end
 unfoldable pub cycle_tick : Axis → ℕ → List ℕ

@@ -1,8 +1,8 @@
 //! Axes: from which number to which, and where their ticks stand.
 
 ghost use Rattle.std.specs.Prelude.{◌≡◌, ◌+◌, ◌<◌, ◌≤◌, ◌^◌};
-ghost use Rattle.cm_plot.specs.Axes.{in_columns, highest, leftmost, rightmost, wider, power_in, round_step, step_of};
-ghost use Rattle.cm_plot.specs.Axes.{whole_steps, axis_of, along};
+ghost use Rattle.cm_plot.specs.Axes.{in_columns, highest, leftmost, rightmost, wider, power_in, round_step, tick_step};
+ghost use Rattle.cm_plot.specs.Axes.{whole_steps, axis_of, place_along};
 
 use crate::points::Point;
 
@@ -101,7 +101,7 @@ fn round_step(range: u64, power: u64) -> u64
 /// The distance of two ticks of an axis over this range.
 pub(crate) fn step_of(unit: u64, range: u64) -> u64
     requires some { 0 < unit }
-    ensures value { result ≡ step_of unit range }
+    ensures value { result ≡ tick_step unit range }
     ensures some { 0 < result }
 {
     unit.max(round_step(range, power_in(range)))
@@ -141,7 +141,7 @@ pub fn axis_of(unit: u64, least: u64, most: u64) -> Axis
 pub fn along(axis: Axis, number: u128, length: u32) -> u128
     requires some { 0 < axis.span }
     requires low { number < 2 ^ 80 }
-    ensures value { result ≡ along axis number length }
+    ensures value { result ≡ place_along axis number length }
 {
     number.saturating_sub(u128::from(axis.low)) * u128::from(length) / axis.span
 }

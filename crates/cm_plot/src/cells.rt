@@ -4,7 +4,7 @@ ghost use Rattle.std.specs.Prelude.{◌≡◌, ◌<◌, ◌≤◌, ◌^◌, ◌+
 ghost use Rattle.std.specs.List.{position_or_len, after_first, before_first, list_all, slice_get};
 ghost use Rattle.cm_bits.specs.Text.{is_point};
 ghost use Rattle.cm_plot.specs.Cells.{trimmed, has_words, is_decimal, cell, digits_of, digit_or_zero};
-ghost use Rattle.cm_plot.specs.Cells.{part_of, joined, number_in, is_written, is_cell, width_of};
+ghost use Rattle.cm_plot.specs.Cells.{thousandths_behind, whole_and_part, cell_number, is_written, is_cell, width_of};
 ghost use Rattle.cm_plot.specs.Cells.{escaped, escaped_byte, shortened};
 
 use cm_bits::{NoMemory, read_number};
@@ -45,7 +45,7 @@ pub fn has_words(line: &[u8]) -> bool
 
 /// The number of a column, in thousandths.
 pub(crate) fn number_at(line: &[u8], column: usize) -> Option<u64>
-    ensures value { result ≡ number_in (cell line.now column) }
+    ensures value { result ≡ cell_number (cell line.now column) }
     ensures within { IfSome result (λ number. number < 2 ^ 63) }
 {
     number(cell(line, column))
@@ -67,9 +67,9 @@ pub(crate) fn is_written(bytes: &[u8]) -> bool
 }
 
 /// The number of a cell, in thousandths, rounded down.
-#[tactic(auto, unfolding(crate::specs::Cells::number_in))]
+#[tactic(auto, unfolding(crate::specs::Cells::cell_number))]
 fn number(bytes: &[u8]) -> Option<u64>
-    ensures value { result ≡ number_in bytes.now }
+    ensures value { result ≡ cell_number bytes.now }
     ensures within { IfSome result (λ number. number < 2 ^ 63) }
 {
     let whole = number_of(whole(bytes));
@@ -109,7 +109,7 @@ pub fn behind(byte: u8, bytes: &[u8]) -> &[u8]
 
 /// Whole ones and thousandths, below 2^63 in all.
 fn joined(whole: Option<u64>, part: Option<u64>) -> Option<u64>
-    ensures value { result ≡ joined whole part }
+    ensures value { result ≡ whole_and_part whole part }
     ensures within { IfSome result (λ number. number < 2 ^ 63) }
 {
     let number = 1000 * u128::from(whole?) + u128::from(part?);
@@ -122,7 +122,7 @@ fn joined(whole: Option<u64>, part: Option<u64>) -> Option<u64>
 
 /// The thousandths behind a point, rounded down.
 fn part(digits: &[u8]) -> Option<u64>
-    ensures value { result ≡ part_of digits.now }
+    ensures value { result ≡ thousandths_behind digits.now }
 {
     if !are_decimal(digits) {
         return None;

@@ -9,12 +9,12 @@ ghost use Rattle.cm_plot.specs.declared.points.Kind.TheVariants as kind;
 ghost use Rattle.cm_plot.specs.declared.points.Point.{Point};
 ghost use Rattle.cm_plot.specs.Axes.{axis_of, in_columns};
 ghost use Rattle.cm_plot.specs.Bins.{bin_width};
-ghost use Rattle.cm_plot.specs.Cells.{cell, number_in, shortened};
+ghost use Rattle.cm_plot.specs.Cells.{cell, cell_number, shortened};
 ghost use Rattle.cm_plot.specs.Pictures.{frame_of};
 ghost use Rattle.cm_plot.specs.Pieces.{number_text};
-ghost use Rattle.cm_plot.specs.Points.{kind_of, points_with, row_points};
+ghost use Rattle.cm_plot.specs.Points.{table_kind, points_with, row_points};
 ghost use Rattle.cm_plot.specs.Rows.{row_fault};
-ghost use Rattle.cm_plot.specs.Shown.{count_of, first_of};
+ghost use Rattle.cm_plot.specs.Shown.{columns_shown, first_column};
 ghost use Rattle.cm_plot.specs.Standing.{Joins, StandsOn};
 ghost use Rattle.cm_plot.specs.Ticks.{across_text, cycle_tick};
 
@@ -26,12 +26,12 @@ pub fn axes_join_their_numbers()
 /// A law: each point of a panel's columns stands on it, whichever points a picture has.
 pub fn points_stand_on_their_panels()
     ensures { (kind : Kind) (x : ℕ) (points : List Point) (panel : Panel)
-        → All (λ point. in_columns (first_of panel) (count_of panel) point.column ≡ true
+        → All (λ point. in_columns (first_column panel) (columns_shown panel) point.column ≡ true
         → StandsOn (frame_of kind x points panel) point) points }
 {}
 
 /// A law: these rows of tables tell these points, and these cells these numbers. All are in thousandths.
-#[tactic(auto, unfolding(crate::specs::Cells::number_in, crate::specs::Cells::trimmed))]
+#[tactic(auto, unfolding(crate::specs::Cells::cell_number, crate::specs::Cells::trimmed))]
 pub fn rows_tell_points()
     ensures cycle { row_points kind.Cycles 3 (codes "6,16,5")
         ≡ record { column = 1; x = 6000; y = 16000 } ∷ record { column = 2; x = 6000; y = 5000 } ∷ [] }
@@ -41,28 +41,31 @@ pub fn rows_tell_points()
     ensures gap { row_points kind.Compared 3 (codes "0.5,,1.42") ≡ record { column = 2; x = 500; y = 1420 } ∷ [] }
     ensures blanks { row_points kind.Compared 2 (codes "0.5, 1.42 " ++ 13 ∷ [])
         ≡ record { column = 1; x = 500; y = 1420 } ∷ [] }
-    ensures whole { number_in (codes "12") ≡ Some 12000 }
-    ensures thousandth { number_in (codes "1.005") ≡ Some 1005 }
-    ensures finer { number_in (codes "1.00999999999999999999999") ≡ Some 1009 }
-    ensures tenth { number_in (codes "0.5") ≡ Some 500 }
-    ensures no_number { number_in (codes "1.x") ≡ None }
-    ensures no_digit { number_in (codes ".5") ≡ None }
+    ensures whole { cell_number (codes "12") ≡ Some 12000 }
+    ensures thousandth { cell_number (codes "1.005") ≡ Some 1005 }
+    ensures finer { cell_number (codes "1.00999999999999999999999") ≡ Some 1009 }
+    ensures tenth { cell_number (codes "0.5") ≡ Some 500 }
+    ensures no_number { cell_number (codes "1.x") ≡ None }
+    ensures no_digit { cell_number (codes ".5") ≡ None }
 {}
 
 /// A law: these first lines are of these tables, or of none.
 #[tactic(auto, unfolding(crate::specs::Cells::trimmed, crate::specs::Rows::has_names))]
 pub fn first_lines_tell_tables()
-    ensures cycles { kind_of 1 (codes "cycle,taken,delivered,referred,standing,full,asking") ≡ Ok kind.Cycles }
-    ensures blanks { kind_of 1 (codes "cycle, taken,delivered,referred,standing,full,asking" ++ 13 ∷ [])
+    ensures cycles { table_kind 1 (codes "cycle,taken,delivered,referred,standing,full,asking") ≡ Ok kind.Cycles }
+    ensures blanks { table_kind 1 (codes "cycle, taken,delivered,referred,standing,full,asking" ++ 13 ∷ [])
         ≡ Ok kind.Cycles }
-    ensures compared { kind_of 1 (codes "rate:mean latency,who came first,the oldest") ≡ Ok kind.Compared }
-    ensures ten { kind_of 1 (codes "rate,a,b,c,d,e,f,g,h,i") ≡ Ok kind.Compared }
-    ensures eleven { kind_of 2 (codes "rate,a,b,c,d,e,f,g,h,i,j") ≡ Err (fault.Wide 2 11) }
-    ensures unknown { kind_of 3 (codes "cycle,taken") ≡ Err (fault.Unknown 3) }
+    ensures compared { table_kind 1 (codes "rate:mean latency,who came first,the oldest") ≡ Ok kind.Compared }
+    ensures ten { table_kind 1 (codes "rate,a,b,c,d,e,f,g,h,i") ≡ Ok kind.Compared }
+    ensures eleven { table_kind 2 (codes "rate,a,b,c,d,e,f,g,h,i,j") ≡ Err (fault.Wide 2 11) }
+    ensures unknown { table_kind 3 (codes "cycle,taken") ≡ Err (fault.Unknown 3) }
 {}
 
 /// A law: these lines of a table of two columns have no fault, or this one.
-#[tactic(auto, unfolding(crate::specs::Cells::number_in, crate::specs::Cells::trimmed, crate::specs::Rows::fault_from))]
+#[tactic(
+    auto,
+    unfolding(crate::specs::Cells::cell_number, crate::specs::Cells::trimmed, crate::specs::Rows::fault_from)
+)]
 pub fn rows_have_faults()
     ensures row { row_fault 2 4 (codes "1, 0.12345") ≡ None }
     ensures gap { row_fault 2 4 (codes "1,") ≡ None }

@@ -2,9 +2,10 @@
 
 ghost use Rattle.std.specs.Prelude.{◌≡◌, ◌++◌, ◌<◌, ◌≤◌, OnOk};
 ghost use Rattle.std.specs.List.{flat_map, range_with_len};
-ghost use Rattle.cm_plot.specs.Lines.{colour, is_of, place_x, place_y, foot, tip, corner, circle, dot, line_open, line_text};
+ghost use Rattle.cm_plot.specs.Lines.{colour, is_of, place_x, place_y, foot, tip, column_corner, circle, dot};
+ghost use Rattle.cm_plot.specs.Lines.{line_open, line_text};
 ghost use Rattle.cm_plot.specs.Lines.{dots_text, name_open, name_text, curve_text};
-ghost use Rattle.cm_plot.specs.Shown.{count_of, CanBeDrawn};
+ghost use Rattle.cm_plot.specs.Shown.{columns_shown, CanBeDrawn};
 
 use crate::axes::along;
 use crate::cells::{cell, push_shortened};
@@ -22,9 +23,9 @@ pub(crate) fn push_curves(
     panel: Panel,
 ) -> Result<(), NoMemory>
     requires frame { CanBeDrawn frame }
-    requires lines { count_of panel ≤ 9 }
+    requires lines { columns_shown panel ≤ 9 }
     ensures ok { OnOk result (text.new.items ≡ text.old.items
-        ++ flat_map (curve_text frame header.now points.now panel) (range_with_len 0 (count_of panel))) }
+        ++ flat_map (curve_text frame header.now points.now panel) (range_with_len 0 (columns_shown panel))) }
 {
     for k in 0..panel.count() {
         push_curve(text, frame, header, points, panel, k)?;
@@ -89,7 +90,7 @@ fn push_corners(
     column: usize,
 ) -> Result<(), NoMemory>
     requires frame { CanBeDrawn frame }
-    ensures ok { OnOk result (text.new.items ≡ text.old.items ++ flat_map (corner frame column) points.now) }
+    ensures ok { OnOk result (text.new.items ≡ text.old.items ++ flat_map (column_corner frame column) points.now) }
 {
     for point in points {
         push_corner(text, frame, column, point)?;
@@ -105,7 +106,7 @@ fn push_corner(
     point: &Point,
 ) -> Result<(), NoMemory>
     requires frame { CanBeDrawn frame }
-    ensures ok { OnOk result (text.new.items ≡ text.old.items ++ corner frame column point.now) }
+    ensures ok { OnOk result (text.new.items ≡ text.old.items ++ column_corner frame column point.now) }
 {
     if !is_of(column, point) {
         return Ok(());

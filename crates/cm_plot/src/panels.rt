@@ -2,7 +2,7 @@
 
 ghost use Rattle.std.specs.Prelude.{◌≡◌, ◌++◌, ◌<◌, ◌≤◌, OnOk};
 ghost use Rattle.cm_plot.specs.Panels.{box_text, below_text, left_text, sides_text, place_text, panel_text};
-ghost use Rattle.cm_plot.specs.Shown.{label_of, first_of, count_of, unit_of, CanBeDrawn};
+ghost use Rattle.cm_plot.specs.Shown.{label_of, first_column, columns_shown, unit_of, CanBeDrawn};
 
 use crate::axes::Axis;
 use crate::cells::{behind, cell, push_shortened};
@@ -52,7 +52,7 @@ impl Panel {
 
     /// The first column that it shows.
     pub fn first(self) -> usize
-        ensures value { result ≡ first_of self }
+        ensures value { result ≡ first_column self }
         ensures within { result ≤ 5 }
     {
         match self {
@@ -64,7 +64,7 @@ impl Panel {
 
     /// How many columns it shows.
     pub fn count(self) -> usize
-        ensures value { result ≡ count_of self }
+        ensures value { result ≡ columns_shown self }
     {
         match self {
             Panel::Moved => 4,
@@ -98,7 +98,7 @@ pub(crate) fn push_panel(
     panel: Panel,
 ) -> Result<(), NoMemory>
     requires frame { CanBeDrawn frame }
-    requires lines { count_of panel ≤ 9 }
+    requires lines { columns_shown panel ≤ 9 }
     ensures ok { OnOk result (text.new.items
         ≡ text.old.items ++ panel_text top across.now frame header.now points.now panel) }
 {

@@ -2,11 +2,13 @@
 
 ghost use Rattle.std.specs.Prelude.{◌≡◌, ◌≢◌, ◌++◌, ◌<◌, ◌≤◌, Ok, Err, IfOk, IfErr, OnOk};
 ghost use Rattle.cm_bits.specs.Text.{lines_left};
-ghost use Rattle.cm_plot.specs.Heads.{title_of, size_text, ground_text, title_text, head_text};
-ghost use Rattle.cm_plot.specs.Pictures.{across_of, right_unit, has_stems, frame_of, shown, panels_text, panel_count};
-ghost use Rattle.cm_plot.specs.Pictures.{drawing, start_of, drawn_points, nothing_of, of_points, of_kind, of_header};
-ghost use Rattle.cm_plot.specs.Pictures.{picture_of};
-ghost use Rattle.cm_plot.specs.Shown.{count_of, CanBeDrawn};
+ghost use Rattle.cm_plot.specs.Heads.{title_of, size_text, ground_text, title_text, picture_head};
+ghost use Rattle.cm_plot.specs.Pictures.{across_label, right_unit, has_stems, frame_of, panel_shown, panels_text};
+ghost use Rattle.cm_plot.specs.Pictures.{panel_count};
+ghost use Rattle.cm_plot.specs.Pictures.{table_drawing, axis_start, drawn_points, nothing_of, of_points};
+ghost use Rattle.cm_plot.specs.Pictures.{drawing_of_kind, of_header};
+ghost use Rattle.cm_plot.specs.Pictures.{table_picture};
+ghost use Rattle.cm_plot.specs.Shown.{columns_shown, CanBeDrawn};
 
 use crate::axes::{axis_of, highest, leftmost, rightmost};
 use crate::bins::bins;
@@ -19,10 +21,10 @@ use cm_digits::{push_piece, push_words};
 use std::alloc::Global;
 
 /// The picture of a table of `cm1lab study`, `cm1lab study --messages` or `cm1lab load`, as an SVG.
-#[tactic(auto, unfolding(crate::specs::Pictures::picture_of))]
+#[tactic(auto, unfolding(crate::specs::Pictures::table_picture))]
 pub fn plot(alloc: Global, text: &[u8]) -> Result<Vec<u8>, PlotFault>
-    ensures value { IfOk result (λ picture. picture_of text.now ≡ Ok picture.items) }
-    ensures refused { IfErr result (λ fault. fault ≢ PlotFault.Memory → picture_of text.now ≡ Err fault) }
+    ensures value { IfOk result (λ picture. table_picture text.now ≡ Ok picture.items) }
+    ensures refused { IfErr result (λ fault. fault ≢ PlotFault.Memory → table_picture text.now ≡ Err fault) }
 {
     let mut lines = Lines::new(text);
     for number in 1..u64::MAX {
@@ -63,9 +65,9 @@ fn plot_rows(
     lines: Lines<'_>,
 ) -> Result<Vec<u8>, PlotFault>
     ensures value { IfOk result (λ picture.
-        of_kind number header.now (lines_left lines.entry) kind ≡ Ok picture.items) }
+        drawing_of_kind number header.now (lines_left lines.entry) kind ≡ Ok picture.items) }
     ensures refused { IfErr result (λ fault. fault ≢ PlotFault.Memory
-        → of_kind number header.now (lines_left lines.entry) kind ≡ Err fault) }
+        → drawing_of_kind number header.now (lines_left lines.entry) kind ≡ Err fault) }
 {
     match read_points(alloc, kind, width(header), number, lines) {
         Ok(points) => draw_points(alloc, kind, header, points),
@@ -104,7 +106,7 @@ fn nothing_of(kind: Kind) -> PlotFault
 
 /// Where the axis to the right begins at the latest.
 fn start_of(kind: Kind, x: u64) -> u64
-    ensures value { result ≡ start_of kind x }
+    ensures value { result ≡ axis_start kind x }
 {
     match kind {
         Kind::Cycles => x,
@@ -123,7 +125,7 @@ fn drawn_points(alloc: Global, kind: Kind, points: Vec<Point>) -> Result<Vec<Poi
 }
 
 /// A picture of these points.
-#[tactic(auto, unfolding(crate::specs::Pictures::drawing))]
+#[tactic(auto, unfolding(crate::specs::Pictures::table_drawing))]
 fn drawing(
     alloc: Global,
     kind: Kind,
@@ -131,7 +133,7 @@ fn drawing(
     start: u64,
     points: &[Point],
 ) -> Result<Vec<u8>, NoMemory>
-    ensures value { IfOk result (λ text. text.items ≡ drawing kind header.now start points.now) }
+    ensures value { IfOk result (λ text. text.items ≡ table_drawing kind header.now start points.now) }
 {
     let mut text = Vec::new(alloc);
     push_head(&mut text, title_of(kind), 600 + 3300 * panel_count(kind))?;
@@ -169,9 +171,9 @@ fn panel_count(kind: Kind) -> u32
 }
 
 /// What stands before the panels of a picture of this title and height.
-#[tactic(auto, unfolding(crate::specs::Heads::head_text))]
+#[tactic(auto, unfolding(crate::specs::Heads::picture_head))]
 pub fn push_head(text: &mut Vec<u8>, title: &[u8], height: u32) -> Result<(), NoMemory>
-    ensures ok { OnOk result (text.new.items ≡ text.old.items ++ head_text title.now height) }
+    ensures ok { OnOk result (text.new.items ≡ text.old.items ++ picture_head title.now height) }
 {
     push_size(text, u128::from(height))?;
     push_ground(text, u128::from(height))?;
@@ -211,7 +213,7 @@ fn push_title(text: &mut Vec<u8>, title: &[u8]) -> Result<(), NoMemory>
 }
 
 /// The i-th panel.
-#[tactic(auto, unfolding(crate::specs::Pictures::shown))]
+#[tactic(auto, unfolding(crate::specs::Pictures::panel_shown))]
 fn push_shown(
     text: &mut Vec<u8>,
     kind: Kind,
@@ -222,9 +224,9 @@ fn push_shown(
     i: u32,
 ) -> Result<(), NoMemory>
     requires few { i < 2 }
-    requires lines { count_of panel ≤ 9 }
+    requires lines { columns_shown panel ≤ 9 }
     ensures ok { OnOk result (text.new.items
-        ≡ text.old.items ++ shown kind header.now start points.now panel i) }
+        ≡ text.old.items ++ panel_shown kind header.now start points.now panel i) }
 {
     let frame = frame_of(kind, start, points, panel);
     push_panel(
@@ -240,7 +242,7 @@ fn push_shown(
 
 /// The axes of a panel: all panels of a picture have one to the right.
 fn frame_of(kind: Kind, start: u64, points: &[Point], panel: Panel) -> Frame
-    requires lines { count_of panel ≤ 9 }
+    requires lines { columns_shown panel ≤ 9 }
     ensures value { result ≡ frame_of kind start points.now panel }
     ensures frame { CanBeDrawn result }
 {
@@ -279,7 +281,7 @@ fn title_of(kind: Kind) -> &'static [u8]
 
 /// What stands to the right.
 fn across_of(kind: Kind) -> &'static [u8]
-    ensures value { result.now ≡ across_of kind }
+    ensures value { result.now ≡ across_label kind }
 {
     match kind {
         Kind::Cycles => b"petit cycle",

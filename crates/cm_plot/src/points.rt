@@ -3,8 +3,9 @@
 ghost use Rattle.std.specs.Prelude.{◌≡◌, ◌≢◌, ◌++◌, ◌∷◌, [], ◌+◌, ◌-◌, ◌<◌, ◌^◌, Ok, Err, IfOk, IfErr, IfSome, OnOk};
 ghost use Rattle.std.specs.List.{flat_map, range_with_len};
 ghost use Rattle.cm_bits.specs.Text.{lines_left};
-ghost use Rattle.cm_plot.specs.Cells.{cell, number_in};
-ghost use Rattle.cm_plot.specs.Points.{is_of_rates, compared, kind_of, point_of, point_in, message_of, row_points};
+ghost use Rattle.cm_plot.specs.Cells.{cell, cell_number};
+ghost use Rattle.cm_plot.specs.Points.{is_of_rates, compared, table_kind, point_of, point_in, latency_point};
+ghost use Rattle.cm_plot.specs.Points.{row_points};
 ghost use Rattle.cm_plot.specs.Points.{points_with, points_after};
 
 use crate::cells::{cell, has_words, number_at, width};
@@ -36,7 +37,7 @@ pub(crate) struct Point {
 
 /// Which table it is that has this first line, whose number is told where it is none.
 pub(crate) fn kind_of(number: u64, header: &[u8]) -> Result<Kind, PlotFault>
-    ensures value { result ≡ kind_of number header.now }
+    ensures value { result ≡ table_kind number header.now }
 {
     if has_names(
         header,
@@ -182,7 +183,7 @@ fn push_message(
     delivered: Option<u64>,
 ) -> Result<(), NoMemory>
     requires low { IfSome delivered (λ number. number < 2 ^ 63) }
-    ensures ok { OnOk result (points.new.items ≡ points.old.items ++ message_of taken delivered) }
+    ensures ok { OnOk result (points.new.items ≡ points.old.items ++ latency_point taken delivered) }
 {
     if let (Some(taken), Some(delivered)) = (taken, delivered) {
         let x = (delivered + 1000).saturating_sub(taken);

@@ -17,7 +17,8 @@ use Rattle.cm_model.specs.Deliveries.{standing_lines, newly_delivered}
 use Rattle.cm_model.proofs.Counting.{sum_by-range}
 use Rattle.cm_model.proofs.Each.{get_or-each_below}
 use Rattle.cm_model.proofs.Following.{run_follows, stand_or_were_delivered}
-use Rattle.cm_study.specs.Counts.{log_lengths, events_behind, is_injection, is_delivery, taken_at, delivered_at, standing_at}
+use Rattle.cm_study.specs.Counts.{log_lengths, events_behind, is_injection_event, is_delivery_event, taken_count_at}
+use Rattle.cm_study.specs.Counts.{delivered_count_at, standing_count_at}
 use Rattle.cm_study.specs.Counts.{counts_of, counts_to}
 use Rattle.cm_study.specs.StudyLaws.{AgreesWithTheAccount}
 use Rattle.cm_study.specs.Traces.{Traces}
@@ -58,18 +59,18 @@ no-more p event events is =
     omega (arith, more, none)
 
 -- as many injections as lines of them
-injections : (events : List Event) → length (filter_map injected_triple events) ≡ count_by is_injection events
+injections : (events : List Event) → length (filter_map injected_triple events) ≡ count_by is_injection_event events
 injections [] = refl
 injections (Injected m ∷ events) =
-    ap suc (injections events) ∙ one-more is_injection (Injected m) events refl
-injections (Delivered c m ∷ events) = injections events ∙ no-more is_injection (Delivered c m) events refl
+    ap suc (injections events) ∙ one-more is_injection_event (Injected m) events refl
+injections (Delivered c m ∷ events) = injections events ∙ no-more is_injection_event (Delivered c m) events refl
 
 -- and deliveries
-deliveries : (events : List Event) → length (filter_map delivered_triple events) ≡ count_by is_delivery events
+deliveries : (events : List Event) → length (filter_map delivered_triple events) ≡ count_by is_delivery_event events
 deliveries [] = refl
-deliveries (Injected m ∷ events) = deliveries events ∙ no-more is_delivery (Injected m) events refl
+deliveries (Injected m ∷ events) = deliveries events ∙ no-more is_delivery_event (Injected m) events refl
 deliveries (Delivered c m ∷ events) =
-    ap suc (deliveries events) ∙ one-more is_delivery (Delivered c m) events refl
+    ap suc (deliveries events) ∙ one-more is_delivery_event (Delivered c m) events refl
 
 -- the events behind so many as there were are the new ones
 behind : (n : ℕ) (before after : Machine) (c : ℕ) → c < 2 ^ n
@@ -88,23 +89,23 @@ gathered n f g same =
     ∙ sym (length-flat_map g (range_with_len 0 (2 ^ n)))
 
 taken : (n cap : ℕ) (before after : Machine)
-    → sum (each_from 0 (2 ^ n) (taken_at (log_lengths n before) after)) ≡ length (newly_injected n before after)
+    → sum (each_from 0 (2 ^ n) (taken_count_at (log_lengths n before) after)) ≡ length (newly_injected n before after)
 unfolding newly_injected
 taken n cap before after =
-    gathered n (taken_at (log_lengths n before) after) (λ c. filter_map injected_triple (new_events before after c))
-    (λ c below. ap (count_by is_injection) (behind n before after c below) ∙ sym (injections (new_events before after c)))
+    gathered n (taken_count_at (log_lengths n before) after) (λ c. filter_map injected_triple (new_events before after c))
+    (λ c below. ap (count_by is_injection_event) (behind n before after c below) ∙ sym (injections (new_events before after c)))
 
 gone : (n cap : ℕ) (before after : Machine)
-    → sum (each_from 0 (2 ^ n) (delivered_at (log_lengths n before) after)) ≡ length (newly_delivered n before after)
+    → sum (each_from 0 (2 ^ n) (delivered_count_at (log_lengths n before) after)) ≡ length (newly_delivered n before after)
 unfolding newly_delivered
 gone n cap before after =
-    gathered n (delivered_at (log_lengths n before) after) (λ c. filter_map delivered_triple (new_events before after c))
-    (λ c below. ap (count_by is_delivery) (behind n before after c below) ∙ sym (deliveries (new_events before after c)))
+    gathered n (delivered_count_at (log_lengths n before) after) (λ c. filter_map delivered_triple (new_events before after c))
+    (λ c below. ap (count_by is_delivery_event) (behind n before after c below) ∙ sym (deliveries (new_events before after c)))
 
-stands : (n : ℕ) (after : Machine) → sum (each_from 0 (2 ^ n) (standing_at after)) ≡ length (standing_lines n after)
+stands : (n : ℕ) (after : Machine) → sum (each_from 0 (2 ^ n) (standing_count_at after)) ≡ length (standing_lines n after)
 unfolding standing_lines
 stands n after =
-    gathered n (standing_at after) (λ c. map (standing_triple c) (list_at after.buffers c))
+    gathered n (standing_count_at after) (λ c. map (standing_triple c) (list_at after.buffers c))
     (λ c below. sym (length-map (list_at after.buffers c) (standing_triple c)))
 
 pub counts_agree : (n cap : ℕ) (traces : Traces) (machine : Machine)

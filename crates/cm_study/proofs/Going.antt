@@ -6,13 +6,13 @@ use Rattle.cm_model.specs.declared.act.Act.{Act}
 use Rattle.cm_study.specs.declared.studies.StudyFault.{StudyFault}
 use Rattle.cm_study.specs.declared.studies.StudyFault.TheVariants.{Clock}
 use Rattle.cm_study.specs.declared.studies.Table.{Table}
-use Rattle.cm_study.specs.Study.{Studied, preceded_by, lacks_room, act_text, one_act_on, end_text, told_of}
+use Rattle.cm_study.specs.Study.{Studied, study_preceded_by, act_lacks_room, act_text, one_act_on, end_text, acts_table}
 
 -- bytes before bytes
-pub preceded_by-twice : (first second : List ℕ) (rest : Result (List ℕ) StudyFault)
-    → preceded_by first (preceded_by second rest) ≡ preceded_by (first ++ second) rest
-preceded_by-twice first second (Ok rest) = ap (λ xs. Ok xs) (sym (append_assoc first second rest))
-preceded_by-twice first second (Err fault) = refl
+pub study_preceded_by-twice : (first second : List ℕ) (rest : Result (List ℕ) StudyFault)
+    → study_preceded_by first (study_preceded_by second rest) ≡ study_preceded_by (first ++ second) rest
+study_preceded_by-twice first second (Ok rest) = ap (λ xs. Ok xs) (sym (append_assoc first second rest))
+study_preceded_by-twice first second (Err fault) = refl
 
 -- acts of which one is the next
 pub next_act : (acts : List Act) (i : ℕ) (act : Act) → i < length acts → act ≡ get_or acts i act
@@ -21,27 +21,27 @@ next_act acts i act inside is = drop_more acts i act inside ∙ ap (λ a. a ∷ 
 
 -- an act for which the counter has room
 pub one_act_more : (n cap : ℕ) (table : Table) (studied : Studied) (act : Act) (acts : List Act) (text : List ℕ)
-    → lacks_room studied.machine.clock act ≡ false
-    → preceded_by text (told_of n cap table studied (act ∷ acts))
-    ≡ preceded_by (text ++ act_text n cap table studied act) (told_of n cap table (one_act_on n cap studied act) acts)
-unfolding told_of
+    → act_lacks_room studied.machine.clock act ≡ false
+    → study_preceded_by text (acts_table n cap table studied (act ∷ acts))
+    ≡ study_preceded_by (text ++ act_text n cap table studied act) (acts_table n cap table (one_act_on n cap studied act) acts)
+unfolding acts_table
 one_act_more n cap table studied act acts text room =
-    ap (λ (b : Bool). preceded_by text (if b then Err Clock
-    else preceded_by (act_text n cap table studied act) (told_of n cap table (one_act_on n cap studied act) acts))) room
-    ∙ preceded_by-twice text (act_text n cap table studied act)
-    (told_of n cap table (one_act_on n cap studied act) acts)
+    ap (λ (b : Bool). study_preceded_by text (if b then Err Clock
+    else study_preceded_by (act_text n cap table studied act) (acts_table n cap table (one_act_on n cap studied act) acts))) room
+    ∙ study_preceded_by-twice text (act_text n cap table studied act)
+    (acts_table n cap table (one_act_on n cap studied act) acts)
 
 -- an act for which it has none
 pub no_act_more : (n cap : ℕ) (table : Table) (studied : Studied) (act : Act) (acts : List Act) (text : List ℕ)
-    → lacks_room studied.machine.clock act ≡ true
-    → preceded_by text (told_of n cap table studied (act ∷ acts)) ≡ Err Clock
-unfolding told_of
+    → act_lacks_room studied.machine.clock act ≡ true
+    → study_preceded_by text (acts_table n cap table studied (act ∷ acts)) ≡ Err Clock
+unfolding acts_table
 no_act_more n cap table studied act acts text room =
-    ap (λ (b : Bool). preceded_by text (if b then Err Clock
-    else preceded_by (act_text n cap table studied act) (told_of n cap table (one_act_on n cap studied act) acts))) room
+    ap (λ (b : Bool). study_preceded_by text (if b then Err Clock
+    else study_preceded_by (act_text n cap table studied act) (acts_table n cap table (one_act_on n cap studied act) acts))) room
 
 -- the end
 pub no_acts : (n cap : ℕ) (table : Table) (studied : Studied) (acts : List Act) (text : List ℕ) → acts ≡ []
-    → preceded_by text (told_of n cap table studied acts) ≡ Ok (text ++ end_text n table studied)
-unfolding told_of
-no_acts n cap table studied acts text none = ap (λ rest. preceded_by text (told_of n cap table studied rest)) none
+    → study_preceded_by text (acts_table n cap table studied acts) ≡ Ok (text ++ end_text n table studied)
+unfolding acts_table
+no_acts n cap table studied acts text none = ap (λ rest. study_preceded_by text (acts_table n cap table studied rest)) none

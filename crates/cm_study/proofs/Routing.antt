@@ -6,45 +6,45 @@ use Rattle.cm_model.specs.declared.message.Tag.{Tag}
 use Rattle.cm_model.specs.Machine.{Machine, run_of}
 use Rattle.cm_study.specs.declared.routes.RouteFault.{RouteFault}
 use Rattle.cm_study.specs.declared.routes.RouteFault.TheVariants.{Clock}
-use Rattle.cm_study.specs.Study.{lacks_room}
+use Rattle.cm_study.specs.Study.{act_lacks_room}
 use Rattle.cm_study.specs.Whereabouts.{stand_in}
-use Rattle.cm_study.specs.Routes.{behind, act_then, told_last, route_from}
+use Rattle.cm_study.specs.Routes.{route_preceded_by, act_then, told_last, route_from}
 
 -- nothing before
-pub behind-nothing : (rest : Result (List ℕ) RouteFault) → behind [] rest ≡ rest
-behind-nothing (Ok rest) = refl
-behind-nothing (Err fault) = refl
+pub route_preceded_by-nothing : (rest : Result (List ℕ) RouteFault) → route_preceded_by [] rest ≡ rest
+route_preceded_by-nothing (Ok rest) = refl
+route_preceded_by-nothing (Err fault) = refl
 
 -- bytes before bytes
-pub behind-twice : (first second : List ℕ) (rest : Result (List ℕ) RouteFault)
-    → behind first (behind second rest) ≡ behind (first ++ second) rest
-behind-twice first second (Ok rest) = ap (λ xs. Ok xs) (sym (append_assoc first second rest))
-behind-twice first second (Err fault) = refl
+pub route_preceded_by-twice : (first second : List ℕ) (rest : Result (List ℕ) RouteFault)
+    → route_preceded_by first (route_preceded_by second rest) ≡ route_preceded_by (first ++ second) rest
+route_preceded_by-twice first second (Ok rest) = ap (λ xs. Ok xs) (sym (append_assoc first second rest))
+route_preceded_by-twice first second (Err fault) = refl
 
 -- an act that was done
 pub one_act_told : (n cap : ℕ) (tag : Tag) (machine after : Machine) (act : Act) (acts : List Act) (text : List ℕ)
-    → lacks_room machine.clock act ≡ false → after ≡ run_of n cap machine (act ∷ [])
-    → behind text (route_from n cap tag machine (act ∷ acts))
-    ≡ behind text (act_then n tag act machine after (route_from n cap tag after acts))
+    → act_lacks_room machine.clock act ≡ false → after ≡ run_of n cap machine (act ∷ [])
+    → route_preceded_by text (route_from n cap tag machine (act ∷ acts))
+    ≡ route_preceded_by text (act_then n tag act machine after (route_from n cap tag after acts))
 unfolding route_from
 one_act_told n cap tag machine after act acts text room is =
-    ap (λ (b : Bool). behind text (if b then Err Clock
+    ap (λ (b : Bool). route_preceded_by text (if b then Err Clock
     else act_then n tag act machine (run_of n cap machine (act ∷ []))
     (route_from n cap tag (run_of n cap machine (act ∷ [])) acts))) room
-    ∙ ap (λ (m : Machine). behind text (act_then n tag act machine m (route_from n cap tag m acts))) (sym is)
+    ∙ ap (λ (m : Machine). route_preceded_by text (act_then n tag act machine m (route_from n cap tag m acts))) (sym is)
 
 -- an act for which the counter has no room
 pub no_act_told : (n cap : ℕ) (tag : Tag) (machine : Machine) (act : Act) (acts : List Act) (text : List ℕ)
-    → lacks_room machine.clock act ≡ true → behind text (route_from n cap tag machine (act ∷ acts)) ≡ Err Clock
+    → act_lacks_room machine.clock act ≡ true → route_preceded_by text (route_from n cap tag machine (act ∷ acts)) ≡ Err Clock
 unfolding route_from
 no_act_told n cap tag machine act acts text room =
-    ap (λ (b : Bool). behind text (if b then Err Clock
+    ap (λ (b : Bool). route_preceded_by text (if b then Err Clock
     else act_then n tag act machine (run_of n cap machine (act ∷ []))
     (route_from n cap tag (run_of n cap machine (act ∷ [])) acts))) room
 
 -- the end
 pub end_told : (n cap : ℕ) (tag : Tag) (machine : Machine) (acts : List Act) (text : List ℕ) → acts ≡ []
-    → behind text (route_from n cap tag machine acts)
-    ≡ behind text (told_last tag machine.clock (stand_in n tag machine))
+    → route_preceded_by text (route_from n cap tag machine acts)
+    ≡ route_preceded_by text (told_last tag machine.clock (stand_in n tag machine))
 unfolding route_from
-end_told n cap tag machine acts text none = ap (λ left. behind text (route_from n cap tag machine left)) none
+end_told n cap tag machine acts text none = ap (λ left. route_preceded_by text (route_from n cap tag machine left)) none

@@ -8,9 +8,10 @@ use Rattle.std.proofs.lemmas.Grind.{flat_map-append}
 use Rattle.cm_model.specs.Each.{each_from}
 use Rattle.cm_study.specs.declared.counts.Counts.{Counts}
 use Rattle.cm_model.specs.Machine.{Machine}
-use Rattle.cm_study.specs.Adding.{added, AreWithin}
+use Rattle.cm_study.specs.Adding.{added, AreCountsWithin}
 use Rattle.cm_study.specs.Traces.{Traces}
-use Rattle.cm_study.specs.Counts.{taken_at, delivered_at, referred_at, standing_at, full_at, asking_at, counts_at, counts_to}
+use Rattle.cm_study.specs.Counts.{taken_count_at, delivered_count_at, referred_at, standing_count_at, full_at}
+use Rattle.cm_study.specs.Counts.{asking_at, counts_at, counts_to}
 
 -- one more
 pub each_from-more : {X : Type 0} (f : ℕ → X) (count : ℕ)
@@ -49,17 +50,17 @@ pub counts_to-more : (count cap : ℕ) (before : List ℕ) (traces : Traces) (ma
     ≡ added (counts_to count cap before traces machine) (counts_at cap before traces machine count)
 unfolding counts_to
 counts_to-more count cap before traces machine = λ i. record {
-  taken = sum-each_from-more (taken_at before machine) count i;
-  delivered = sum-each_from-more (delivered_at before machine) count i;
+  taken = sum-each_from-more (taken_count_at before machine) count i;
+  delivered = sum-each_from-more (delivered_count_at before machine) count i;
   referred = sum-each_from-more (referred_at traces machine) count i;
-  standing = sum-each_from-more (standing_at machine) count i;
+  standing = sum-each_from-more (standing_count_at machine) count i;
   full = sum-each_from-more (full_at cap machine) count i;
   asking = sum-each_from-more (asking_at machine) count i;
 }
 
 -- bounds of sums
-pub added-within : (count : ℕ) (these more all : Counts) → AreWithin (count * 2 ^ 72) these → AreWithin (2 ^ 72) more
-    → all ≡ added these more → AreWithin ((count + 1) * 2 ^ 72) all
+pub added-within : (count : ℕ) (these more all : Counts) → AreCountsWithin (count * 2 ^ 72) these → AreCountsWithin (2 ^ 72) more
+    → all ≡ added these more → AreCountsWithin ((count + 1) * 2 ^ 72) all
 added-within count these more all low high is = record {
   taken = omega (arith, low.taken, high.taken, ap (λ (k : Counts). k.taken) is);
   delivered = omega (arith, low.delivered, high.delivered, ap (λ (k : Counts). k.delivered) is);

@@ -18,7 +18,7 @@ added these more = record {
 }
 
 -- none is above this number
-pub record AreWithin (most : ℕ) (counts : Counts) : Type 0 where
+pub record AreCountsWithin (most : ℕ) (counts : Counts) : Type 0 where
   pub taken : counts.taken ≤ most
   pub delivered : counts.delivered ≤ most
   pub referred : counts.referred ≤ most

@@ -20,31 +20,31 @@ log_lengths n machine = each_chip n (λ c. length (list_at machine.logs c))
 abbrev pub events_behind : List ℕ → Machine → ℕ → List Event
 events_behind before machine c = drop (slice_index_or before c 0) (list_at machine.logs c)
 
-abbrev pub is_injection : Event → Bool
-is_injection (Injected m) = true
-is_injection (Delivered c m) = false
+abbrev pub is_injection_event : Event → Bool
+is_injection_event (Injected m) = true
+is_injection_event (Delivered c m) = false
 
-abbrev pub is_delivery : Event → Bool
-is_delivery (Injected m) = false
-is_delivery (Delivered c m) = true
+abbrev pub is_delivery_event : Event → Bool
+is_delivery_event (Injected m) = false
+is_delivery_event (Delivered c m) = true
 
 -- ---- of one chip
 
 -- messages that it took in
-abbrev pub taken_at : List ℕ → Machine → ℕ → ℕ
-taken_at before machine c = count_by is_injection (events_behind before machine c)
+abbrev pub taken_count_at : List ℕ → Machine → ℕ → ℕ
+taken_count_at before machine c = count_by is_injection_event (events_behind before machine c)
 
 -- messages that it delivered
-abbrev pub delivered_at : List ℕ → Machine → ℕ → ℕ
-delivered_at before machine c = count_by is_delivery (events_behind before machine c)
+abbrev pub delivered_count_at : List ℕ → Machine → ℕ → ℕ
+delivered_count_at before machine c = count_by is_delivery_event (events_behind before machine c)
 
 -- how often messages that stand there were referred since
 abbrev pub referred_at : Traces → Machine → ℕ → ℕ
 referred_at traces machine c = sum_by (λ m. referrals (trace_of traces c m) m) (list_at machine.buffers c)
 
 -- messages that stand there
-abbrev pub standing_at : Machine → ℕ → ℕ
-standing_at machine c = length (list_at machine.buffers c)
+abbrev pub standing_count_at : Machine → ℕ → ℕ
+standing_count_at machine c = length (list_at machine.buffers c)
 
 -- 1 if it has no room for another, with room for cap
 abbrev pub full_at : ℕ → Machine → ℕ → ℕ
@@ -58,10 +58,10 @@ asking_at machine c =
 -- all of them
 abbrev pub counts_at : ℕ → List ℕ → Traces → Machine → ℕ → Counts
 counts_at cap before traces machine c = record {
-  taken = taken_at before machine c;
-  delivered = delivered_at before machine c;
+  taken = taken_count_at before machine c;
+  delivered = delivered_count_at before machine c;
   referred = referred_at traces machine c;
-  standing = standing_at machine c;
+  standing = standing_count_at machine c;
   full = full_at cap machine c;
   asking = asking_at machine c;
 }
@@ -71,10 +71,10 @@ counts_at cap before traces machine c = record {
 -- of so many chips, from chip 0 on, after a petit cycle, where this was before
 unfoldable pub counts_to : ℕ → ℕ → List ℕ → Traces → Machine → Counts
 counts_to count cap before traces machine = record {
-  taken = sum (each_from 0 count (taken_at before machine));
-  delivered = sum (each_from 0 count (delivered_at before machine));
+  taken = sum (each_from 0 count (taken_count_at before machine));
+  delivered = sum (each_from 0 count (delivered_count_at before machine));
   referred = sum (each_from 0 count (referred_at traces machine));
-  standing = sum (each_from 0 count (standing_at machine));
+  standing = sum (each_from 0 count (standing_count_at machine));
   full = sum (each_from 0 count (full_at cap machine));
   asking = sum (each_from 0 count (asking_at machine));
 }

@@ -21,8 +21,8 @@ abbrev pub step_text : ℕ → ℕ → ℕ → List ℕ
 step_text from to d = if is_crossed from to d then codes " -> " ++ decimal (chip_behind from to d) else []
 
 -- the chips on its way, on a cube of n dimensions
-unfoldable pub chips_text : ℕ → ℕ → ℕ → List ℕ
-chips_text n from to = decimal from ++ flat_map (step_text from to) (range_with_len 0 n)
+unfoldable pub way_chips_text : ℕ → ℕ → ℕ → List ℕ
+way_chips_text n from to = decimal from ++ flat_map (step_text from to) (range_with_len 0 n)
 
 -- it has to cross dimension d again, and so was referred there
 abbrev pub referral_text : ℕ → ℕ → ℕ → ℕ → List ℕ
@@ -37,25 +37,25 @@ abbrev pub stay_text : ℕ → ℕ → List ℕ
 stay_text from to = if from == to then codes ", stays" else []
 
 -- the petit cycle, by the counter, and the way
-abbrev pub way_text : ℕ → ℕ → ℕ → ℕ → List ℕ
-way_text n clock from to = codes "cycle " ++ decimal clock ++ codes ": " ++ chips_text n from to
+abbrev pub cycle_way_text : ℕ → ℕ → ℕ → ℕ → List ℕ
+cycle_way_text n clock from to = codes "cycle " ++ decimal clock ++ codes ": " ++ way_chips_text n from to
 
 -- the line of a petit cycle after which the message stands in a router
 unfoldable pub stand_line : ℕ → ℕ → ℕ → Stand → List ℕ
 stand_line n clock from stand =
-    way_text n clock from stand.chip ++ stay_text from stand.chip
+    cycle_way_text n clock from stand.chip ++ stay_text from stand.chip
     ++ referrals_text n from stand.chip stand.message.rel
     ++ codes ", place " ++ decimal stand.place ++ codes " of " ++ decimal stand.count ++ 10 ∷ []
 
 -- of the one in which it was delivered
 unfoldable pub delivery_line : ℕ → ℕ → ℕ → Place → List ℕ
 delivery_line n clock from place =
-    way_text n clock from place.chip ++ codes ", delivered to processor " ++ decimal place.proc ++ 10 ∷ []
+    cycle_way_text n clock from place.chip ++ codes ", delivered to processor " ++ decimal place.proc ++ 10 ∷ []
 
 -- for whom a message is that stands at chip c
 unfoldable pub target_text : ℕ → Message → List ℕ
 target_text c m = codes ", for processor " ++ decimal m.proc ++ codes " of chip " ++ decimal (target_from c m).chip
 
 -- the last line of a message that was not delivered
-unfoldable pub end_line : Stand → List ℕ
-end_line stand = codes "stands at " ++ decimal stand.chip ++ target_text stand.chip stand.message ++ 10 ∷ []
+unfoldable pub undelivered_line : Stand → List ℕ
+undelivered_line stand = codes "stands at " ++ decimal stand.chip ++ target_text stand.chip stand.message ++ 10 ∷ []

@@ -10,14 +10,14 @@ use Rattle.cm_study.specs.declared.routes.RouteFault.{RouteFault}
 use Rattle.cm_study.specs.declared.routes.RouteFault.TheVariants.{Chip, Clock, Late, Unsent}
 use Rattle.cm_study.specs.declared.whereabouts.Stand.{Stand}
 use Rattle.cm_study.specs.Counts.{log_lengths}
-use Rattle.cm_study.specs.RouteLines.{stand_line, delivery_line, end_line}
-use Rattle.cm_study.specs.Study.{lacks_room}
+use Rattle.cm_study.specs.RouteLines.{stand_line, delivery_line, undelivered_line}
+use Rattle.cm_study.specs.Study.{act_lacks_room}
 use Rattle.cm_study.specs.Whereabouts.{stand_in, delivery_in}
 
 -- bytes, and what comes behind them
-abbrev pub behind : List ℕ → Result (List ℕ) RouteFault → Result (List ℕ) RouteFault
-behind first (Ok rest) = Ok (first ++ rest)
-behind first (Err fault) = Err fault
+abbrev pub route_preceded_by : List ℕ → Result (List ℕ) RouteFault → Result (List ℕ) RouteFault
+route_preceded_by first (Ok rest) = Ok (first ++ rest)
+route_preceded_by first (Err fault) = Err fault
 
 -- the chip from which a petit cycle led a message: where it stood before, or else the one that took it in
 abbrev pub origin : Tag → Option Stand → ℕ
@@ -28,7 +28,7 @@ origin tag None = tag.chip
 -- it stands, and what comes then; where it was delivered its route ends
 abbrev pub told_then : ℕ → ℕ → ℕ → Option Place → Option Stand → Result (List ℕ) RouteFault → Result (List ℕ) RouteFault
 told_then n clock from (Some place) stand rest = Ok (delivery_line n clock from place)
-told_then n clock from None (Some stand) rest = behind (stand_line n clock from stand) rest
+told_then n clock from None (Some stand) rest = route_preceded_by (stand_line n clock from stand) rest
 told_then n clock from None None rest = rest
 
 -- the same of a petit cycle that led from one machine to another
@@ -44,24 +44,24 @@ act_then n tag Sense before after rest = rest
 act_then n tag (Nano nano) before after rest = rest
 
 -- so much was told before and so much is now: what came then is told, and nothing more where the route is over
-abbrev pub Tells : (Result (List ℕ) RouteFault → Result (List ℕ) RouteFault) → List ℕ → List ℕ → Bool → Type 0
-Tells told before after over = (rest : Result (List ℕ) RouteFault) →
-    behind before (told rest) ≡ (if over then Ok after else behind after rest)
+abbrev pub TellsRoute : (Result (List ℕ) RouteFault → Result (List ℕ) RouteFault) → List ℕ → List ℕ → Bool → Type 0
+TellsRoute told before after over = (rest : Result (List ℕ) RouteFault) →
+    route_preceded_by before (told rest) ≡ (if over then Ok after else route_preceded_by after rest)
 
 -- at this count no message of the tag stands anywhere, nor was one delivered
-abbrev pub no_message : Tag → ℕ → RouteFault
-no_message tag clock = if nat_le clock tag.birth then Late clock else Unsent
+abbrev pub no_message_fault : Tag → ℕ → RouteFault
+no_message_fault tag clock = if nat_le clock tag.birth then Late clock else Unsent
 
 -- what is told at the end, at this count: where the message stands, or that there is none
 abbrev pub told_last : Tag → ℕ → Option Stand → Result (List ℕ) RouteFault
-told_last tag clock (Some stand) = Ok (end_line stand)
-told_last tag clock None = Err (no_message tag clock)
+told_last tag clock (Some stand) = Ok (undelivered_line stand)
+told_last tag clock None = Err (no_message_fault tag clock)
 
 -- what acts tell, one after another, and the end; or the counter has no room for one of them
 unfoldable pub route_from : ℕ → ℕ → Tag → Machine → List Act → Result (List ℕ) RouteFault
 route_from n cap tag machine [] = told_last tag machine.clock (stand_in n tag machine)
 route_from n cap tag machine (act ∷ acts) =
-    if lacks_room machine.clock act then Err Clock
+    if act_lacks_room machine.clock act then Err Clock
     else act_then n tag act machine (run_of n cap machine (act ∷ []))
     (route_from n cap tag (run_of n cap machine (act ∷ [])) acts)
 

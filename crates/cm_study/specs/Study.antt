@@ -23,8 +23,8 @@ abbrev pub studied : Machine → Known → Studied
 studied machine known = record { machine = machine; told = known.told.items; traces = known.ways }
 
 -- at the start of a study; a message that stands there then counts as if it had come straight
-abbrev pub opening : ℕ → Machine → Studied
-opening n machine =
+abbrev pub study_opening : ℕ → Machine → Studied
+study_opening n machine =
     record { machine = machine; told = log_lengths n machine; traces = traces_after n [] machine }
 
 -- after a petit cycle, which left this machine
@@ -49,22 +49,22 @@ end_text n Cycles studied = []
 end_text n Messages studied = standing_text n studied.traces studied.machine
 
 -- the first line
-abbrev pub header : Table → List ℕ
-header Cycles = cycles_header
-header Messages = messages_header
+abbrev pub table_header : Table → List ℕ
+table_header Cycles = cycles_header
+table_header Messages = messages_header
 
 -- bytes, and what comes behind them
-abbrev pub preceded_by : List ℕ → Result (List ℕ) StudyFault → Result (List ℕ) StudyFault
-preceded_by first (Ok rest) = Ok (first ++ rest)
-preceded_by first (Err fault) = Err fault
+abbrev pub study_preceded_by : List ℕ → Result (List ℕ) StudyFault → Result (List ℕ) StudyFault
+study_preceded_by first (Ok rest) = Ok (first ++ rest)
+study_preceded_by first (Err fault) = Err fault
 
 -- ---- acts
 
 -- the act is a petit cycle, and the counter has no room for it
-abbrev pub lacks_room : ℕ → Act → Bool
-lacks_room clock Cycle = clock == 2 ^ 63 - 1
-lacks_room clock Sense = false
-lacks_room clock (Nano nano) = false
+abbrev pub act_lacks_room : ℕ → Act → Bool
+act_lacks_room clock Cycle = clock == 2 ^ 63 - 1
+act_lacks_room clock Sense = false
+act_lacks_room clock (Nano nano) = false
 
 -- what is told of an act
 abbrev pub act_text : ℕ → ℕ → Table → Studied → Act → List ℕ
@@ -79,13 +79,13 @@ one_act_on n cap studied Sense = record studied { machine = run_of n cap studied
 one_act_on n cap studied (Nano nano) = record studied { machine = run_of n cap studied.machine (Nano nano ∷ []) }
 
 -- what acts tell, one after another, and the end; or the counter has no room for one of them
-unfoldable pub told_of : ℕ → ℕ → Table → Studied → List Act → Result (List ℕ) StudyFault
-told_of n cap table studied [] = Ok (end_text n table studied)
-told_of n cap table studied (act ∷ acts) =
-    if lacks_room studied.machine.clock act then Err Clock
-    else preceded_by (act_text n cap table studied act) (told_of n cap table (one_act_on n cap studied act) acts)
+unfoldable pub acts_table : ℕ → ℕ → Table → Studied → List Act → Result (List ℕ) StudyFault
+acts_table n cap table studied [] = Ok (end_text n table studied)
+acts_table n cap table studied (act ∷ acts) =
+    if act_lacks_room studied.machine.clock act then Err Clock
+    else study_preceded_by (act_text n cap table studied act) (acts_table n cap table (one_act_on n cap studied act) acts)
 
 -- the table of a program of these acts, on a machine of a cube of n dimensions whose routers have room for cap
 -- messages each
-unfoldable pub table_of : ℕ → ℕ → Table → Machine → List Act → Result (List ℕ) StudyFault
-table_of n cap table machine acts = preceded_by (header table) (told_of n cap table (opening n machine) acts)
+unfoldable pub study_table : ℕ → ℕ → Table → Machine → List Act → Result (List ℕ) StudyFault
+study_table n cap table machine acts = study_preceded_by (table_header table) (acts_table n cap table (study_opening n machine) acts)

@@ -24,8 +24,8 @@ CountsAgreeWithTheAccount = (n cap : ℕ) (traces : Traces) (machine : Machine)
     (counts_of n cap (log_lengths n machine) traces (run_of n cap machine (Cycle ∷ [])))
 
 -- a message to processor 15 of chip 0 that stands at chip c, at this place of so many
-abbrev pub standing : ℕ → ℕ → ℕ → Stand
-standing c place count = record {
+abbrev pub example_stand : ℕ → ℕ → ℕ → Stand
+example_stand c place count = record {
   chip = c;
   place = place;
   count = count;

@@ -11,11 +11,11 @@ use Rattle.cm_bits.specs.Text.{number_cell, last_number_cell}
 use Rattle.cm_study.specs.declared.counts.Counts.{Counts}
 use Rattle.cm_study.specs.declared.trace.Trace.{Trace}
 use Rattle.cm_study.specs.Counts.{events_behind}
-use Rattle.cm_study.specs.Traces.{Traces, trace_of, followed}
+use Rattle.cm_study.specs.Traces.{Traces, trace_of, trace_after}
 
 -- three numbers, each with a comma behind it
-abbrev pub columns : ℕ → ℕ → ℕ → List ℕ
-columns x y z = number_cell x ++ number_cell y ++ number_cell z
+abbrev pub three_columns : ℕ → ℕ → ℕ → List ℕ
+three_columns x y z = number_cell x ++ number_cell y ++ number_cell z
 
 -- ---- petit cycles
 
@@ -25,7 +25,7 @@ cycles_header = codes "cycle,taken,delivered,referred,standing,full,asking\n"
 -- the line of a petit cycle
 unfoldable pub cycle_line : ℕ → Counts → List ℕ
 cycle_line clock counts =
-    columns clock counts.taken counts.delivered ++ columns counts.referred counts.standing counts.full
+    three_columns clock counts.taken counts.delivered ++ three_columns counts.referred counts.standing counts.full
     ++ last_number_cell counts.asking
 
 -- ---- messages
@@ -35,7 +35,7 @@ messages_header = codes "chip,processor,taken,to chip,to processor,delivered,cro
 
 -- who sent a message and when, each with a comma behind it
 abbrev pub tag_columns : Trace → List ℕ
-tag_columns trace = columns trace.tag.chip trace.tag.proc trace.tag.birth
+tag_columns trace = three_columns trace.tag.chip trace.tag.proc trace.tag.birth
 
 -- how many dimensions it crossed and how often it was referred
 abbrev pub way_columns : Trace → List ℕ
@@ -43,20 +43,20 @@ way_columns trace = number_cell trace.crossed ++ last_number_cell trace.referred
 
 -- the line of a message that was delivered, to a processor of chip c in a petit cycle
 unfoldable pub delivered_line : ℕ → ℕ → Message → Trace → List ℕ
-delivered_line clock c m trace = tag_columns trace ++ columns c m.proc clock ++ way_columns trace
+delivered_line clock c m trace = tag_columns trace ++ three_columns c m.proc clock ++ way_columns trace
 
 -- where one that stands at chip c is bound for, and nothing of a delivery
 abbrev pub bound_columns : ℕ → Message → List ℕ
 bound_columns c m = number_cell (target_from c m).chip ++ number_cell m.proc ++ 44 ∷ []
 
 -- its line
-unfoldable pub standing_line : ℕ → Message → Trace → List ℕ
-standing_line c m trace = tag_columns trace ++ bound_columns c m ++ way_columns trace
+unfoldable pub trace_line : ℕ → Message → Trace → List ℕ
+trace_line c m trace = tag_columns trace ++ bound_columns c m ++ way_columns trace
 
 -- what an event of chip c tells of a delivery
 abbrev pub event_text : ℕ → Traces → ℕ → Event → List ℕ
 event_text clock traces c (Injected m) = []
-event_text clock traces c (Delivered d m) = delivered_line clock c m (followed (trace_of traces c m) m)
+event_text clock traces c (Delivered d m) = delivered_line clock c m (trace_after (trace_of traces c m) m)
 
 -- the lines of the messages that a chip delivered
 abbrev pub delivered_text_at : ℕ → List ℕ → Traces → Machine → ℕ → List ℕ
@@ -71,7 +71,7 @@ delivered_text n clock before traces machine =
 -- the lines of the messages that stand at a chip
 abbrev pub standing_text_at : Traces → Machine → ℕ → List ℕ
 standing_text_at traces machine c =
-    flat_map (λ m. standing_line c m (trace_of traces c m)) (list_at machine.buffers c)
+    flat_map (λ m. trace_line c m (trace_of traces c m)) (list_at machine.buffers c)
 
 -- of those that stand in all routers
 unfoldable pub standing_text : ℕ → Traces → Machine → List ℕ

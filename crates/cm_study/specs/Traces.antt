@@ -12,8 +12,8 @@ abbrev pub Traces : Type 0
 Traces = List (List Trace)
 
 -- so many and more: a count ends at the greatest number of 64 bits
-abbrev pub counted : ℕ → ℕ → ℕ
-counted before more = min (before + more) (2 ^ 64 - 1)
+abbrev pub count_grown : ℕ → ℕ → ℕ
+count_grown before more = min (before + more) (2 ^ 64 - 1)
 
 -- ---- one message
 
@@ -43,19 +43,19 @@ abbrev pub referrals : Trace → Message → ℕ
 referrals trace m = count_ones (bit_and (bit_xor trace.rel m.rel) m.rel)
 
 -- what is known of the message one petit cycle on
-abbrev pub followed : Trace → Message → Trace
-followed trace m = record {
+abbrev pub trace_after : Trace → Message → Trace
+trace_after trace m = record {
   tag = m.tag;
   rel = m.rel;
-  crossed = counted trace.crossed (crossings trace m);
-  referred = counted trace.referred (referrals trace m);
+  crossed = count_grown trace.crossed (crossings trace m);
+  referred = count_grown trace.referred (referrals trace m);
 }
 
 -- ---- all messages
 
 -- what is known of those that stand at chip c now
 abbrev pub traces_at : Traces → Machine → ℕ → List Trace
-traces_at traces machine c = map (λ m. followed (trace_of traces c m) m) (list_at machine.buffers c)
+traces_at traces machine c = map (λ m. trace_after (trace_of traces c m) m) (list_at machine.buffers c)
 
 -- what is known of all that stand in the routers now
 unfoldable pub all_traces : ℕ → Traces → Machine → List Trace

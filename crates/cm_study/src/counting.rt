@@ -7,8 +7,9 @@ ghost use Rattle.cm_model.specs.Each.{each_from};
 ghost use Rattle.cm_model.specs.Processor.{SEND, flag};
 ghost use Rattle.cm_model.specs.Chip.{processor_at};
 ghost use Rattle.cm_model.specs.Array.{each_chip, list_at};
-ghost use Rattle.cm_study.specs.Adding.{AreWithin};
-ghost use Rattle.cm_study.specs.Counts.{log_lengths, events_behind, is_injection, is_delivery, counts_at, counts_of};
+ghost use Rattle.cm_study.specs.Adding.{AreCountsWithin};
+ghost use Rattle.cm_study.specs.Counts.{log_lengths, events_behind, is_injection_event, is_delivery_event, counts_at};
+ghost use Rattle.cm_study.specs.Counts.{counts_of};
 ghost use Rattle.cm_study.specs.Traces.{trace_of, referrals};
 
 use crate::counts::Counts;
@@ -75,7 +76,7 @@ fn counts_at<const N: usize, const CAP: usize>(
 ) -> Result<Counts, NoMemory>
     requires chip { chip < 2 ^ N }
     ensures value { IfOk result (λ counts. counts ≡ counts_at CAP before.now ways.now machine.now.machine chip) }
-    ensures within { IfOk result (λ counts. AreWithin (2 ^ 72) counts) }
+    ensures within { IfOk result (λ counts. AreCountsWithin (2 ^ 72) counts) }
 {
     let events = events_behind(before, machine, chip)?;
     let messages = machine.buffer(chip);
@@ -115,25 +116,25 @@ fn log_of<const N: usize, const CAP: usize>(
 }
 
 fn injections(events: &[Event]) -> usize
-    ensures value { result ≡ count_by is_injection events.now }
+    ensures value { result ≡ count_by is_injection_event events.now }
 {
     events.iter().filter(|event| is_injection(event)).count()
 }
 
 fn is_injection(event: &Event) -> bool
-    ensures value { result ≡ is_injection event.now }
+    ensures value { result ≡ is_injection_event event.now }
 {
     matches!(event, Event::Injected(_))
 }
 
 fn deliveries(events: &[Event]) -> usize
-    ensures value { result ≡ count_by is_delivery events.now }
+    ensures value { result ≡ count_by is_delivery_event events.now }
 {
     events.iter().filter(|event| is_delivery(event)).count()
 }
 
 fn is_delivery(event: &Event) -> bool
-    ensures value { result ≡ is_delivery event.now }
+    ensures value { result ≡ is_delivery_event event.now }
 {
     matches!(event, Event::Delivered { .. })
 }

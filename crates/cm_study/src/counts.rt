@@ -1,7 +1,7 @@
 //! What a petit cycle does to the messages of a machine, in numbers.
 
 ghost use Rattle.std.specs.Prelude.{◌≡◌, ◌+◌, ◌≤◌, ◌^◌};
-ghost use Rattle.cm_study.specs.Adding.{no_counts, added, AreWithin};
+ghost use Rattle.cm_study.specs.Adding.{no_counts, added, AreCountsWithin};
 
 /// What a petit cycle did, and what it left: numbers of all chips, or of one.
 #[derive(Clone, Copy, Debug, PartialEq, Eq)]
@@ -32,8 +32,8 @@ impl Counts {
 
     /// These and others.
     pub(crate) fn plus(self, more: Counts) -> Counts
-        requires within { AreWithin (2 ^ 126) self }
-        requires more { AreWithin (2 ^ 126) more }
+        requires within { AreCountsWithin (2 ^ 126) self }
+        requires more { AreCountsWithin (2 ^ 126) more }
         ensures value { result ≡ added self more }
     {
         Counts {

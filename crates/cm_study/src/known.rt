@@ -3,7 +3,7 @@
 ghost use Rattle.std.specs.Prelude.{◌≡◌, ◌++◌, ◌∷◌, [], IfOk, OnOk};
 ghost use Rattle.cm_model.specs.declared.act.Act.TheVariants as act;
 ghost use Rattle.cm_model.specs.Machine.{run_of};
-ghost use Rattle.cm_study.specs.Study.{studied, opening, told_cycle, end_text, act_text, one_act_on};
+ghost use Rattle.cm_study.specs.Study.{studied, study_opening, told_cycle, end_text, act_text, one_act_on};
 
 use crate::counting::{counts, log_lengths};
 use crate::studies::Table;
@@ -27,7 +27,7 @@ impl Known {
         alloc: Global,
         machine: &Machine<N, CAP>,
     ) -> Result<Known, NoMemory>
-        ensures value { IfOk result (λ known. studied machine.now.machine known ≡ opening N machine.now.machine) }
+        ensures value { IfOk result (λ known. studied machine.now.machine known ≡ study_opening N machine.now.machine) }
     {
         let told = log_lengths(alloc, machine)?;
         let nothing = Ways::none(alloc);

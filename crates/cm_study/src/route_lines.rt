@@ -3,8 +3,10 @@
 ghost use Rattle.std.specs.Prelude.{◌≡◌, ◌++◌, ◌∷◌, [], ◌≤◌, ◌<◌, OnOk, decimal};
 ghost use Rattle.std.specs.List.{flat_map, range_with_len};
 ghost use Rattle.cm_bits.specs.Bit.{bit};
-ghost use Rattle.cm_study.specs.RouteLines.{is_crossed, chip_behind, step_text, chips_text, referral_text, referrals_text};
-ghost use Rattle.cm_study.specs.RouteLines.{stay_text, way_text, stand_line, delivery_line, target_text, end_line};
+ghost use Rattle.cm_study.specs.RouteLines.{is_crossed, chip_behind, step_text, way_chips_text, referral_text};
+ghost use Rattle.cm_study.specs.RouteLines.{referrals_text};
+ghost use Rattle.cm_study.specs.RouteLines.{stay_text, cycle_way_text, stand_line, delivery_line, target_text};
+ghost use Rattle.cm_study.specs.RouteLines.{undelivered_line};
 
 use crate::whereabouts::Stand;
 use cm_bits::{NoMemory, Place};
@@ -49,9 +51,9 @@ pub(crate) fn push_delivery(
 }
 
 /// The last line of a message that stands in a router.
-#[tactic(auto, unfolding(crate::specs::RouteLines::end_line))]
+#[tactic(auto, unfolding(crate::specs::RouteLines::undelivered_line))]
 pub(crate) fn push_end(text: &mut Vec<u8>, stand: &Stand) -> Result<(), NoMemory>
-    ensures ok { OnOk result (text.new.items ≡ text.old.items ++ end_line stand.now) }
+    ensures ok { OnOk result (text.new.items ≡ text.old.items ++ undelivered_line stand.now) }
 {
     push_piece(text, b"stands at ", stand.chip)?;
     push_target(text, stand.chip, &stand.message)?;
@@ -71,7 +73,7 @@ fn push_target(text: &mut Vec<u8>, chip: u16, message: &Message) -> Result<(), N
 /// The petit cycle and the way from one chip to another.
 fn push_way(text: &mut Vec<u8>, dims: u8, clock: u64, from: u16, to: u16) -> Result<(), NoMemory>
     requires dims { dims ≤ 12 }
-    ensures ok { OnOk result (text.new.items ≡ text.old.items ++ way_text dims clock from to) }
+    ensures ok { OnOk result (text.new.items ≡ text.old.items ++ cycle_way_text dims clock from to) }
 {
     push_piece(text, b"cycle ", clock)?;
     push_words(text, b": ")?;
@@ -81,7 +83,7 @@ fn push_way(text: &mut Vec<u8>, dims: u8, clock: u64, from: u16, to: u16) -> Res
 /// The chips on the way.
 fn push_chips(text: &mut Vec<u8>, dims: u8, from: u16, to: u16) -> Result<(), NoMemory>
     requires dims { dims ≤ 12 }
-    ensures ok { OnOk result (text.new.items ≡ text.old.items ++ chips_text dims from to) }
+    ensures ok { OnOk result (text.new.items ≡ text.old.items ++ way_chips_text dims from to) }
 {
     push_piece(text, b"", from)?;
     for dim in 0..dims {

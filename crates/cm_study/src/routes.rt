@@ -3,7 +3,8 @@
 ghost use Rattle.std.specs.Prelude.{◌≡◌, ◌≢◌, ◌≤◌, ◌∷◌, [], Ok, Err, IfOk, IfErr, OnOk};
 ghost use Rattle.cm_model.specs.declared.act.Act.TheVariants as act;
 ghost use Rattle.cm_model.specs.Machine.{run_of};
-ghost use Rattle.cm_study.specs.Routes.{behind, origin, told_then, act_then, Tells, no_message, told_last, route_of};
+ghost use Rattle.cm_study.specs.Routes.{route_preceded_by, origin, told_then, act_then, TellsRoute, no_message_fault};
+ghost use Rattle.cm_study.specs.Routes.{told_last, route_of};
 ghost use Rattle.cm_study.specs.Whereabouts.{stand_in};
 
 use crate::counting::{chip_count, log_lengths};
@@ -91,7 +92,7 @@ fn follow<const N: usize, const CAP: usize>(
     text: &mut Vec<u8>,
 ) -> Result<bool, NoMemory>
     ensures machine { OnOk result (machine.new.machine ≡ run_of N CAP machine.old.machine (act.now ∷ [])) }
-    ensures text { IfOk result (Tells
+    ensures text { IfOk result (TellsRoute
         (λ rest. act_then N tag.now act.now machine.old.machine machine.new.machine rest) text.old.items text.new.items) }
 {
     match act {
@@ -115,7 +116,7 @@ fn follow_cycle<const N: usize, const CAP: usize>(
     text: &mut Vec<u8>,
 ) -> Result<bool, NoMemory>
     ensures machine { OnOk result (machine.new.machine ≡ run_of N CAP machine.old.machine (act.Cycle ∷ [])) }
-    ensures text { IfOk result (Tells
+    ensures text { IfOk result (TellsRoute
         (λ rest. act_then N tag.now act.Cycle machine.old.machine machine.new.machine rest) text.old.items text.new.items) }
 {
     let clock = machine.clock();
@@ -148,7 +149,7 @@ fn tell(
     stand: Option<Stand>,
 ) -> Result<bool, NoMemory>
     requires dims { dims ≤ 12 }
-    ensures text { IfOk result (Tells
+    ensures text { IfOk result (TellsRoute
         (λ rest. told_then dims clock from delivery stand rest) text.old.items text.new.items) }
 {
     if let Some(place) = delivery {
@@ -167,10 +168,10 @@ fn tell_last<const N: usize, const CAP: usize>(
     tag: &Tag,
     text: &mut Vec<u8>,
 ) -> Result<(), RouteFault>
-    ensures ok { OnOk result (behind text.old.items (told_last tag.now machine.now.machine.clock
+    ensures ok { OnOk result (route_preceded_by text.old.items (told_last tag.now machine.now.machine.clock
         (stand_in N tag.now machine.now.machine)) ≡ Ok text.new.items) }
     ensures refused { IfErr result (λ fault. fault ≢ RouteFault.Memory
-        → behind text.old.items (told_last tag.now machine.now.machine.clock
+        → route_preceded_by text.old.items (told_last tag.now machine.now.machine.clock
         (stand_in N tag.now machine.now.machine)) ≡ Err fault) }
 {
     let clock = machine.clock();
@@ -185,7 +186,7 @@ fn tell_last<const N: usize, const CAP: usize>(
 
 /// Why there is no message, at the end.
 fn no_message(tag: &Tag, clock: u64) -> RouteFault
-    ensures value { result ≡ no_message tag.now clock }
+    ensures value { result ≡ no_message_fault tag.now clock }
 {
     if clock <= tag.birth {
         RouteFault::Late(clock)

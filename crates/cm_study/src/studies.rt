@@ -1,7 +1,7 @@
 //! A study of a program.
 
 ghost use Rattle.std.specs.Prelude.{◌≡◌, ◌≢◌, ◌^◌, ◌-◌, Ok, Err, IfOk, IfErr};
-ghost use Rattle.cm_study.specs.Study.{header, lacks_room, table_of};
+ghost use Rattle.cm_study.specs.Study.{table_header, act_lacks_room, study_table};
 
 use crate::known::Known;
 use crate::watch::Watch;
@@ -50,9 +50,9 @@ pub fn study<const N: usize, const CAP: usize, W: Watch>(
     table: Table,
     watch: &mut W,
 ) -> Result<Vec<u8>, StudyFault>
-    ensures value { IfOk result (λ text. table_of N CAP table machine.old.machine acts.now ≡ Ok text.items) }
+    ensures value { IfOk result (λ text. study_table N CAP table machine.old.machine acts.now ≡ Ok text.items) }
     ensures refused { IfErr result (λ fault. fault ≢ StudyFault.Memory
-        → table_of N CAP table machine.old.machine acts.now ≡ Err fault) }
+        → study_table N CAP table machine.old.machine acts.now ≡ Err fault) }
 {
     let mut text = opening_text(alloc, table)?;
     let mut known = Known::opening(alloc, machine)?;
@@ -69,7 +69,7 @@ pub fn study<const N: usize, const CAP: usize, W: Watch>(
 
 /// The first line of a table.
 fn opening_text(alloc: Global, table: Table) -> Result<Vec<u8>, NoMemory>
-    ensures value { IfOk result (λ text. text.items ≡ header table) }
+    ensures value { IfOk result (λ text. text.items ≡ table_header table) }
 {
     let line = match table {
         Table::Cycles => b"cycle,taken,delivered,referred,standing,full,asking\n".as_slice(),
@@ -82,7 +82,7 @@ fn opening_text(alloc: Global, table: Table) -> Result<Vec<u8>, NoMemory>
 
 /// Whether the act is a petit cycle for which the counter has no room.
 pub(crate) fn lacks_room(clock: u64, act: &Act) -> bool
-    ensures value { result ≡ lacks_room clock act.now }
+    ensures value { result ≡ act_lacks_room clock act.now }
 {
     match act {
         Act::Cycle => clock == LAST_CLOCK,

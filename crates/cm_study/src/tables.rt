@@ -2,8 +2,8 @@
 
 ghost use Rattle.std.specs.Prelude.{◌≡◌, ◌++◌, ◌∷◌, [], ◌^◌, ◌<◌, OnOk, decimal};
 ghost use Rattle.std.specs.List.{flat_map};
-ghost use Rattle.cm_study.specs.Tables.{columns, cycle_line, tag_columns, bound_columns, way_columns};
-ghost use Rattle.cm_study.specs.Tables.{delivered_line, standing_line};
+ghost use Rattle.cm_study.specs.Tables.{three_columns, cycle_line, tag_columns, bound_columns, way_columns};
+ghost use Rattle.cm_study.specs.Tables.{delivered_line, trace_line};
 ghost use Rattle.cm_study.specs.Tables.{event_text, delivered_text, delivered_text_at, standing_text, standing_text_at};
 ghost use Rattle.cm_study.specs.Traces.{trace_of};
 
@@ -126,7 +126,7 @@ fn push_buffer(
     messages: &[Message],
 ) -> Result<(), NoMemory>
     ensures ok { OnOk result (text.new.items
-        ≡ text.old.items ++ flat_map (λ m. standing_line chip m (trace_of ways.now chip m)) messages.now) }
+        ≡ text.old.items ++ flat_map (λ m. trace_line chip m (trace_of ways.now chip m)) messages.now) }
 {
     for message in messages {
         let trace = ways.of(chip, message);
@@ -135,14 +135,14 @@ fn push_buffer(
     Ok(())
 }
 
-#[tactic(auto, unfolding(crate::specs::Tables::standing_line))]
+#[tactic(auto, unfolding(crate::specs::Tables::trace_line))]
 fn push_standing_line(
     text: &mut Vec<u8>,
     chip: u16,
     message: &Message,
     trace: &Trace,
 ) -> Result<(), NoMemory>
-    ensures ok { OnOk result (text.new.items ≡ text.old.items ++ standing_line chip message.now trace.now) }
+    ensures ok { OnOk result (text.new.items ≡ text.old.items ++ trace_line chip message.now trace.now) }
 {
     push_tag(text, trace)?;
     push_bound(text, chip, message)?;
@@ -181,7 +181,7 @@ fn push_way(text: &mut Vec<u8>, trace: &Trace) -> Result<(), NoMemory>
 
 /// Three numbers, each with a comma behind it.
 fn push_columns(text: &mut Vec<u8>, x: u128, y: u128, z: u128) -> Result<(), NoMemory>
-    ensures ok { OnOk result (text.new.items ≡ text.old.items ++ columns x y z) }
+    ensures ok { OnOk result (text.new.items ≡ text.old.items ++ three_columns x y z) }
 {
     push_number(text, x, b',')?;
     push_number(text, y, b',')?;

@@ -1,7 +1,7 @@
 //! What is known of the way of one message.
 
 ghost use Rattle.std.specs.Prelude.{◌≡◌, ◌≤◌, count_ones};
-ghost use Rattle.cm_study.specs.Traces.{set_out, referrals, followed};
+ghost use Rattle.cm_study.specs.Traces.{set_out, referrals, trace_after};
 
 use cm_model::{Message, Tag};
 
@@ -32,7 +32,7 @@ impl Trace {
 
     /// One petit cycle on, where the message is this now.
     pub(crate) fn followed(self, message: &Message) -> Trace
-        ensures value { result ≡ followed self message.now }
+        ensures value { result ≡ trace_after self message.now }
     {
         let (before, now) = (self.rel, message.rel);
         let crossed = self.crossed;

@@ -5,7 +5,7 @@ ghost use Rattle.std.specs.List.{find};
 ghost use Rattle.cm_model.specs.Array.{list_at};
 ghost use Rattle.cm_model.specs.Found.{same_tag};
 ghost use Rattle.cm_study.specs.declared.trace.Trace.{Trace};
-ghost use Rattle.cm_study.specs.Traces.{trace_of, followed, by_sender, traces_after};
+ghost use Rattle.cm_study.specs.Traces.{trace_of, trace_after, by_sender, traces_after};
 
 use crate::counting::chip_count;
 use crate::trace::Trace;
@@ -76,7 +76,7 @@ impl Ways {
     fn follow_chip(&self, chip: u16, messages: &[Message], next: &mut Ways) -> Result<(), NoMemory>
         ensures ok { OnOk result ((n : ℕ) (before : List Trace) → next.old ≡ by_sender n before
             → next.new ≡ by_sender n
-            (before ++ map (λ m. followed (trace_of self.now chip m) m) messages.now)) }
+            (before ++ map (λ m. trace_after (trace_of self.now chip m) m) messages.now)) }
     {
         for message in messages {
             next.push(self.of(chip, message).followed(message))?;

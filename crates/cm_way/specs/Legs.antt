@@ -14,20 +14,20 @@ use Rattle.cm_way.specs.declared.legs.Step.TheVariants.{Wanted, Referred, Delive
 -- ---- what a line says
 
 -- a number below another, if there is one
-abbrev pub below : ℕ → Option ℕ → Option ℕ
-below limit None = None
-below limit (Some x) = if nat_lt x limit then Some x else None
+abbrev pub option_below : ℕ → Option ℕ → Option ℕ
+option_below limit None = None
+option_below limit (Some x) = if nat_lt x limit then Some x else None
 
 -- the petit cycle that a line is of, behind its first word
 abbrev pub cycle_behind : List ℕ → Option ℕ
-cycle_behind line = below (2 ^ 50) (number_of (before_first is_colon (drop 6 line)))
+cycle_behind line = option_below (2 ^ 50) (number_of (before_first is_colon (drop 6 line)))
 
 abbrev pub cycle_in : List ℕ → Option ℕ
 cycle_in line = if starts_with nat_eq line (codes "cycle ") then cycle_behind line else None
 
 -- the chip that a word names
-abbrev pub chip_in : List ℕ → Option ℕ
-chip_in word = below 4096 (number_of word)
+abbrev pub chip_of_word : List ℕ → Option ℕ
+chip_of_word word = option_below 4096 (number_of word)
 
 abbrev pub is_number : ℕ → Option ℕ → Bool
 is_number x None = false
@@ -42,11 +42,11 @@ abbrev pub is_referred : List ℕ → ℕ → Bool
 is_referred line dim = list_any (is_referral dim) (slice_split is_comma line)
 
 -- a part of a line says that it was delivered
-abbrev pub is_delivery : List ℕ → Bool
-is_delivery part = starts_with nat_eq part (codes " delivered")
+abbrev pub is_delivered_part : List ℕ → Bool
+is_delivered_part part = starts_with nat_eq part (codes " delivered")
 
-abbrev pub is_delivered : List ℕ → Bool
-is_delivered line = list_any is_delivery (slice_split is_comma line)
+abbrev pub says_delivered : List ℕ → Bool
+says_delivered line = list_any is_delivered_part (slice_split is_comma line)
 
 -- ---- legs
 
@@ -74,7 +74,7 @@ last_leg c line chip = record {
   end = 0;
   from = chip;
   to = chip;
-  step = if is_delivered line then Delivered else Wanted;
+  step = if says_delivered line then Delivered else Wanted;
 }
 
 -- the leg to the chip of a word, if it names one
@@ -83,9 +83,9 @@ legs_at c line from None = []
 legs_at c line from (Some chip) = leg_to c line from chip ∷ []
 
 -- the chip from which the next leg leads
-abbrev pub chip_after : Option ℕ → Option ℕ → Option ℕ
-chip_after from None = from
-chip_after from (Some chip) = Some chip
+abbrev pub next_chip : Option ℕ → Option ℕ → Option ℕ
+next_chip from None = from
+next_chip from (Some chip) = Some chip
 
 -- the leg behind the last word
 abbrev pub legs_end : ℕ → List ℕ → Option ℕ → List Leg
@@ -96,7 +96,7 @@ legs_end c line (Some chip) = last_leg c line chip ∷ []
 unfoldable pub legs_from : ℕ → List ℕ → Option ℕ → List (List ℕ) → List Leg
 legs_from c line from [] = legs_end c line from
 legs_from c line from (word ∷ words) =
-    legs_at c line from (chip_in word) ++ legs_from c line (chip_after from (chip_in word)) words
+    legs_at c line from (chip_of_word word) ++ legs_from c line (next_chip from (chip_of_word word)) words
 
 -- those of a petit cycle: its chips stand before the first comma
 abbrev pub cycle_legs : List ℕ → Option ℕ → List Leg

@@ -2,9 +2,10 @@
 
 ghost use Rattle.std.specs.Prelude.{◌≡◌, ◌≢◌, ◌++◌, ◌<◌, [], Ok, Err, IfOk, IfErr, OnOk};
 ghost use Rattle.std.specs.List.{flat_map};
-ghost use Rattle.cm_way.specs.Drawing.{is_route, row_text, segment, corner, referral, delivery, way_text};
-ghost use Rattle.cm_way.specs.Drawing.{begin_text, names_text, lines_text, panel_text, drawing, of_legs, picture_of};
-ghost use Rattle.cm_way.specs.Rows.{seen};
+ghost use Rattle.cm_way.specs.Drawing.{is_route, row_text, segment, leg_corner, referral, delivery, way_line};
+ghost use Rattle.cm_way.specs.Drawing.{begin_text, names_text, lines_text, route_panel_text, route_drawing, of_legs};
+ghost use Rattle.cm_way.specs.Drawing.{route_or_table_picture};
+ghost use Rattle.cm_way.specs.Rows.{plan_seen};
 ghost use Rattle.cm_way.specs.Legs.{legs_after};
 ghost use Rattle.cm_bits.specs.Text.{lines_of};
 
@@ -19,10 +20,10 @@ use cm_plot::{
 use std::alloc::Global;
 
 /// The picture of a route of `cm1lab route`, or of a table, as an SVG.
-#[tactic(auto, unfolding(crate::specs::Drawing::picture_of))]
+#[tactic(auto, unfolding(crate::specs::Drawing::route_or_table_picture))]
 pub fn plot(alloc: Global, text: &[u8]) -> Result<Vec<u8>, PlotFault>
-    ensures value { IfOk result (λ picture. picture_of text.now ≡ Ok picture.items) }
-    ensures refused { IfErr result (λ fault. fault ≢ PlotFault.Memory → picture_of text.now ≡ Err fault) }
+    ensures value { IfOk result (λ picture. route_or_table_picture text.now ≡ Ok picture.items) }
+    ensures refused { IfErr result (λ fault. fault ≢ PlotFault.Memory → route_or_table_picture text.now ≡ Err fault) }
 {
     if is_route(text) {
         plot_route(alloc, text)
@@ -64,7 +65,7 @@ fn plot_legs(alloc: Global, legs: &[Leg]) -> Result<Vec<u8>, PlotFault>
 
 /// A picture of these legs, of which this is the first.
 fn drawing(alloc: Global, first: &Leg, legs: &[Leg]) -> Result<Vec<u8>, NoMemory>
-    ensures value { IfOk result (λ text. text.items ≡ drawing first.now legs.now) }
+    ensures value { IfOk result (λ text. text.items ≡ route_drawing first.now legs.now) }
 {
     let grid = grid_of(alloc, first.cycle, legs)?;
     let mut text = Vec::new(alloc);
@@ -75,10 +76,11 @@ fn drawing(alloc: Global, first: &Leg, legs: &[Leg]) -> Result<Vec<u8>, NoMemory
 }
 
 /// Its panel.
-#[tactic(auto, unfolding(crate::specs::Drawing::panel_text))]
+#[tactic(auto, unfolding(crate::specs::Drawing::route_panel_text))]
 fn push_panel(text: &mut Vec<u8>, grid: &Grid, first: &Leg, legs: &[Leg]) -> Result<(), NoMemory>
     requires some { 0 < grid.now.across.span }
-    ensures ok { OnOk result (text.new.items ≡ text.old.items ++ panel_text (seen grid.now) first.now legs.now) }
+    ensures ok { OnOk result (text.new.items ≡ text.old.items
+        ++ route_panel_text (plan_seen grid.now) first.now legs.now) }
 {
     push_place(text, 600)?;
     push_cycle_ticks(text, grid.across)?;
@@ -92,7 +94,7 @@ fn push_panel(text: &mut Vec<u8>, grid: &Grid, first: &Leg, legs: &[Leg]) -> Res
 /// A line for each row, and its chip, if there are not too many.
 fn push_rows(text: &mut Vec<u8>, grid: &Grid) -> Result<(), NoMemory>
     ensures ok { OnOk result (text.new.items
-        ≡ text.old.items ++ flat_map (row_text (seen grid.now)) grid.now.rows.items) }
+        ≡ text.old.items ++ flat_map (row_text (plan_seen grid.now)) grid.now.rows.items) }
 {
     for chip in &grid.rows {
         push_row(text, grid, *chip)?;
@@ -103,7 +105,7 @@ fn push_rows(text: &mut Vec<u8>, grid: &Grid) -> Result<(), NoMemory>
 /// The line of a chip's row, or nothing: of many rows one in so many has one.
 #[tactic(auto, unfolding(crate::specs::Drawing::row_text))]
 fn push_row(text: &mut Vec<u8>, grid: &Grid, chip: u16) -> Result<(), NoMemory>
-    ensures ok { OnOk result (text.new.items ≡ text.old.items ++ row_text (seen grid.now) chip) }
+    ensures ok { OnOk result (text.new.items ≡ text.old.items ++ row_text (plan_seen grid.now) chip) }
 {
     if row_of(grid, chip) % (grid.rows.len() / 16 + 1) != 0 {
         return Ok(());
@@ -117,17 +119,17 @@ fn push_row(text: &mut Vec<u8>, grid: &Grid, chip: u16) -> Result<(), NoMemory>
 #[tactic(auto, unfolding(crate::specs::Drawing::lines_text))]
 fn push_lines(text: &mut Vec<u8>, grid: &Grid, legs: &[Leg]) -> Result<(), NoMemory>
     requires some { 0 < grid.now.across.span }
-    ensures ok { OnOk result (text.new.items ≡ text.old.items ++ lines_text (seen grid.now) legs.now) }
+    ensures ok { OnOk result (text.new.items ≡ text.old.items ++ lines_text (plan_seen grid.now) legs.now) }
 {
     push_way(text, grid, legs)?;
     push_referrals(text, grid, legs)?;
     push_deliveries(text, grid, legs)
 }
 
-#[tactic(auto, unfolding(crate::specs::Drawing::way_text))]
+#[tactic(auto, unfolding(crate::specs::Drawing::way_line))]
 fn push_way(text: &mut Vec<u8>, grid: &Grid, legs: &[Leg]) -> Result<(), NoMemory>
     requires some { 0 < grid.now.across.span }
-    ensures ok { OnOk result (text.new.items ≡ text.old.items ++ way_text (seen grid.now) legs.now) }
+    ensures ok { OnOk result (text.new.items ≡ text.old.items ++ way_line (plan_seen grid.now) legs.now) }
 {
     push_line_open(text, colour(0))?;
     push_corners(text, grid, legs)?;
@@ -136,7 +138,7 @@ fn push_way(text: &mut Vec<u8>, grid: &Grid, legs: &[Leg]) -> Result<(), NoMemor
 
 fn push_corners(text: &mut Vec<u8>, grid: &Grid, legs: &[Leg]) -> Result<(), NoMemory>
     requires some { 0 < grid.now.across.span }
-    ensures ok { OnOk result (text.new.items ≡ text.old.items ++ flat_map (corner (seen grid.now)) legs.now) }
+    ensures ok { OnOk result (text.new.items ≡ text.old.items ++ flat_map (leg_corner (plan_seen grid.now)) legs.now) }
 {
     for leg in legs {
         push_segment(text, grid, leg, b" ", b" ")?;
@@ -147,7 +149,7 @@ fn push_corners(text: &mut Vec<u8>, grid: &Grid, legs: &[Leg]) -> Result<(), NoM
 /// Lines where the message was referred.
 fn push_referrals(text: &mut Vec<u8>, grid: &Grid, legs: &[Leg]) -> Result<(), NoMemory>
     requires some { 0 < grid.now.across.span }
-    ensures ok { OnOk result (text.new.items ≡ text.old.items ++ flat_map (referral (seen grid.now)) legs.now) }
+    ensures ok { OnOk result (text.new.items ≡ text.old.items ++ flat_map (referral (plan_seen grid.now)) legs.now) }
 {
     for leg in legs {
         push_referral(text, grid, leg)?;
@@ -158,7 +160,7 @@ fn push_referrals(text: &mut Vec<u8>, grid: &Grid, legs: &[Leg]) -> Result<(), N
 #[tactic(auto, unfolding(crate::specs::Drawing::referral))]
 fn push_referral(text: &mut Vec<u8>, grid: &Grid, leg: &Leg) -> Result<(), NoMemory>
     requires some { 0 < grid.now.across.span }
-    ensures ok { OnOk result (text.new.items ≡ text.old.items ++ referral (seen grid.now) leg.now) }
+    ensures ok { OnOk result (text.new.items ≡ text.old.items ++ referral (plan_seen grid.now) leg.now) }
 {
     match leg.step {
         Step::Referred => {
@@ -180,7 +182,7 @@ fn push_segment(
 ) -> Result<(), NoMemory>
     requires some { 0 < grid.now.across.span }
     ensures ok { OnOk result (text.new.items
-        ≡ text.old.items ++ segment (seen grid.now) before.now between.now leg.now) }
+        ≡ text.old.items ++ segment (plan_seen grid.now) before.now between.now leg.now) }
 {
     push_piece(text, before, place_x(grid, leg.cycle, leg.start))?;
     push_piece(text, b",", place_y(grid, leg.from))?;
@@ -191,7 +193,7 @@ fn push_segment(
 /// A dot where the message was delivered.
 fn push_deliveries(text: &mut Vec<u8>, grid: &Grid, legs: &[Leg]) -> Result<(), NoMemory>
     requires some { 0 < grid.now.across.span }
-    ensures ok { OnOk result (text.new.items ≡ text.old.items ++ flat_map (delivery (seen grid.now)) legs.now) }
+    ensures ok { OnOk result (text.new.items ≡ text.old.items ++ flat_map (delivery (plan_seen grid.now)) legs.now) }
 {
     for leg in legs {
         push_delivery(text, grid, leg)?;
@@ -201,7 +203,7 @@ fn push_deliveries(text: &mut Vec<u8>, grid: &Grid, legs: &[Leg]) -> Result<(), 
 
 fn push_delivery(text: &mut Vec<u8>, grid: &Grid, leg: &Leg) -> Result<(), NoMemory>
     requires some { 0 < grid.now.across.span }
-    ensures ok { OnOk result (text.new.items ≡ text.old.items ++ delivery (seen grid.now) leg.now) }
+    ensures ok { OnOk result (text.new.items ≡ text.old.items ++ delivery (plan_seen grid.now) leg.now) }
 {
     match leg.step {
         Step::Delivered => {
@@ -215,7 +217,7 @@ fn push_delivery(text: &mut Vec<u8>, grid: &Grid, leg: &Leg) -> Result<(), NoMem
 /// A dot where the way begins.
 fn push_begin(text: &mut Vec<u8>, grid: &Grid, first: &Leg) -> Result<(), NoMemory>
     requires some { 0 < grid.now.across.span }
-    ensures ok { OnOk result (text.new.items ≡ text.old.items ++ begin_text (seen grid.now) first.now) }
+    ensures ok { OnOk result (text.new.items ≡ text.old.items ++ begin_text (plan_seen grid.now) first.now) }
 {
     let x = place_x(grid, first.cycle, first.start);
     push_circle(text, x, place_y(grid, first.from), colour(2))

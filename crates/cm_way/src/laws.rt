@@ -3,8 +3,8 @@
 ghost use Rattle.std.specs.Prelude.{◌≡◌, [], ◌∷◌, ◌++◌, codes, None, Some, Ok, Err};
 ghost use Rattle.cm_plot.specs.declared.fault.PlotFault.TheVariants as fault;
 ghost use Rattle.cm_way.specs.declared.legs.Step.TheVariants as step;
-ghost use Rattle.cm_way.specs.Legs.{chip_in, legs_with, line_legs};
-ghost use Rattle.cm_way.specs.Rows.{most_dims, place_x, place_y, rows_of};
+ghost use Rattle.cm_way.specs.Legs.{chip_of_word, legs_with, line_legs};
+ghost use Rattle.cm_way.specs.Rows.{most_dims, route_x, route_y, route_rows};
 
 /// A law: these lines tell these legs, and these legs stand in these rows and places.
 #[tactic(auto, unfolding(crate::specs::Legs::legs_from, cm_plot::specs::Cells::trimmed))]
@@ -27,9 +27,9 @@ pub fn routes_are_drawn_so()
     ensures no_cycle { legs_with 3 [] (codes "cycle x: 1, place 1 of 1") ≡ Err (fault.Route 3) }
     ensures no_route { legs_with 3 [] (codes "cycles 1: 1, place 1 of 1") ≡ Err (fault.Route 3) }
     ensures late { legs_with 3 [] (codes "cycle 1125899906842624: 0, stays, place 1 of 1") ≡ Err (fault.Route 3) }
-    ensures last_chip { chip_in (codes "4095") ≡ Some 4095 }
-    ensures no_chip { chip_in (codes "4096") ≡ None }
-    ensures rows { rows_of (
+    ensures last_chip { chip_of_word (codes "4095") ≡ Some 4095 }
+    ensures no_chip { chip_of_word (codes "4096") ≡ None }
+    ensures rows { route_rows (
         record { cycle = 1; start = 0; end = 0; from = 12; to = 12; step = step.Wanted }
         ∷ record { cycle = 1; start = 2; end = 3; from = 12; to = 8; step = step.Wanted }
         ∷ record { cycle = 1; start = 2; end = 3; from = 8; to = 12; step = step.Referred } ∷ []) ≡ 12 ∷ 8 ∷ [] }
@@ -37,8 +37,8 @@ pub fn routes_are_drawn_so()
         record { cycle = 1; start = 0; end = 0; from = 12; to = 12; step = step.Wanted }
         ∷ record { cycle = 1; start = 2; end = 3; from = 12; to = 8; step = step.Wanted } ∷ []) ≡ 3 }
     ensures no_dims { most_dims [] ≡ 1 }
-    ensures above { place_y (12 ∷ 8 ∷ 0 ∷ []) 12 ≡ 400 }
-    ensures middle { place_y (12 ∷ 8 ∷ 0 ∷ []) 8 ≡ 1200 }
-    ensures across { place_x
+    ensures above { route_y (12 ∷ 8 ∷ 0 ∷ []) 12 ≡ 400 }
+    ensures middle { route_y (12 ∷ 8 ∷ 0 ∷ []) 8 ≡ 1200 }
+    ensures across { route_x
         (record { rows = []; dims = 4; across = record { low = 2000; step = 1000; span = 8000 } }) 6 2 ≡ 3150 }
 {}

@@ -5,8 +5,9 @@ ghost use Rattle.std.specs.Prelude.{IfSome, OnOk, length};
 ghost use Rattle.std.specs.List.{after_first, before_first};
 ghost use Rattle.cm_bits.specs.Text.{lines_of, number_of, words_of};
 ghost use Rattle.cm_plot.specs.Cells.{cell, is_colon};
-ghost use Rattle.cm_way.specs.Legs.{dim_between, below, cycle_behind, cycle_in, chip_in, is_number, is_referral};
-ghost use Rattle.cm_way.specs.Legs.{is_referred, is_delivered, leg_to, last_leg, legs_at, chip_after, legs_end};
+ghost use Rattle.cm_way.specs.Legs.{dim_between, option_below, cycle_behind, cycle_in, chip_of_word, is_number};
+ghost use Rattle.cm_way.specs.Legs.{is_referral};
+ghost use Rattle.cm_way.specs.Legs.{is_referred, says_delivered, leg_to, last_leg, legs_at, next_chip, legs_end};
 ghost use Rattle.cm_way.specs.Legs.{legs_from, line_legs, is_told, legs_told, legs_with, legs_after};
 
 use cm_bits::{Lines, NoMemory, Words, read_number};
@@ -132,7 +133,7 @@ fn number_before_colon(bytes: &[u8]) -> Option<u64>
 
 /// A number below a limit, if there is one.
 fn below(limit: u64, number: Option<u64>) -> Option<u64>
-    ensures value { result ≡ below limit number }
+    ensures value { result ≡ option_below limit number }
     ensures within { IfSome result (λ number. number < limit) }
 {
     let number = number?;
@@ -162,8 +163,8 @@ fn push_word(
     word: &[u8],
 ) -> Result<Option<u16>, NoMemory>
     ensures legs { IfOk result (λ _. legs.new.items
-        ≡ legs.old.items ++ legs_at cycle line.now from (chip_in word.now)) }
-    ensures next { IfOk result (λ next. next ≡ chip_after from (chip_in word.now)) }
+        ≡ legs.old.items ++ legs_at cycle line.now from (chip_of_word word.now)) }
+    ensures next { IfOk result (λ next. next ≡ next_chip from (chip_of_word word.now)) }
 {
     match chip_in(word) {
         Some(chip) => {
@@ -187,7 +188,7 @@ fn push_end(legs: &mut Vec<Leg>, cycle: u64, line: &[u8], from: Option<u16>) -> 
 
 /// The chip that a word names.
 fn chip_in(word: &[u8]) -> Option<u16>
-    ensures value { result ≡ chip_in word.now }
+    ensures value { result ≡ chip_of_word word.now }
 {
     let chip = below(4096, read_number(word))?;
     Some(chip as u16)
@@ -275,7 +276,7 @@ fn is_number(word: &[u8], number: u16) -> bool
 
 /// Whether the line tells that the message was delivered.
 fn is_delivered(line: &[u8]) -> bool
-    ensures value { result ≡ is_delivered line.now }
+    ensures value { result ≡ says_delivered line.now }
 {
     line.split(|byte| *byte == b',')
         .any(|cell| cell.starts_with(b" delivered"))

@@ -3,8 +3,9 @@
 
 ghost use Rattle.std.specs.Prelude.{◌≡◌, ◌==◌, ◌<◌, ◌≤◌, IfOk, OnOk};
 ghost use Rattle.std.specs.List.{position};
-ghost use Rattle.cm_way.specs.Rows.{rows_with, rows_of, most_dims, last_cycle, in_thousandths, across_of, seen};
-ghost use Rattle.cm_way.specs.Rows.{plan_of, row_of, place_x, place_y};
+ghost use Rattle.cm_way.specs.Rows.{rows_with, route_rows, most_dims, last_cycle, in_thousandths, across_axis};
+ghost use Rattle.cm_way.specs.Rows.{plan_seen};
+ghost use Rattle.cm_way.specs.Rows.{plan_of, row_of_chip, route_x, route_y};
 
 use crate::legs::Leg;
 use cm_bits::NoMemory;
@@ -23,7 +24,7 @@ pub(crate) struct Grid {
 
 /// The grid of a way that begins in this petit cycle.
 pub(crate) fn grid_of(alloc: Global, first: u64, legs: &[Leg]) -> Result<Grid, NoMemory>
-    ensures value { IfOk result (λ grid. seen grid ≡ plan_of first legs.now) }
+    ensures value { IfOk result (λ grid. plan_seen grid ≡ plan_of first legs.now) }
     ensures some { IfOk result (λ grid. 0 < grid.across.span) }
 {
     Ok(Grid {
@@ -35,7 +36,7 @@ pub(crate) fn grid_of(alloc: Global, first: u64, legs: &[Leg]) -> Result<Grid, N
 
 /// The chip of each row.
 fn rows_of(alloc: Global, legs: &[Leg]) -> Result<Vec<u16>, NoMemory>
-    ensures value { IfOk result (λ rows. rows.items ≡ rows_of legs.now) }
+    ensures value { IfOk result (λ rows. rows.items ≡ route_rows legs.now) }
 {
     let mut rows = Vec::new(alloc);
     for leg in legs {
@@ -70,7 +71,7 @@ fn most_dims(legs: &[Leg]) -> u16
 
 /// The axis from this petit cycle to the last.
 fn across_of(first: u64, legs: &[Leg]) -> Axis
-    ensures value { result ≡ across_of first legs.now }
+    ensures value { result ≡ across_axis first legs.now }
     ensures some { 0 < result.span }
 {
     axis_of(
@@ -99,7 +100,7 @@ fn in_thousandths(cycle: u64) -> u64
 /// The place from the left of a petit cycle, behind so many of its dimensions.
 pub(crate) fn place_x(grid: &Grid, cycle: u64, dims: u16) -> u128
     requires some { 0 < grid.now.across.span }
-    ensures value { result ≡ place_x (seen grid.now) cycle dims }
+    ensures value { result ≡ route_x (plan_seen grid.now) cycle dims }
 {
     let part = 1000 * u128::from(dims) / u128::from(grid.dims.max(1));
     along(grid.across, 1000 * u128::from(cycle) + part, 5600)
@@ -107,7 +108,7 @@ pub(crate) fn place_x(grid: &Grid, cycle: u64, dims: u16) -> u128
 
 /// The place from above of a chip's row.
 pub(crate) fn place_y(grid: &Grid, chip: u16) -> u128
-    ensures value { result ≡ place_y grid.now.rows.items chip }
+    ensures value { result ≡ route_y grid.now.rows.items chip }
     ensures within { result ≤ 2400 }
 {
     let halves = 2 * row_of(grid, chip) as u128 + 1;
@@ -117,7 +118,7 @@ pub(crate) fn place_y(grid: &Grid, chip: u16) -> u128
 
 /// The row of a chip, counted from 0.
 pub(crate) fn row_of(grid: &Grid, chip: u16) -> usize
-    ensures value { result ≡ row_of grid.now.rows.items chip }
+    ensures value { result ≡ row_of_chip grid.now.rows.items chip }
 {
     match place_of(&grid.rows, chip) {
         Some(row) => row,

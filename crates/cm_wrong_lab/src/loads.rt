@@ -4,7 +4,7 @@ ghost use Rattle.std.specs.Prelude.{◌≡◌, ◌≢◌, ◌∷◌, [], ◌≤�
 ghost use Rattle.cm_model.specs.Keeping.{AreSizes};
 ghost use Rattle.std.specs.List.{find};
 ghost use Rattle.cm_fresh.specs.Fresh.{is_stray};
-ghost use Rattle.cm_load.specs.Tables.{table_of};
+ghost use Rattle.cm_load.specs.Tables.{loads_table};
 ghost use Rattle.cm_load.specs.Trials.{trial_fault, AreFiguresOf};
 
 use cm_bits::NoMemory;
@@ -41,7 +41,7 @@ pub fn figures(
 
 /// What `cm_load::table` promises, word for word.
 pub fn table(alloc: Global, loads: &[Figures]) -> Result<Vec<u8>, NoMemory>
-    ensures value { IfOk result (λ text. text.items ≡ table_of loads.now) }
+    ensures value { IfOk result (λ text. text.items ≡ loads_table loads.now) }
 {
     cm_load::table(alloc, loads)
 }

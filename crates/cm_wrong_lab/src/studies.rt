@@ -2,7 +2,7 @@
 
 ghost use Rattle.std.specs.Prelude.{◌≡◌, ◌≢◌, Ok, Err, IfOk, IfErr};
 ghost use Rattle.cm_study.specs.Routes.{route_of};
-ghost use Rattle.cm_study.specs.Study.{table_of};
+ghost use Rattle.cm_study.specs.Study.{study_table};
 
 use cm_array::Machine;
 use cm_model::{Act, Tag};
@@ -17,9 +17,9 @@ pub fn study<const N: usize, const CAP: usize, W: Watch>(
     table: Table,
     watch: &mut W,
 ) -> Result<Vec<u8>, StudyFault>
-    ensures value { IfOk result (λ text. table_of N CAP table machine.old.machine acts.now ≡ Ok text.items) }
+    ensures value { IfOk result (λ text. study_table N CAP table machine.old.machine acts.now ≡ Ok text.items) }
     ensures refused { IfErr result (λ fault. fault ≢ StudyFault.Memory
-        → table_of N CAP table machine.old.machine acts.now ≡ Err fault) }
+        → study_table N CAP table machine.old.machine acts.now ≡ Err fault) }
 {
     cm_study::study(alloc, machine, acts, table, watch)
 }

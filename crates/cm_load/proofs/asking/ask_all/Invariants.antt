@@ -1,11 +1,11 @@
 use Rattle.std.proofs.Common.{◌≡◌, length}
-use Rattle.cm_load.specs.Asking.{after_places}
+use Rattle.cm_load.specs.Asking.{asking_after_places}
 use Rattle.cm_load.proofs.asking.ask_all.Given as goal
 
 -- the first so many places have asked
 abbrev pub invariant-loop-place : goal.invariant-loop-place
 invariant-loop-place l = record {
   value : record { chips = l.run; sources = l.sources; deepest = l.deepest }
-      ≡ after_places l.load l.t (record { chips = l.fn.run; sources = l.fn.sources; deepest = l.fn.deepest }) l.place;
+      ≡ asking_after_places l.load l.t (record { chips = l.fn.run; sources = l.fn.sources; deepest = l.fn.deepest }) l.place;
   chips : length l.run ≡ length l.fn.run;
 }

@@ -1,11 +1,11 @@
 use Rattle.std.proofs.Common.{◌≡◌, ◌∙◌, ℕ, Bool, Option, set, max, ap}
 use Rattle.cm_load.specs.declared.sources.Source.{Source}
 use Rattle.cm_load.specs.Offers.{offers}
-use Rattle.cm_load.specs.Asking.{source_at, with_offer, source_asked, chips_asked, offer_asked, after_place}
+use Rattle.cm_load.specs.Asking.{source_at, with_offer, source_asked, chips_asked, offer_asked, asking_after_place}
 use Rattle.cm_load.proofs.asking.ask_at.Goals as goal
 
 pub returns-clause-value : goal.returns-clause-value
-unfolding after_place
+unfolding asking_after_place
 returns-clause-value c =
     let chips = c.args.run.now in
     let source : Source = with_offer (offers c.args.load.now c.args.t c.args.place)

@@ -1,6 +1,6 @@
 use Rattle.std.proofs.Common.{ℕ, ◌*◌, ◌^◌, ◌≤◌, ap, ◌∙◌, refl, length, arith}
 use Rattle.std.proofs.Math.Nat.{mul-le-mul_left}
-use Rattle.cm_load.specs.Figures.{throughput_of, mean_of, most_of, greatest_of}
+use Rattle.cm_load.specs.Figures.{throughput_of, mean_of, most_of, greatest_latency}
 use Rattle.cm_load.proofs.figures.figures_of.Goals as goal
 
 pub overflow_mul-turns : goal.overflow_mul-turns
@@ -22,7 +22,7 @@ returns c = record {
         ∙ ap (λ (k : ℕ). throughput_of (length loaded.latencies) (2 ^ c.args.load.now.dims * k)) c.from-2.ensures));
     mean = c.mean_of.ensures.value ∙ ap mean_of is;
     most = c.most_of.ensures.value ∙ ap (most_of c.args.cycles) is;
-    greatest = c.greatest_of.ensures.value ∙ ap greatest_of is;
+    greatest = c.greatest_of.ensures.value ∙ ap greatest_latency is;
     deepest = told.deepest;
   };
 }

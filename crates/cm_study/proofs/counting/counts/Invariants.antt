@@ -1,5 +1,5 @@
 use Rattle.std.proofs.Common.{◌≡◌, ◌*◌, ◌^◌}
-use Rattle.cm_study.specs.Adding.{AreWithin}
+use Rattle.cm_study.specs.Adding.{AreCountsWithin}
 use Rattle.cm_study.specs.Counts.{counts_to}
 use Rattle.cm_study.proofs.counting.counts.Given as goal
 
@@ -7,5 +7,5 @@ use Rattle.cm_study.proofs.counting.counts.Given as goal
 abbrev pub invariant-loop-chip : goal.invariant-loop-chip
 invariant-loop-chip g l = record {
   so_far : l.counts ≡ counts_to l.chip g.row.CAP l.before l.ways l.machine.machine;
-  within : AreWithin (l.chip * 2 ^ 72) l.counts;
+  within : AreCountsWithin (l.chip * 2 ^ 72) l.counts;
 }

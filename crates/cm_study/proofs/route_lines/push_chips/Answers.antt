@@ -1,6 +1,6 @@
 use Rattle.std.proofs.Common.{◌≡◌, ◌++◌, ℕ, flat_map, decimal, ap, ◌∙◌, arith, append_assoc}
 use Rattle.std.specs.List.{range_with_len}
-use Rattle.cm_study.specs.RouteLines.{step_text, chips_text}
+use Rattle.cm_study.specs.RouteLines.{step_text, way_chips_text}
 use Rattle.cm_study.proofs.Sums.{text-more}
 use Rattle.cm_study.proofs.route_lines.push_chips.Goals as goal
 
@@ -10,7 +10,7 @@ loop-dim-preserved c =
     c.push_step.new.text.items c.loop-dim.dim c.loop-dim.invariant c.in_ok-push_step.ensures.ok
 
 pub returns : goal.returns
-unfolding chips_text
+unfolding way_chips_text
 returns c =
     let all : c.loop-dim.dim ≡ c.args.dims = omega (arith, c.loop-dim-test.false, c.loop-dim.auto.dim-end) in
     let steps = λ (k : ℕ). flat_map (step_text c.args.from c.args.to) (range_with_len 0 k) in

@@ -1,10 +1,10 @@
 use Rattle.std.proofs.Common.{◌≡◌, drop}
-use Rattle.cm_study.specs.Study.{studied, preceded_by, told_of, table_of}
+use Rattle.cm_study.specs.Study.{studied, study_preceded_by, acts_table, study_table}
 use Rattle.cm_study.proofs.studies.study.Given as goal
 
 -- what was told, and what the acts that are left tell, are the table
 abbrev pub invariant-loop-done : goal.invariant-loop-done
 invariant-loop-done g l =
-    table_of g.row.N g.row.CAP l.table l.initial.machine.machine l.acts
-    ≡ preceded_by l.text.items
-    (told_of g.row.N g.row.CAP l.table (studied l.machine.machine l.known) (drop l.done l.acts))
+    study_table g.row.N g.row.CAP l.table l.initial.machine.machine l.acts
+    ≡ study_preceded_by l.text.items
+    (acts_table g.row.N g.row.CAP l.table (studied l.machine.machine l.known) (drop l.done l.acts))

@@ -1,7 +1,7 @@
 use Rattle.std.proofs.Common.{◌≡◌, ℕ, ◌++◌, ◌^◌, flat_map, ap, ◌∙◌, arith}
 use Rattle.std.specs.List.{range_with_len}
 use Rattle.cm_study.specs.Traces.{trace_of}
-use Rattle.cm_study.specs.Tables.{standing_line, standing_text_at, standing_text}
+use Rattle.cm_study.specs.Tables.{trace_line, standing_text_at, standing_text}
 use Rattle.cm_study.proofs.Sums.{text-more}
 use Rattle.cm_study.proofs.tables.push_standing.Goals as goal
 
@@ -11,7 +11,7 @@ loop-chip-preserved g c =
     c.push_buffer.new.text.items c.loop-chip.chip c.loop-chip.invariant
     (c.in_ok-push_buffer.ensures.ok
     ∙ ap (λ ms. c.loop-chip.text.items
-    ++ flat_map (λ m. standing_line c.loop-chip.chip m (trace_of c.args.ways.now c.loop-chip.chip m)) ms)
+    ++ flat_map (λ m. trace_line c.loop-chip.chip m (trace_of c.args.ways.now c.loop-chip.chip m)) ms)
     c.buffer.ensures.value)
 
 pub returns : goal.returns

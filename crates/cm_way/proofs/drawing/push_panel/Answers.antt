@@ -2,16 +2,16 @@ use Rattle.std.proofs.Common.{ℕ, List, ◌++◌, codes}
 use Rattle.std.specs.List.{flat_map, range_with_len}
 use Rattle.cm_plot.specs.Panels.{place_text, sides_text}
 use Rattle.cm_plot.specs.Ticks.{cycle_tick}
-use Rattle.cm_way.specs.Rows.{seen}
-use Rattle.cm_way.specs.Drawing.{row_text, lines_text, begin_text, names_text, panel_text}
+use Rattle.cm_way.specs.Rows.{plan_seen}
+use Rattle.cm_way.specs.Drawing.{row_text, lines_text, begin_text, names_text, route_panel_text}
 use Rattle.cm_way.proofs.Joining.{behind, behind-ok}
 use Rattle.cm_way.proofs.drawing.push_panel.Goals as goal
 
 pub returns : goal.returns
-unfolding panel_text
+unfolding route_panel_text
 returns c =
     let start = c.args.text.now.items in
-    let plan = seen c.args.grid.now in
+    let plan = plan_seen c.args.grid.now in
     let place : List ℕ = place_text 600 in
     let ticks : List ℕ = flat_map (cycle_tick plan.across) (range_with_len 0 12) in
     let rows : List ℕ = flat_map (row_text plan) plan.rows in

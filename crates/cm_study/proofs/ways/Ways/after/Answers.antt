@@ -1,7 +1,7 @@
 use Rattle.std.proofs.Common.{◌≡◌, ℕ, ◌++◌, ◌^◌, map, flat_map, sym, ap, ◌∙◌, arith}
 use Rattle.std.specs.List.{range_with_len}
 use Rattle.cm_model.specs.declared.message.Message.{Message}
-use Rattle.cm_study.specs.Traces.{trace_of, followed, traces_at, all_traces, by_sender}
+use Rattle.cm_study.specs.Traces.{trace_of, trace_after, traces_at, all_traces, by_sender}
 use Rattle.cm_study.proofs.Sums.{flat_map-more}
 use Rattle.cm_study.proofs.ways.Ways.after.Goals as goal
 
@@ -12,7 +12,7 @@ pub loop-chip-preserved : goal.loop-chip-preserved
 loop-chip-preserved g c =
     let chip = c.loop-chip.chip in
     let at = traces_at c.args.self.now c.args.machine.now.machine in
-    let follow = λ (m : Message). followed (trace_of c.args.self.now chip m) m in
+    let follow = λ (m : Message). trace_after (trace_of c.args.self.now chip m) m in
     let before = flat_map at (range_with_len 0 chip) in
     c.in_ok-follow_chip.ensures.ok g.row.N before c.loop-chip.invariant
     ∙ ap (λ ms. by_sender g.row.N (before ++ map follow ms)) c.buffer.ensures.value
