@@ -14,7 +14,7 @@ use Rattle.cm_session.specs.Answer.{at_line, end_line, refused_line, CLOCK}
 use Rattle.cm_session.specs.Stretches.{IsStretch, acts_on, arrived}
 use Rattle.cm_session.specs.Ends.{IsOnTheWay}
 use Rattle.cm_session.proofs.Stretching.{going-stretch, going-rises, arrived-rises}
-use Rattle.cm_debug.specs.declared.want.Want.{Want}
+use Rattle.cm_debug.specs.declared.out_of.OutOf.{OutOf}
 use Rattle.cm_debug.specs.declared.debugger.Stops.{Stops}
 use Rattle.cm_debug.specs.Longest.{IsLongest, HasRunStretch}
 use Rattle.cm_debug.specs.State.{DebuggerView, stops_at, gone, come, Goes, IsDone, IsLeft}
@@ -175,10 +175,10 @@ goes_on n cap stops session rest is =
 -- ---- states
 
 -- it is left for a want
-left_by : (n cap : ℕ) (one : Answered) (before after : DebuggerView) (result : Result (Unit {0}) Want) (want : Want)
+left_by : (n cap : ℕ) (one : Answered) (before after : DebuggerView) (result : Result (Unit {0}) OutOf) (want : OutOf)
     → result ≡ Err want → IsLeft n cap one before after want → Goes n cap one before after result
 left_by n cap one before after result want is left =
-    subst (λ (r : Result (Unit {0}) Want). Goes n cap one before after r) (sym is) left
+    subst (λ (r : Result (Unit {0}) OutOf). Goes n cap one before after r) (sym is) left
 
 -- a stretch is run
 pub has_run : (n cap : ℕ) (stops : Stops) (before : DebuggerView) (rest : List Act) (first : Act) (count clock : ℕ)
@@ -267,8 +267,8 @@ gone_on {n} {cap} {stops} {before} {now} {after} gone run on =
     }
 
 -- and is given up before the next stretch
-pub gone_left : {n cap : ℕ} {stops : Stops} {before now : DebuggerView} (after : DebuggerView) (result : Result (Unit {0}) Want)
-    (want : Want) → result ≡ Err want → HasGone n cap stops before now → after.session.machine ≡ now.session.machine
+pub gone_left : {n cap : ℕ} {stops : Stops} {before now : DebuggerView} (after : DebuggerView) (result : Result (Unit {0}) OutOf)
+    (want : OutOf) → result ≡ Err want → HasGone n cap stops before now → after.session.machine ≡ now.session.machine
     → after.lacked ≡ lacked_after (is_thread want) now.lacked
     → Goes n cap (gone n cap stops before) before after result
 gone_left {n} {cap} {stops} {before} {now} after result want is gone' stays lacked = left_by n cap
@@ -286,7 +286,7 @@ gone_left {n} {cap} {stops} {before} {now} after result want is gone' stays lack
 
 -- or where it is to be told that it stops
 pub stop_left : {n cap : ℕ} {stops : Stops} {before now after : DebuggerView} (last : DebuggerView)
-    (result : Result (Unit {0}) Want) (want : Want) → result ≡ Err want → HasGone n cap stops before now
+    (result : Result (Unit {0}) OutOf) (want : OutOf) → result ≡ Err want → HasGone n cap stops before now
     → HasRunStretch n cap stops now after
     → last.session.machine ≡ after.session.machine
     → last.lacked ≡ lacked_after (is_thread want) after.lacked

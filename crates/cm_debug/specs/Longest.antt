@@ -6,7 +6,7 @@ use Rattle.cm_array.specs.Acts.{is_long}
 use Rattle.cm_array.specs.Faults.{lacked_after}
 use Rattle.cm_session.specs.Stretches.{IsStretch}
 use Rattle.cm_debug.specs.declared.debugger.Stops.{Stops}
-use Rattle.cm_debug.specs.declared.want.Want.{Want}
+use Rattle.cm_debug.specs.declared.out_of.OutOf.{OutOf}
 use Rattle.cm_debug.specs.State.{DebuggerView, come, gone, stops_at}
 use Rattle.cm_debug.specs.Telling.{is_thread}
 
@@ -30,11 +30,11 @@ pub record HasRunStretch (n cap : ℕ) (stops : Stops) (before after : DebuggerV
   pub lacked : after.lacked ≡ before.lacked
 
 -- it is not
-pub record IsNotRun (before after : DebuggerView) (want : Want) : Type 0 where
+pub record IsNotRun (before after : DebuggerView) (want : OutOf) : Type 0 where
   pub machine : after.session.machine ≡ before.session.machine
   pub lacked : after.lacked ≡ lacked_after (is_thread want) before.lacked
 
 -- how a stretch is run
-abbrev pub Ran : ℕ → ℕ → Stops → DebuggerView → DebuggerView → Result (Unit {0}) Want → Type 0
+abbrev pub Ran : ℕ → ℕ → Stops → DebuggerView → DebuggerView → Result (Unit {0}) OutOf → Type 0
 Ran n cap stops before after (Ok done) = HasRunStretch n cap stops before after
 Ran n cap stops before after (Err want) = IsNotRun before after want

@@ -9,7 +9,7 @@ use Rattle.cm_session.specs.Ends.{IsOnTheWay}
 use Rattle.cm_debug.specs.declared.debugger.Debugger.{Debugger}
 use Rattle.cm_debug.specs.declared.debugger.Stops.{Stops}
 use Rattle.cm_debug.specs.declared.debugger.Stops.TheVariants.{Everywhere, AtBreaks}
-use Rattle.cm_debug.specs.declared.want.Want.{Want}
+use Rattle.cm_debug.specs.declared.out_of.OutOf.{OutOf}
 use Rattle.cm_debug.specs.Telling.{is_thread}
 
 -- the session of a machine and its debugger
@@ -60,11 +60,11 @@ pub record IsDone (one : Answered) (before after : DebuggerView) : Type 0 where
   pub lacked : after.lacked ≡ before.lacked
 
 -- it is given up: the machine is as it was, or on the way
-pub record IsLeft (n cap : ℕ) (one : Answered) (before after : DebuggerView) (want : Want) : Type 0 where
+pub record IsLeft (n cap : ℕ) (one : Answered) (before after : DebuggerView) (want : OutOf) : Type 0 where
   pub machine : IsOnTheWay n cap before.acts before.session one.session after.session.machine
   pub lacked : after.lacked ≡ lacked_after (is_thread want) before.lacked
 
 -- how a debugger goes on that is to do and answer this
-abbrev pub Goes : ℕ → ℕ → Answered → DebuggerView → DebuggerView → Result (Unit {0}) Want → Type 0
+abbrev pub Goes : ℕ → ℕ → Answered → DebuggerView → DebuggerView → Result (Unit {0}) OutOf → Type 0
 Goes n cap one before after (Ok done) = IsDone one before after
 Goes n cap one before after (Err want) = IsLeft n cap one before after want

@@ -5,11 +5,11 @@ use Rattle.cm_bits.specs.Text.{is_line_end}
 use Rattle.cm_session.specs.declared.command.Command.{Command}
 use Rattle.cm_session.specs.declared.command.Command.TheVariants.{Step, Run}
 use Rattle.cm_session.specs.declared.command.Refusal.{Refusal}
-use Rattle.cm_debug.specs.declared.want.Want.{Want}
-use Rattle.cm_debug.specs.declared.want.Want.TheVariants as want
+use Rattle.cm_debug.specs.declared.out_of.OutOf.{OutOf}
+use Rattle.cm_debug.specs.declared.out_of.OutOf.TheVariants as want
 
 -- a thread is wanting
-abbrev pub is_thread : Want → Bool
+abbrev pub is_thread : OutOf → Bool
 is_thread want.Memory = false
 is_thread want.Thread = true
 

@@ -15,7 +15,7 @@ ghost use Rattle.cm_debug.specs.Telling.{asks_for_acts, runs_acts};
 
 use crate::answers::{push_bit, push_buffer, push_found, push_log, push_number, push_word};
 use crate::debugger::{Debugger, Stops};
-use crate::want::Want;
+use crate::out_of::OutOf;
 use cm_array::{Log, Machine, Runner};
 use cm_bits::{Addr, Field, FlagNo, NoMemory, Place};
 use cm_model::{Found, Tag};
@@ -31,13 +31,13 @@ impl Debugger<'_> {
         runner: &mut R,
         asked: Result<Option<Command>, Refusal>,
         text: &mut Vec<u8>,
-    ) -> Result<(), Want>
+    ) -> Result<(), OutOf>
         requires runner { R.ready }
         requires operands { IfOk asked (λ command. IfSome command (IsFor N (length self.old.acts.now))) }
         ensures goes { Goes N CAP (answered N CAP self.old.acts.now (session_of machine.old.machine self.old) asked)
             (state machine.old.machine self.old text.old.items (R.threads_lacked runner.old))
             (state machine.new.machine self.new text.new.items (R.threads_lacked runner.new)) result }
-        ensures acts { IsErrOf result Want.Thread → IsTrue (asks_for_acts asked) }
+        ensures acts { IsErrOf result OutOf.Thread → IsTrue (asks_for_acts asked) }
     {
         match asked {
             Ok(None) => Ok(()),

@@ -17,8 +17,8 @@ ghost use Rattle.cm_debug.specs.Telling.{asks_for_acts, asks_to_run};
 use crate::commands::asks_for_acts;
 use crate::debugger::Debugger;
 use crate::gathering::{CutOff, Gathered};
+use crate::out_of::OutOf;
 use crate::reader::read_command;
-use crate::want::Want;
 use cm_array::{Machine, Runner};
 use cm_bits::Sink;
 use cm_model::Act;
@@ -105,7 +105,7 @@ impl<'a> Console<'a> {
             if len == rest.len() {
                 return match self.line.extend_from_slice(rest) {
                     Ok(()) => Ok(()),
-                    Err(_) => Err(self.output.give_up(Want::Memory, out)),
+                    Err(_) => Err(self.output.give_up(OutOf::Memory, out)),
                 };
             }
             match self.end_line(machine, runner, &rest[..len], out) {
@@ -140,7 +140,7 @@ impl<'a> Console<'a> {
         let count = self.debugger.acts.len();
         let asked = match read_ended(&mut self.line, part, N, count) {
             Ok(asked) => asked,
-            Err(_) => return Err(self.output.give_up(Want::Memory, out)),
+            Err(_) => return Err(self.output.give_up(OutOf::Memory, out)),
         };
         let wants = runner.may_want_threads();
         match send_before(&asked, wants, &mut self.output, out) {

@@ -6,9 +6,9 @@ ghost use Rattle.std.specs.Io.KnownBytes.{Appends};
 ghost use Rattle.cm_session.specs.Ends.{is_session_no_thread, is_write};
 ghost use Rattle.cm_debug.specs.Gathering.{answered_bytes, with_gathered, BreaksOffBetween, IsCutOff};
 ghost use Rattle.cm_debug.specs.Telling.{is_thread};
-ghost use Rattle.cm_debug.specs.declared.want.Want.TheVariants.{Thread};
+ghost use Rattle.cm_debug.specs.declared.out_of.OutOf.TheVariants.{Thread};
 
-use crate::want::Want;
+use crate::out_of::OutOf;
 use cm_bits::{Sink, write_all};
 use cm_session::SessionFault;
 use std::alloc::Global;
@@ -104,7 +104,7 @@ impl Gathered {
     }
 
     /// What a session ends by that wants something: what is gathered is written first.
-    pub fn give_up<O: Sink>(&mut self, want: Want, out: &mut O) -> SessionFault
+    pub fn give_up<O: Sink>(&mut self, want: OutOf, out: &mut O) -> SessionFault
         requires writer { O.has_failed out.old ≡ false }
         requires room { answered_bytes self.old < 2 ^ 128 }
         requires none { want ≡ Thread → self.old.bytes.items ≡ [] }
@@ -118,8 +118,8 @@ impl Gathered {
             Err(cut) => return SessionFault::Write(cut.0),
         }
         match want {
-            Want::Memory => SessionFault::Memory,
-            Want::Thread => SessionFault::NoThread,
+            OutOf::Memory => SessionFault::Memory,
+            OutOf::Thread => SessionFault::NoThread,
         }
     }
 }

@@ -13,8 +13,8 @@ ghost use Rattle.cm_debug.specs.Telling.{is_thread};
 
 use crate::answers::{push_number, push_sense, push_word};
 use crate::debugger::{Debugger, Stops};
+use crate::out_of::OutOf;
 use crate::stretch::{is_look, lacks_room, stretch_len};
-use crate::want::Want;
 use cm_array::{Machine, RunFault, Runner};
 use cm_model::Act;
 use std::alloc::AllocError;
@@ -29,7 +29,7 @@ impl Debugger<'_> {
         runner: &mut R,
         stops: Stops,
         text: &mut Vec<u8>,
-    ) -> Result<(), Want>
+    ) -> Result<(), OutOf>
         requires runner { R.ready }
         ensures goes { Goes N CAP (gone N CAP stops (state machine.old.machine self.old text.old.items 0))
             (state machine.old.machine self.old text.old.items (R.threads_lacked runner.old))
@@ -68,7 +68,7 @@ impl Debugger<'_> {
         runner: &mut R,
         stops: Stops,
         text: &mut Vec<u8>,
-    ) -> Result<(), Want>
+    ) -> Result<(), OutOf>
         requires runner { R.ready }
         requires within { self.old.position < length self.old.acts.now }
         requires room { lacks_room machine.old.machine.clock
@@ -108,7 +108,7 @@ fn hand_over<const N: usize, const CAP: usize, R: Runner<N, CAP>>(
     machine: &mut Machine<N, CAP>,
     acts: &[Act],
     runner: &mut R,
-) -> Result<(), Want>
+) -> Result<(), OutOf>
     requires runner { R.ready }
     requires short { IsFalse (is_long acts.now) }
     requires early { IsFalse (is_late machine.old.machine.clock acts.now) }
@@ -118,8 +118,8 @@ fn hand_over<const N: usize, const CAP: usize, R: Runner<N, CAP>>(
 {
     match runner.go(machine, acts) {
         Ok(()) => Ok(()),
-        Err(RunFault::NoThread) => Err(Want::Thread),
-        Err(RunFault::Memory) => Err(Want::Memory),
+        Err(RunFault::NoThread) => Err(OutOf::Thread),
+        Err(RunFault::Memory) => Err(OutOf::Memory),
         Err(RunFault::Long | RunFault::Clock) => unreachable!(),
     }
 }

@@ -20,7 +20,7 @@ use crate::telling::{push_buffers, push_field, push_flags, push_image, push_stan
 use cm_array::{Machine, RunFault, Runner};
 use cm_asm::Reader;
 use cm_bits::NoMemory;
-use cm_debug::{Debugger, Want, push_bit, push_number, push_word};
+use cm_debug::{Debugger, OutOf, push_bit, push_number, push_word};
 use cm_lab::{Order, put};
 use cm_model::Act;
 use std::alloc::{AllocError, Global};
@@ -64,7 +64,7 @@ impl FrontEnd {
         runner: &mut R,
         line: &[u8],
         text: &mut Vec<u8>,
-    ) -> Result<(), Want>
+    ) -> Result<(), OutOf>
         requires runner { R.ready }
         ensures answer { OnOk result (text.new.items
             ≡ (front_after_line N CAP (front_of machine.old.machine self.old) line.now).answer) }
@@ -91,7 +91,7 @@ impl FrontEnd {
         runner: &mut R,
         line: &[u8],
         text: &mut Vec<u8>,
-    ) -> Result<(), Want>
+    ) -> Result<(), OutOf>
         requires runner { R.ready }
         requires none { text.old.items ≡ [] }
         ensures answer { OnOk result (text.new.items ≡ (said N CAP (front_of machine.old.machine self.old)
@@ -104,7 +104,7 @@ impl FrontEnd {
         self.reader.forget_acts();
         if let Err(kind) = read_line(&mut self.reader, alloc, line) {
             let Some(number) = own_number(kind) else {
-                return Err(Want::Memory);
+                return Err(OutOf::Memory);
             };
             return refuse(text, number);
         }
@@ -118,7 +118,7 @@ fn run_at_once<const N: usize, const CAP: usize, R: Runner<N, CAP>>(
     runner: &mut R,
     acts: &[Act],
     text: &mut Vec<u8>,
-) -> Result<(), Want>
+) -> Result<(), OutOf>
     requires runner { R.ready }
     requires none { text.old.items ≡ [] }
     ensures answer { OnOk result (text.new.items ≡ acts_line machine.old.machine acts.now) }
@@ -131,8 +131,8 @@ fn run_at_once<const N: usize, const CAP: usize, R: Runner<N, CAP>>(
         Ok(()) => Ok(()),
         Err(RunFault::Long) => refuse(text, LONG),
         Err(RunFault::Clock) => refuse(text, CLOCK),
-        Err(RunFault::NoThread) => Err(Want::Thread),
-        Err(RunFault::Memory) => Err(Want::Memory),
+        Err(RunFault::NoThread) => Err(OutOf::Thread),
+        Err(RunFault::Memory) => Err(OutOf::Memory),
     }
 }
 
@@ -152,7 +152,7 @@ fn push_done<const N: usize, const CAP: usize>(
 }
 
 /// A refusal in place of the answer.
-fn refuse(text: &mut Vec<u8>, number: u64) -> Result<(), Want>
+fn refuse(text: &mut Vec<u8>, number: u64) -> Result<(), OutOf>
     ensures ok { OnOk result (text.new.items ≡ refused_line number) }
     ensures memory { IfErr result (λ want. is_thread want ≡ false) }
 {
@@ -167,7 +167,7 @@ fn do_for_all<const N: usize, const CAP: usize>(
     machine: &mut Machine<N, CAP>,
     line: &[u8],
     text: &mut Vec<u8>,
-) -> Result<(), Want>
+) -> Result<(), OutOf>
     requires none { text.old.items ≡ [] }
     ensures done { OnOk result ((read : Reading) → for_all N CAP (front_of machine.old.machine read)
         (asked_of N (words_of line.now)) ≡ front_answered_with (front_of machine.new.machine read) text.new.items) }
@@ -181,14 +181,14 @@ fn do_for_all<const N: usize, const CAP: usize>(
         Ok(asked) => asked,
         Err(kind) => {
             let Some(number) = own_number(kind) else {
-                return Err(Want::Memory);
+                return Err(OutOf::Memory);
             };
             return refuse(text, number);
         }
     };
     match obey(alloc, machine, asked, numbers.as_slice(), text) {
         Ok(()) => Ok(()),
-        Err(NoMemory) => Err(Want::Memory),
+        Err(NoMemory) => Err(OutOf::Memory),
     }
 }
 
@@ -238,7 +238,7 @@ fn ask<const N: usize, const CAP: usize, R: Runner<N, CAP>>(
     runner: &mut R,
     line: &[u8],
     text: &mut Vec<u8>,
-) -> Result<(), Want>
+) -> Result<(), OutOf>
     requires runner { R.ready }
     requires none { text.old.items ≡ [] }
     ensures answer { OnOk result (text.new.items

@@ -15,7 +15,7 @@ use crate::front_end::FrontEnd;
 use crate::hearing::{LIMIT, hear, line_len};
 use cm_array::{Machine, Runner};
 use cm_bits::{Sink, Source};
-use cm_debug::{Gathered, Want};
+use cm_debug::{Gathered, OutOf};
 use cm_session::SessionFault;
 use std::alloc::Global;
 
@@ -162,7 +162,7 @@ fn tell_line<const N: usize, const CAP: usize, R: Runner<N, CAP>, O: Sink>(
 }
 
 /// What a front end ends by that wants something: what is gathered is written first.
-fn give_up<O: Sink>(answers: &mut Gathered, want: Want, out: &mut O) -> SessionFault
+fn give_up<O: Sink>(answers: &mut Gathered, want: OutOf, out: &mut O) -> SessionFault
     requires writer { O.has_failed out.old ≡ false }
     requires room { answered_bytes answers.old < 2 ^ 128 }
     ensures value { BreaksOffBetween answers.old.sent answers.old.bytes.items (O.contents out.old) (O.contents out.new)
@@ -176,7 +176,7 @@ fn give_up<O: Sink>(answers: &mut Gathered, want: Want, out: &mut O) -> SessionF
         Err(cut) => return SessionFault::Write(cut.0),
     }
     match want {
-        Want::Memory => SessionFault::Memory,
-        Want::Thread => SessionFault::NoThread,
+        OutOf::Memory => SessionFault::Memory,
+        OutOf::Thread => SessionFault::NoThread,
     }
 }

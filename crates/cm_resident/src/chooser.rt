@@ -15,7 +15,7 @@ use cm_array::{Machine, Part, Plain, RunFault, Runner, check_stretch};
 use cm_bits::NoMemory;
 use cm_model::Act;
 use cm_subcube::rounds;
-use cm_workers::{ForkFault, Passage, Want};
+use cm_workers::{ForkFault, OutOf, Passage};
 use std::alloc::Global;
 use std::sync::Wait;
 use std::thread::Threads;
@@ -104,7 +104,7 @@ impl<'a, const N: usize, const CAP: usize, R: Threads + Wait + Sync> Runner<N, C
             cycles,
             &mut self.used,
         );
-        if let Err(Want::Thread(_)) = done {
+        if let Err(OutOf::Thread(_)) = done {
             self.threads_lacked = self.threads_lacked.wrapping_add(1);
         }
         told(done)

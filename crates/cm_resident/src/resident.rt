@@ -22,7 +22,7 @@ use cm_array::{Machine, Part, RunFault, Runner, check_stretch};
 use cm_bits::NoMemory;
 use cm_model::Act;
 use cm_subcube::{Block, join_and_keep};
-use cm_workers::{ForkFault, NoThread, Passage, Want};
+use cm_workers::{ForkFault, NoThread, OutOf, Passage};
 use std::alloc::Global;
 use std::sync::Wait;
 use std::thread::Threads;
@@ -125,7 +125,7 @@ impl<'a, const N: usize, const CAP: usize, R: Threads + Wait + Sync> Runner<N, C
             cycles,
             &mut self.used,
         );
-        if let Err(Want::Thread(_)) = done {
+        if let Err(OutOf::Thread(_)) = done {
             self.threads_lacked = self.threads_lacked.wrapping_add(1);
         }
         told(done)
@@ -171,13 +171,13 @@ fn are_too_few(k: u8, workers: u16) -> bool
 }
 
 /// What workers did or wanted, as a runner tells it.
-pub(crate) fn told(done: Result<(), Want>) -> Result<(), RunFault>
+pub(crate) fn told(done: Result<(), OutOf>) -> Result<(), RunFault>
     ensures value { MatchResult done (λ _. IsOk result) (λ want. IsErrOf result (of_want want)) }
 {
     match done {
         Ok(()) => Ok(()),
-        Err(Want::Memory(_)) => Err(RunFault::Memory),
-        Err(Want::Thread(_)) => Err(RunFault::NoThread),
+        Err(OutOf::Memory(_)) => Err(RunFault::Memory),
+        Err(OutOf::Thread(_)) => Err(RunFault::NoThread),
     }
 }
 
@@ -192,7 +192,7 @@ pub(crate) fn run<const N: usize, const CAP: usize, R: Threads + Wait + Sync>(
     acts: &[Act],
     cycles: usize,
     used: &mut Vec<Part>,
-) -> Result<(), Want>
+) -> Result<(), OutOf>
     requires within { k ≤ N - N / 2 }
     requires some { 0 < workers }
     requires enough { workers ≤ 2 ^ k }
@@ -225,7 +225,7 @@ fn share_out<const N: usize, const CAP: usize, R: Threads + Wait + Sync>(
     machine: &mut Machine<N, CAP>,
     acts: &[Act],
     used: &mut Vec<Part>,
-) -> Result<(), Want>
+) -> Result<(), OutOf>
     requires within { k ≤ N - N / 2 }
     requires some { 0 < workers }
     requires enough { workers ≤ 2 ^ k }
@@ -345,7 +345,7 @@ fn share_out_without_logs<const N: usize, const CAP: usize, R: Threads + Wait + 
     acts: &[Act],
     cycles: usize,
     used: &mut Vec<Part>,
-) -> Result<(), Want>
+) -> Result<(), OutOf>
     requires open { passage.now ≡ Passage.Open }
     requires within { k ≤ N - N / 2 }
     requires some { 0 < workers }

@@ -3,8 +3,8 @@ use Rattle.std.specs.Prelude.{ℕ, ◌-◌, ◌/◌, ◌^◌, min, ◌==◌, ◌
 use Rattle.std.specs.Prelude.{Option, Some, None, if◌then◌else◌}
 use Rattle.cm_workers.specs.declared.forked.ForkFault.{ForkFault}
 use Rattle.cm_workers.specs.declared.forked.ForkFault.TheVariants.{Split, Workers}
-use Rattle.cm_workers.specs.declared.want.Want.{Want}
-use Rattle.cm_workers.specs.declared.want.Want.TheVariants as want
+use Rattle.cm_workers.specs.declared.out_of.OutOf.{OutOf}
+use Rattle.cm_workers.specs.declared.out_of.OutOf.TheVariants as want
 use Rattle.cm_array.specs.declared.runner.RunFault.{RunFault}
 use Rattle.cm_array.specs.declared.runner.RunFault.TheVariants as fault
 
@@ -21,6 +21,6 @@ abbrev pub most_workers : ℕ → ℕ → ℕ → ℕ
 most_workers n k workers = min workers (2 ^ most_blocks n k)
 
 -- a want as a runner's fault
-abbrev pub of_want : Want → RunFault
+abbrev pub of_want : OutOf → RunFault
 of_want (want.Memory refused) = fault.Memory
 of_want (want.Thread refused) = fault.NoThread

@@ -15,10 +15,10 @@ ghost use Rattle.cm_workers.specs.Posts.{blank_post};
 ghost use Rattle.cm_workers.specs.Runs.{StandAt};
 
 use crate::gate::Passage;
+use crate::out_of::{NoThread, OutOf};
 use crate::post::Post;
 use crate::running::{Sizes, run_blocks};
 use crate::turn::Crew;
-use crate::want::{NoThread, Want};
 use cm_array::{Machine, RunFault, Runner, check_stretch};
 use cm_bits::NoMemory;
 use cm_model::Act;
@@ -142,7 +142,7 @@ impl<'a, const N: usize, const CAP: usize, R: Threads + Wait> Runner<N, CAP> for
             acts,
             cycles,
         );
-        if let Err(Want::Thread(_)) = done {
+        if let Err(OutOf::Thread(_)) = done {
             self.threads_lacked = self.threads_lacked.wrapping_add(1);
         }
         told(done)
@@ -157,13 +157,13 @@ fn are_too_few(k: u8, workers: u16) -> bool
 }
 
 /// What blocks did or wanted, as a runner tells it.
-fn told(done: Result<(), Want>) -> Result<(), RunFault>
+fn told(done: Result<(), OutOf>) -> Result<(), RunFault>
     ensures value { MatchResult done (λ _. IsOk result) (λ want. IsErrOf result (of_want want)) }
 {
     match done {
         Ok(()) => Ok(()),
-        Err(Want::Memory(_)) => Err(RunFault::Memory),
-        Err(Want::Thread(_)) => Err(RunFault::NoThread),
+        Err(OutOf::Memory(_)) => Err(RunFault::Memory),
+        Err(OutOf::Thread(_)) => Err(RunFault::NoThread),
     }
 }
 
@@ -176,7 +176,7 @@ fn fork<const N: usize, const CAP: usize, R: Threads + Wait>(
     machine: &mut Machine<N, CAP>,
     acts: &[Act],
     cycles: usize,
-) -> Result<(), Want>
+) -> Result<(), OutOf>
     requires dimension { sizes.dims ≡ N }
     requires within { sizes.k ≤ N - N / 2 }
     requires some { 0 < sizes.workers }

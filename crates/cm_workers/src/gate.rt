@@ -5,7 +5,7 @@ ghost use Rattle.std.specs.List.{All};
 ghost use Rattle.cm_subcube.specs.Blocks.{KeptBlock};
 ghost use Rattle.cm_workers.specs.Gates.{ComesBy};
 
-use crate::want::NoThread;
+use crate::out_of::NoThread;
 use cm_subcube::Block;
 
 /// Looks at the workers of a run, from within their threads.

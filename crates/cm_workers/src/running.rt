@@ -7,9 +7,9 @@ ghost use Rattle.cm_workers.specs.Runs.{StandAt, AreAfter, HaveBegun};
 
 use crate::exchange::hand_over;
 use crate::gate::Passage;
+use crate::out_of::OutOf;
 use crate::shift::shift;
 use crate::turn::Crew;
-use crate::want::Want;
 use cm_model::Act;
 use cm_subcube::Round;
 use std::alloc::Global;
@@ -38,7 +38,7 @@ pub fn run_blocks<R: Threads + Wait>(
     rounds: &[Round],
     passage: &Passage,
     all: Crew,
-) -> Result<Crew, Want>
+) -> Result<Crew, OutOf>
     requires dimension { sizes.dims ≤ 12 }
     requires within { sizes.k ≤ sizes.dims - sizes.dims / 2 }
     requires some { 0 < sizes.workers }
@@ -66,7 +66,7 @@ fn to_round<R: Threads + Wait>(
     number: usize,
     passage: &Passage,
     all: Crew,
-) -> Result<Crew, Want>
+) -> Result<Crew, OutOf>
     requires dimension { sizes.dims ≤ 12 }
     requires within { sizes.k ≤ sizes.dims - sizes.dims / 2 }
     requires some { 0 < sizes.workers }

@@ -14,10 +14,10 @@ ghost use Rattle.cm_workers.specs.Gates.{IsWorkersTurn};
 
 use crate::dealing::{collect, deal};
 use crate::gate::Passage;
+use crate::out_of::{NoThread, OutOf};
 use crate::post::Post;
 use crate::running::Sizes;
 use crate::turn::Crew;
-use crate::want::{NoThread, Want};
 use cm_bits::NoMemory;
 use cm_model::Act;
 use cm_subcube::{Block, Round};
@@ -166,7 +166,7 @@ fn start_and_join<'s, E, R: Threads>(
     number: usize,
     passage: &'s Passage,
     hands: Hands,
-) -> Result<Hands, Want>
+) -> Result<Hands, OutOf>
     requires ready { CanHandsGo acts.now (round_before rounds.now number) (slice_get rounds.now number)
         hands.blocks.items hands.posts.items }
     requires own { AreWorkersTurns acts.now (round_before rounds.now number) (slice_get rounds.now number)
@@ -193,7 +193,7 @@ fn turn_hands<R: Threads + Wait>(
     number: usize,
     passage: &Passage,
     hands: Hands,
-) -> Result<Hands, Want>
+) -> Result<Hands, OutOf>
     requires ready { CanHandsGo acts.now (round_before rounds.now number) (slice_get rounds.now number)
         hands.blocks.items hands.posts.items }
     requires own { AreWorkersTurns acts.now (round_before rounds.now number) (slice_get rounds.now number)
@@ -206,7 +206,7 @@ fn turn_hands<R: Threads + Wait>(
     thread::scope(
         thread::scope_env(),
         rt,
-        |scope| -> Result<Hands, Want>
+        |scope| -> Result<Hands, OutOf>
             requires { CanHandsGo acts.now (round_before rounds.now number) (slice_get rounds.now number)
                 hands.blocks.items hands.posts.items
                 × AreWorkersTurns acts.now (round_before rounds.now number) (slice_get rounds.now number)
@@ -229,7 +229,7 @@ pub(crate) fn shift<R: Threads + Wait>(
     passage: &Passage,
     sizes: Sizes,
     all: Crew,
-) -> Result<Crew, Want>
+) -> Result<Crew, OutOf>
     requires within { sizes.k ≤ sizes.dims - sizes.dims / 2 }
     requires some { 0 < sizes.workers }
     requires few { sizes.workers ≤ 64 }

@@ -10,7 +10,7 @@ ghost use Rattle.cm_front.specs.Ends.{Ends};
 
 use cm_array::{Machine, Runner};
 use cm_bits::{Sink, Source};
-use cm_debug::Want;
+use cm_debug::OutOf;
 use cm_front::{FrontEnd, SessionFault};
 use std::alloc::Global;
 
@@ -46,7 +46,7 @@ pub fn tell<const N: usize, const CAP: usize, R: Runner<N, CAP>>(
     runner: &mut R,
     line: &[u8],
     text: &mut Vec<u8>,
-) -> Result<(), Want>
+) -> Result<(), OutOf>
     requires runner { R.ready }
     ensures answer { OnOk result (text.new.items
         ≡ (front_after_line N CAP (front_of machine.old.machine front.old) line.now).answer) }

@@ -1,5 +1,5 @@
 use Rattle.std.proofs.Common.{refl, sym, ◌∙◌, rules}
-use Rattle.cm_debug.specs.declared.want.Want.TheVariants.{Memory}
+use Rattle.cm_debug.specs.declared.out_of.OutOf.TheVariants.{Memory}
 use Rattle.cm_debug.specs.State.{session_of, state, stops_at}
 use Rattle.cm_debug.proofs.Coming.{refused_here, ended_here, none_gone, gone_on, gone_left, stop_left, gone_done}
 use Rattle.cm_debug.proofs.Coming.{stop_done}

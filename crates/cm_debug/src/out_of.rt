@@ -4,18 +4,18 @@ use std::alloc::AllocError;
 
 /// Why a line is not answered.
 #[derive(Clone, Copy, Debug, PartialEq, Eq)]
-pub enum Want {
+pub enum OutOf {
     Memory,
     Thread,
 }
 
-impl From<AllocError> for Want {
+impl From<AllocError> for OutOf {
     ghost use Rattle.std.specs.Prelude.{◌≡◌};
-    ghost use Rattle.cm_debug.specs.declared.want.Want.TheVariants.{Memory};
+    ghost use Rattle.cm_debug.specs.declared.out_of.OutOf.TheVariants.{Memory};
 
     ghost from_gives = { λ _ want. want ≡ Memory };
 
-    fn from(_: AllocError) -> Want {
-        Want::Memory
+    fn from(_: AllocError) -> OutOf {
+        OutOf::Memory
     }
 }

@@ -41,31 +41,31 @@ impl NoThread {
 
 /// What was wanting, so that blocks did not go through a run.
 #[derive(Clone, Copy, Debug, PartialEq, Eq, Error)]
-pub enum Want {
+pub enum OutOf {
     #[error("out of memory")]
     Memory(NoMemory),
     #[error("a thread was not admitted or not started")]
     Thread(NoThread),
 }
 
-impl From<NoMemory> for Want {
+impl From<NoMemory> for OutOf {
     ghost use Rattle.std.specs.Prelude.{◌≡◌};
-    ghost use Rattle.cm_workers.specs.declared.want.Want.TheVariants.{Memory};
+    ghost use Rattle.cm_workers.specs.declared.out_of.OutOf.TheVariants.{Memory};
 
     ghost from_gives = { λ refused fault. fault ≡ Memory refused };
 
-    fn from(refused: NoMemory) -> Want {
-        Want::Memory(refused)
+    fn from(refused: NoMemory) -> OutOf {
+        OutOf::Memory(refused)
     }
 }
 
-impl From<NoThread> for Want {
+impl From<NoThread> for OutOf {
     ghost use Rattle.std.specs.Prelude.{◌≡◌};
-    ghost use Rattle.cm_workers.specs.declared.want.Want.TheVariants.{Thread};
+    ghost use Rattle.cm_workers.specs.declared.out_of.OutOf.TheVariants.{Thread};
 
     ghost from_gives = { λ refused fault. fault ≡ Thread refused };
 
-    fn from(refused: NoThread) -> Want {
-        Want::Thread(refused)
+    fn from(refused: NoThread) -> OutOf {
+        OutOf::Thread(refused)
     }
 }
