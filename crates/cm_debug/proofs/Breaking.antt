@@ -10,7 +10,7 @@ use Rattle.cm_session.specs.declared.fault.SessionFault.TheVariants.{Read, Write
 use Rattle.cm_session.specs.Session.{Session, Answered, preceded_by, opening, after_line, after_lines}
 use Rattle.cm_session.specs.Ends.{ended_lines, open_line, IsBeforeOrAmid, IsOnTheWay, IsStopped, IsBrokenOff}
 use Rattle.cm_session.proofs.Lines.{ended_lines-end}
-use Rattle.cm_debug.specs.Gathering.{IsCutOff, BreaksOffBetween}
+use Rattle.cm_debug.specs.BufferedOutput.{IsCutOff, BreaksOffBetween}
 use Rattle.cm_debug.specs.Talk.{Talk, Setting, after_all, IsTold, BreaksOffAmong}
 use Rattle.cm_debug.specs.Taking.{BreaksOffIn}
 use Rattle.cm_debug.proofs.Lines.{next, lines-more, answers-append, answers-longer}

@@ -5,7 +5,7 @@ use Rattle.std.proofs.Common.{append_assoc, append-nil, length-append}
 use Rattle.std.proofs.lemmas.Grind.{common_steps}
 use Rattle.std.proofs.KnownBytes.{Appends-trans}
 use Rattle.std.specs.Io.KnownBytes.{Appends, append_known}
-use Rattle.cm_debug.specs.Gathering.{IsCutOff}
+use Rattle.cm_debug.specs.BufferedOutput.{IsCutOff}
 
 -- a count of bytes of the answers to the first lines is one of the answers to all
 pub take_front : (front rest : List ℕ) (count : ℕ) → count ≤ length front → take count (front ++ rest) ≡ take count front

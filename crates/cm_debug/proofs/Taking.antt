@@ -15,7 +15,7 @@ use Rattle.cm_session.specs.Commands.{command_of}
 use Rattle.cm_session.specs.Session.{Answered, preceded_by, answered, after_line}
 use Rattle.cm_session.specs.Ends.{ended_lines, is_session_no_thread}
 use Rattle.cm_session.proofs.Lines.{ended_lines-append, ended_lines-end, open_line-end, ended_after}
-use Rattle.cm_debug.specs.Gathering.{BreaksOffBetween}
+use Rattle.cm_debug.specs.BufferedOutput.{BreaksOffBetween}
 use Rattle.cm_debug.specs.Talk.{Talk, Setting, holds_of, answered_count, after_all, IsTold, IsBroken, BreaksOffAmong}
 use Rattle.cm_debug.specs.Taking.{BreaksOffIn, HasTaken, HasStopped, HasAnswered, HasBrokenOff}
 use Rattle.cm_debug.proofs.Breaking.{among_more, breaks_in, breaks_between}

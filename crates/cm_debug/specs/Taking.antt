@@ -7,7 +7,7 @@ use Rattle.cm_session.specs.declared.fault.SessionFault.{SessionFault}
 use Rattle.cm_session.specs.declared.fault.SessionFault.TheVariants.{Write, Memory, NoThread}
 use Rattle.cm_session.specs.Session.{Answered}
 use Rattle.cm_session.specs.Ends.{ended_lines, is_session_no_thread, IsOnTheWay}
-use Rattle.cm_debug.specs.Gathering.{IsCutOff}
+use Rattle.cm_debug.specs.BufferedOutput.{IsCutOff}
 use Rattle.cm_debug.specs.Talk.{Talk, Setting, holds_of, answered_count, IsTold, IsBroken}
 
 -- ---- bytes

@@ -8,15 +8,15 @@ ghost use Rattle.cm_session.specs.Bounds.{IsFor};
 ghost use Rattle.cm_session.specs.Commands.{command_of};
 ghost use Rattle.cm_session.specs.Session.{answered};
 ghost use Rattle.cm_session.specs.Ends.{is_write};
-ghost use Rattle.cm_debug.specs.Gathering.{answered_bytes, with_gathered, IsCutOff};
+ghost use Rattle.cm_debug.specs.BufferedOutput.{answered_bytes, with_gathered, IsCutOff};
 ghost use Rattle.cm_debug.specs.State.{session_of};
 ghost use Rattle.cm_debug.specs.Talk.{talk};
 ghost use Rattle.cm_debug.specs.Taking.{Takes, ConsoleAnswers};
 ghost use Rattle.cm_debug.specs.Telling.{asks_for_acts, asks_to_run};
 
+use crate::buffered_output::{BufferedOutput, CutOff};
 use crate::commands::asks_for_acts;
 use crate::debugger::Debugger;
-use crate::gathering::{CutOff, Gathered};
 use crate::out_of::OutOf;
 use crate::reader::read_command;
 use cm_array::{Machine, Runner};
@@ -31,7 +31,7 @@ use std::alloc::{AllocError, Global};
 pub struct Console<'a> {
     pub debugger: Debugger<'a>,
     pub line: Vec<u8>,
-    pub output: Gathered,
+    pub output: BufferedOutput,
 }
 
 impl<'a> Console<'a> {
@@ -50,7 +50,7 @@ impl<'a> Console<'a> {
         Ok(Console {
             debugger,
             line: Vec::new(alloc),
-            output: Gathered::new(alloc),
+            output: BufferedOutput::new(alloc),
         })
     }
 
@@ -216,7 +216,7 @@ fn read_ended(
 fn send_before<O: Sink>(
     asked: &Result<Option<Command>, Refusal>,
     wants: bool,
-    answers: &mut Gathered,
+    answers: &mut BufferedOutput,
     out: &mut O,
 ) -> Result<(), CutOff>
     requires writer { O.has_failed out.old ≡ false }

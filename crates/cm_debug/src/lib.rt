@@ -2,10 +2,10 @@
 #![tactic(auto)]
 
 mod answers;
+mod buffered_output;
 mod commands;
 mod console;
 mod debugger;
-mod gathering;
 mod out_of;
 mod reader;
 mod reader_operands;
@@ -14,9 +14,9 @@ mod sessions;
 mod stretch;
 
 pub use answers::{push_bit, push_number, push_word};
+pub use buffered_output::{BufferedOutput, CutOff};
 pub use cm_session::SessionFault;
 pub use debugger::Debugger;
-pub use gathering::{CutOff, Gathered};
 pub use out_of::OutOf;
 pub use reader::read_command;
 pub use sessions::session;

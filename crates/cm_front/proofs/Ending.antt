@@ -11,7 +11,7 @@ use Rattle.cm_model.specs.Machine.{Machine}
 use Rattle.cm_session.specs.declared.fault.SessionFault.{SessionFault}
 use Rattle.cm_session.specs.declared.fault.SessionFault.TheVariants.{Read, Write, TooMuch, Memory, NoThread}
 use Rattle.cm_session.specs.Ends.{ended_lines, open_line}
-use Rattle.cm_debug.specs.Gathering.{IsCutOff}
+use Rattle.cm_debug.specs.BufferedOutput.{IsCutOff}
 use Rattle.cm_front.specs.Front.{Front}
 use Rattle.cm_front.specs.Ends.{LINE_LIMIT, ALL, AreShort, Ends, IsAnswered}
 use Rattle.cm_front.specs.Hearing.{BreaksOff, HasHeard, HearingStops}

@@ -7,7 +7,7 @@ use Rattle.cm_bits.specs.Text.{lines_of}
 use Rattle.cm_model.specs.Machine.{Machine}
 use Rattle.cm_session.specs.declared.fault.SessionFault.{SessionFault}
 use Rattle.cm_session.specs.declared.fault.SessionFault.TheVariants.{Read, Write, TooMuch, Memory, NoThread}
-use Rattle.cm_debug.specs.Gathering.{IsCutOff, BreaksOffBetween}
+use Rattle.cm_debug.specs.BufferedOutput.{IsCutOff, BreaksOffBetween}
 use Rattle.cm_debug.proofs.Sending.{front_written, all_written, with_none}
 use Rattle.cm_front.specs.Front.{Front, FrontAnswered, front_opening, front_answered_with, front_preceded_by}
 use Rattle.cm_front.specs.Front.{front_after_line, front_after_lines, front_answers}

@@ -4,7 +4,7 @@ use Rattle.std.specs.Io.KnownBytes.{Appends, Consumes, IsAtEnd, Keeps}
 use Rattle.cm_model.specs.Machine.{Machine}
 use Rattle.cm_session.specs.declared.fault.SessionFault.{SessionFault}
 use Rattle.cm_session.specs.declared.fault.SessionFault.TheVariants.{Read, Write, TooMuch, Memory, NoThread}
-use Rattle.cm_debug.specs.Gathering.{IsCutOff}
+use Rattle.cm_debug.specs.BufferedOutput.{IsCutOff}
 use Rattle.cm_front.specs.Front.{Front, front_after_line}
 use Rattle.cm_front.specs.Ends.{LINE_LIMIT}
 

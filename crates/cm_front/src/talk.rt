@@ -5,7 +5,7 @@ ghost use Rattle.std.specs.Prelude.{IsFalse, IsTrue, OnOk};
 ghost use Rattle.std.specs.Io.KnownBytes.{Appends, IsAtEnd};
 ghost use Rattle.cm_array.specs.Faults.{one_more_lacked};
 ghost use Rattle.cm_session.specs.Ends.{is_session_no_thread, is_write};
-ghost use Rattle.cm_debug.specs.Gathering.{answered_bytes, with_gathered, BreaksOffBetween};
+ghost use Rattle.cm_debug.specs.BufferedOutput.{answered_bytes, with_gathered, BreaksOffBetween};
 ghost use Rattle.cm_debug.specs.Telling.{is_thread};
 ghost use Rattle.cm_front.specs.Front.{front_of, front_after_line};
 ghost use Rattle.cm_front.specs.Ends.{LINE_LIMIT, ALL, Ends};
@@ -15,7 +15,7 @@ use crate::front_end::FrontEnd;
 use crate::hearing::{LIMIT, hear, line_len};
 use cm_array::{Machine, Runner};
 use cm_bits::{Sink, Source};
-use cm_debug::{Gathered, OutOf};
+use cm_debug::{BufferedOutput, OutOf};
 use cm_session::SessionFault;
 use std::alloc::Global;
 
@@ -49,7 +49,7 @@ pub fn front<const N: usize, const CAP: usize, R: Runner<N, CAP>, I: Source, O: 
     ensures memory { IsErrOf result SessionFault.Memory → R.threads_lacked runner.new ≡ R.threads_lacked runner.old }
 {
     let mut front = FrontEnd::new(alloc);
-    let mut answers = Gathered::new(alloc);
+    let mut answers = BufferedOutput::new(alloc);
     let mut heard = Vec::new(alloc);
     let mut place = 0;
     let mut seen = 0;
@@ -130,7 +130,7 @@ fn tell_line<const N: usize, const CAP: usize, R: Runner<N, CAP>, O: Sink>(
     machine: &mut Machine<N, CAP>,
     runner: &mut R,
     line: &[u8],
-    answers: &mut Gathered,
+    answers: &mut BufferedOutput,
     out: &mut O,
 ) -> Result<(), SessionFault>
     requires runner { R.ready }
@@ -162,7 +162,7 @@ fn tell_line<const N: usize, const CAP: usize, R: Runner<N, CAP>, O: Sink>(
 }
 
 /// What a front end ends by that wants something: what is gathered is written first.
-fn give_up<O: Sink>(answers: &mut Gathered, want: OutOf, out: &mut O) -> SessionFault
+fn give_up<O: Sink>(answers: &mut BufferedOutput, want: OutOf, out: &mut O) -> SessionFault
     requires writer { O.has_failed out.old ≡ false }
     requires room { answered_bytes answers.old < 2 ^ 128 }
     ensures value { BreaksOffBetween answers.old.sent answers.old.bytes.items (O.contents out.old) (O.contents out.new)

@@ -1,6 +1,6 @@
 use Rattle.std.proofs.Common.{◌≡◌, ℕ, ◌+◌, ◌-◌, ◌*◌, ◌^◌, ◌≤◌, false, List, ◌++◌, take, drop, length}
 use Rattle.std.specs.Io.KnownBytes.{Consumes}
-use Rattle.cm_debug.specs.Gathering.{answered_bytes}
+use Rattle.cm_debug.specs.BufferedOutput.{answered_bytes}
 use Rattle.cm_front.specs.Front.{front_of}
 use Rattle.cm_bits.specs.Text.{IsUnended}
 use Rattle.cm_front.specs.Ends.{LINE_LIMIT, ALL, AreShort}

@@ -1,6 +1,6 @@
 use Rattle.std.proofs.Common.{◌++◌, Bool, cond, ap, ◌∙◌}
 use Rattle.cm_debug.proofs.Sending.{cut_later}
-use Rattle.cm_debug.proofs.gathering.Gathered.add_line.Goals as goal
+use Rattle.cm_debug.proofs.buffered_output.BufferedOutput.add_line.Goals as goal
 
 pub returns-in-Err-write_all-clause-err : goal.returns-in-Err-write_all-clause-err
 returns-in-Err-write_all-clause-err g c =

@@ -3,14 +3,14 @@ use Rattle.std.specs.Prelude.{◌≡◌, ℕ, ◌+◌, ◌<◌, Option, List, le
 use Rattle.std.specs.Io.KnownBytes.{Appends, append_known}
 use Rattle.cm_session.specs.declared.fault.SessionFault.{SessionFault}
 use Rattle.cm_session.specs.declared.fault.SessionFault.TheVariants.{Write, Memory, NoThread}
-use Rattle.cm_debug.specs.declared.gathering.Gathered.{Gathered}
+use Rattle.cm_debug.specs.declared.buffered_output.BufferedOutput.{BufferedOutput}
 
 -- the bytes of a sink, and behind them those that are gathered
-abbrev pub with_gathered : Option (List ℕ) → Gathered → Option (List ℕ)
+abbrev pub with_gathered : Option (List ℕ) → BufferedOutput → Option (List ℕ)
 with_gathered holds gathered = append_known holds gathered.bytes.items
 
 -- how many bytes were answered: those that went out, and those that are gathered
-abbrev pub answered_bytes : Gathered → ℕ
+abbrev pub answered_bytes : BufferedOutput → ℕ
 answered_bytes gathered = gathered.sent + length gathered.bytes.items
 
 -- a front of a text was written, and the count of bytes is those before it and its own

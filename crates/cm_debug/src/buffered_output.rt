@@ -4,7 +4,7 @@ ghost use Rattle.std.specs.Prelude.{◌≡◌, ◌+◌, ◌<◌, ◌^◌, ◌++�
 ghost use Rattle.std.specs.Prelude.{if◌then◌else◌};
 ghost use Rattle.std.specs.Io.KnownBytes.{Appends};
 ghost use Rattle.cm_session.specs.Ends.{is_session_no_thread, is_write};
-ghost use Rattle.cm_debug.specs.Gathering.{answered_bytes, with_gathered, BreaksOffBetween, IsCutOff};
+ghost use Rattle.cm_debug.specs.BufferedOutput.{answered_bytes, with_gathered, BreaksOffBetween, IsCutOff};
 ghost use Rattle.cm_debug.specs.Telling.{is_thread};
 ghost use Rattle.cm_debug.specs.declared.out_of.OutOf.TheVariants.{Thread};
 
@@ -22,20 +22,20 @@ pub struct CutOff(pub u128);
 
 /// The answers that are not written yet, and how many bytes went out before them.
 #[derive(Drop)]
-pub struct Gathered {
+pub struct BufferedOutput {
     /// The answer that is being made.
     pub line: Vec<u8>,
     pub bytes: Vec<u8>,
     pub sent: u128,
 }
 
-impl Gathered {
+impl BufferedOutput {
     /// Before the first answer.
-    pub fn new(alloc: Global) -> Gathered
+    pub fn new(alloc: Global) -> BufferedOutput
         ensures none { result.bytes.items ≡ [] }
         ensures sent { result.sent ≡ 0 }
     {
-        Gathered {
+        BufferedOutput {
             line: Vec::new(alloc),
             bytes: Vec::new(alloc),
             sent: 0,
