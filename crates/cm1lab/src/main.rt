@@ -19,7 +19,7 @@ use cm_front::front_image;
 use cm_host::Host;
 use cm_lab::{LabFault, RouteFault, perform_watched};
 use cm_lab_line::{Asked, Blank, Command, CommandFault, Given, HELP, Loads, VERSION, read_words};
-use cm_outside::{LineFault, Outside, TakeFault, take};
+use cm_outside::{LineFault, System, TakeFault, take};
 use cm_source::expand;
 use cm_way::plot;
 use std::alloc::Global;

@@ -5,7 +5,7 @@ ghost use Rattle.std.specs.Prelude.{◌≡◌, false};
 use cm_bits::doubles::{Bytes, Room};
 use cm_bits::{Failed, Sink};
 use cm_cli::perform;
-use cm_outside::{LineFault, Outside, PutFault, Written};
+use cm_outside::{LineFault, PutFault, System, Written};
 use std::alloc::{AllocError, Global};
 use std::sync::Wait;
 use std::thread::Threads;
@@ -70,7 +70,7 @@ fn words_of(alloc: Global, text: &str) -> Result<Vec<String>, AllocError> {
     Ok(words)
 }
 
-impl<'a> Outside for Files<'a> {
+impl<'a> System for Files<'a> {
     type File = Bytes<'a>;
 
     type Part = ();

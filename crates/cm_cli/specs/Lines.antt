@@ -3,33 +3,33 @@ use Rattle.std.specs.Prelude.{Result, List, string_bytes}
 use Rattle.cm_line.specs.declared.line.Line.{Line}
 use Rattle.cm_line.specs.declared.line.Line.TheVariants as line
 use Rattle.cm_outside.specs.declared.program_fault.ProgramFault.{ProgramFault}
-use Rattle.cm_outside.specs.Deeds.{Deed}
+use Rattle.cm_outside.specs.Trace.{IoEvent}
 use Rattle.cm_outside.specs.Takings.{Reads}
 use Rattle.cm_outside.specs.Streams.{Streams, IsUnread, IsUntouched}
-use Rattle.cm_tools.specs.Tools.{DoesChip, DoesFresh, DoesList}
-use Rattle.cm_cli.specs.Runs.{DoesRun}
+use Rattle.cm_tools.specs.Tools.{IsChipTrace, IsFreshTrace, IsListTrace}
+use Rattle.cm_cli.specs.Runs.{IsRunTrace}
 use Rattle.cm_tools.specs.Weaving.{outgoing_of}
-use Rattle.cm_tools.specs.Weaves.{DoesWeave}
+use Rattle.cm_tools.specs.Weaves.{IsWeaveTrace}
 
 -- what the program does for a line
-abbrev pub DoesLine : {F P : Type 0} → Reads F → Line → Streams → Result (Unit {0}) ProgramFault → List (Deed F P)
+abbrev pub IsLineTrace : {F P : Type 0} → Reads F → Line → Streams → Result (Unit {0}) ProgramFault → List (IoEvent F P)
     → Type 0
-DoesLine reads line.Chip streams result deeds = DoesChip streams result deeds
-DoesLine reads (line.List program) streams result deeds =
+IsLineTrace reads line.Chip streams result trace = IsChipTrace streams result trace
+IsLineTrace reads (line.List program) streams result trace =
     IsUnread streams
-    × DoesList reads (string_bytes program) streams.held streams.holds streams.write_failed result deeds
-DoesLine reads (line.Fresh n cap file) streams result deeds =
-    IsUntouched streams × DoesFresh n cap (string_bytes file) result deeds
-DoesLine reads (line.Run image program split workers out) streams result deeds =
-    DoesRun reads
+    × IsListTrace reads (string_bytes program) streams.held streams.holds streams.write_failed result trace
+IsLineTrace reads (line.Fresh n cap file) streams result trace =
+    IsUntouched streams × IsFreshTrace n cap (string_bytes file) result trace
+IsLineTrace reads (line.Run image program split workers out) streams result trace =
+    IsRunTrace reads
     (record {
       image = image;
       program = program;
       sharing = record { split = split; workers = workers };
       out = out;
-    }) streams result deeds
-DoesLine reads (line.Weave image program steps split out) streams result deeds =
+    }) streams result trace
+IsLineTrace reads (line.Weave image program steps split out) streams result trace =
     IsUnread streams
-    × DoesWeave reads
+    × IsWeaveTrace reads
     (record { image = image; program = program; steps = steps; split = split; out = out })
-    (outgoing_of streams.held streams.holds streams.write_failed) result deeds
+    (outgoing_of streams.held streams.holds streams.write_failed) result trace

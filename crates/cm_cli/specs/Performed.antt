@@ -10,10 +10,10 @@ use Rattle.cm_line.specs.Lines.{AsksFor, IsBadLine}
 use Rattle.cm_outside.specs.declared.program_fault.ProgramFault.{ProgramFault}
 use Rattle.cm_outside.specs.ProgramFault.{of_line, reported_number, fault_line}
 use Rattle.cm_outside.specs.Report.{HasFront, report_line, status_of}
-use Rattle.cm_outside.specs.Deeds.{Deed, Asked}
+use Rattle.cm_outside.specs.Trace.{IoEvent, Asked}
 use Rattle.cm_outside.specs.Takings.{Reads}
 use Rattle.cm_outside.specs.Streams.{Streams, IsUntouched}
-use Rattle.cm_cli.specs.Lines.{DoesLine}
+use Rattle.cm_cli.specs.Lines.{IsLineTrace}
 
 -- words that were asked for
 abbrev pub asked_words : Vec (String Global) Global → List (List ℕ)
@@ -31,38 +31,38 @@ HasNoLine (Ok words) fault = AreNoLine words fault
 HasNoLine (Err own) fault = fault ≡ of_line own
 
 -- the deeds are to ask for the words, which are this line
-pub record AsksLine {F P : Type 0} (line : Line) (deeds : List (Deed F P)) : Type 0 where
+pub record AsksLine {F P : Type 0} (line : Line) (trace : List (IoEvent F P)) : Type 0 where
   pub words : Vec (String Global) Global
-  pub did : deeds ≡ Asked (Ok words) ∷ []
+  pub did : trace ≡ Asked (Ok words) ∷ []
   pub asks : AsksFor (asked_words words) line
 
 -- the deeds are to ask for the words, and there is no line
-pub record AsksNoLine {F P : Type 0} (fault : ProgramFault) (deeds : List (Deed F P)) : Type 0 where
+pub record AsksNoLine {F P : Type 0} (fault : ProgramFault) (trace : List (IoEvent F P)) : Type 0 where
   pub words : Result (Vec (String Global) Global) LineFault
-  pub did : deeds ≡ Asked words ∷ []
+  pub did : trace ≡ Asked words ∷ []
   pub why : HasNoLine words fault
 
 -- there is no line, and nothing more is touched
-pub record DoesNothing {F P : Type 0} (streams : Streams) (result : Result (Unit {0}) ProgramFault)
-    (deeds : List (Deed F P)) : Type 0 where
+pub record IsEmptyTrace {F P : Type 0} (streams : Streams) (result : Result (Unit {0}) ProgramFault)
+    (trace : List (IoEvent F P)) : Type 0 where
   pub fault : ProgramFault
   pub told : result ≡ Err fault
-  pub asks : AsksNoLine fault deeds
+  pub asks : AsksNoLine fault trace
   pub untouched : IsUntouched streams
 
 -- what the line asks for is done
 pub record DoesAsAsked {F P : Type 0} (reads : Reads F) (streams : Streams) (result : Result (Unit {0}) ProgramFault)
-    (deeds : List (Deed F P)) : Type 0 where
-  pub first : List (Deed F P)
-  pub second : List (Deed F P)
-  pub did : deeds ≡ first ++ second
+    (trace : List (IoEvent F P)) : Type 0 where
+  pub first : List (IoEvent F P)
+  pub second : List (IoEvent F P)
+  pub did : trace ≡ first ++ second
   pub line : Line
   pub asks : AsksLine line first
-  pub does : DoesLine reads line streams result second
+  pub does : IsLineTrace reads line streams result second
 
-abbrev pub DoesWords : {F P : Type 0} → Reads F → Streams → Result (Unit {0}) ProgramFault → List (Deed F P) → Type 0
-DoesWords reads streams result deeds =
-    DoesNothing streams result deeds ⊎ DoesAsAsked reads streams result deeds
+abbrev pub IsWordsTrace : {F P : Type 0} → Reads F → Streams → Result (Unit {0}) ProgramFault → List (IoEvent F P) → Type 0
+IsWordsTrace reads streams result trace =
+    IsEmptyTrace streams result trace ⊎ DoesAsAsked reads streams result trace
 
 -- what standard error takes, and the status, where the program ends so: nothing and 0 without a fault; else the
 -- fault's line and its status, and 4 where that line could not be written
@@ -75,7 +75,7 @@ ReportsFault (Err fault) held holds true status =
 
 -- the whole program: what it does by its words, and what it tells
 pub record Performs {F P : Type 0} (reads : Reads F) (streams : Streams) (held holds : Option (List ℕ))
-    (failed : Bool) (status : ℕ) (deeds : List (Deed F P)) : Type 0 where
+    (failed : Bool) (status : ℕ) (trace : List (IoEvent F P)) : Type 0 where
   pub result : Result (Unit {0}) ProgramFault
-  pub does : DoesWords reads streams result deeds
+  pub does : IsWordsTrace reads streams result trace
   pub tells : ReportsFault result held holds failed status

@@ -9,7 +9,7 @@ use Rattle.cm_outside.specs.declared.program_fault.ProgramFault.{ProgramFault}
 use Rattle.cm_outside.specs.declared.program_fault.ProgramFault.TheVariants.{Read, Write, NoThread}
 use Rattle.cm_sizes.specs.Sizes.{SizedMachine}
 use Rattle.cm_cli.specs.Run.{HasLeft, HasLeftForSome, HasBrokenOff, HasBrokenOffForSome}
-use Rattle.cm_outside.specs.Deeds.{Deed}
+use Rattle.cm_outside.specs.Trace.{IoEvent}
 use Rattle.cm_outside.specs.Takings.{Reads}
 use Rattle.cm_outside.specs.Puttings.{Closes}
 use Rattle.cm_outside.specs.Streams.{Streams, IsUntouched}
@@ -40,27 +40,27 @@ pub record IsSession (start : SizedMachine) (acts : List Act) (streams : Streams
 -- the deeds once a session that begins here has ended: standard output goes out, and the file is written, if one was
 -- made ready. It wants a thread only where this is so
 pub record RunsFrom {F P : Type 0} (start : SizedMachine) (acts : List Act) (WantsThread : Type 0) (streams : Streams)
-    (part : Option P) (result : Result (Unit {0}) ProgramFault) (deeds : List (Deed F P)) : Type 0 where
+    (part : Option P) (result : Result (Unit {0}) ProgramFault) (trace : List (IoEvent F P)) : Type 0 where
   pub ran : Result (Option (List ℕ)) ProgramFault
   pub session : IsSession start acts streams (is_some part) ran
   pub threads : IsErrOf ran NoThread → WantsThread
-  pub closes : Closes part streams.holds ran result deeds
+  pub closes : Closes part streams.holds ran result trace
 
 -- no session begins
 pub record BeginsNot {F P : Type 0} (reads : Reads F) (line : RunLine) (streams : Streams)
-    (result : Result (Unit {0}) ProgramFault) (deeds : List (Deed F P)) : Type 0 where
+    (result : Result (Unit {0}) ProgramFault) (trace : List (IoEvent F P)) : Type 0 where
   pub fault : ProgramFault
   pub told : result ≡ Err fault
-  pub refused : RefusesFiles reads line fault deeds
+  pub refused : RefusesFiles reads line fault trace
   pub untouched : IsUntouched streams
 
 -- a session begins, and ends, which wants no thread where there is one worker; then standard output goes out, and the
 -- file is written
-pub record RunsFiles {F P : Type 0} (reads : Reads F) (line : RunLine) (streams : Streams)
-    (result : Result (Unit {0}) ProgramFault) (deeds : List (Deed F P)) : Type 0 where
-  pub first : List (Deed F P)
-  pub second : List (Deed F P)
-  pub did : deeds ≡ first ++ second
+pub record IsFilesTrace {F P : Type 0} (reads : Reads F) (line : RunLine) (streams : Streams)
+    (result : Result (Unit {0}) ProgramFault) (trace : List (IoEvent F P)) : Type 0 where
+  pub first : List (IoEvent F P)
+  pub second : List (IoEvent F P)
+  pub did : trace ≡ first ++ second
   pub start : SizedMachine
   pub program : ProgramText
   pub part : Option P
@@ -71,7 +71,7 @@ pub record RunsFiles {F P : Type 0} (reads : Reads F) (line : RunLine) (streams 
   pub closes : Closes part streams.holds ran result second
 
 -- what `cm1 run` does
-abbrev pub DoesRun : {F P : Type 0} → Reads F → RunLine → Streams → Result (Unit {0}) ProgramFault → List (Deed F P)
+abbrev pub IsRunTrace : {F P : Type 0} → Reads F → RunLine → Streams → Result (Unit {0}) ProgramFault → List (IoEvent F P)
     → Type 0
-DoesRun reads line streams result deeds =
-    BeginsNot reads line streams result deeds ⊎ RunsFiles reads line streams result deeds
+IsRunTrace reads line streams result trace =
+    BeginsNot reads line streams result trace ⊎ IsFilesTrace reads line streams result trace

@@ -3,18 +3,18 @@
 ghost use Rattle.std.specs.Prelude.{◌≡◌, ◌≤◌, false, None, IfOk, IfErr, IsErrOf, OnOk, option_map, string_bytes};
 ghost use Rattle.cm_sizes.specs.Sizes.{SizedMachine, sized};
 ghost use Rattle.cm_cli.specs.Sharing.{sharing_fault};
-ghost use Rattle.cm_outside.specs.Deeds.{Did};
+ghost use Rattle.cm_outside.specs.Trace.{HasTrace};
 ghost use Rattle.cm_outside.specs.Takings.{reads_by};
 ghost use Rattle.cm_outside.specs.Puttings.{ClosesLeft, Readies};
 ghost use Rattle.cm_cli.specs.Files.{BeginsFiles, RefusesFiles, RefusesTaken};
 ghost use Rattle.cm_outside.specs.Streams.{streams};
-ghost use Rattle.cm_cli.specs.Runs.{DoesRun, RunsFrom};
+ghost use Rattle.cm_cli.specs.Runs.{IsRunTrace, RunsFrom};
 
 use crate::lent::SessionRunner;
 use crate::sharing::Sharing;
 use cm_asm::Program;
 use cm_bits::{Sink, Source};
-use cm_outside::{Outside, ProgramFault, Taken, break_off, close_files, make_ready, take_both};
+use cm_outside::{ProgramFault, System, Taken, break_off, close_files, make_ready, take_both};
 use cm_sizes::{AnyMachine, on_machine};
 use std::alloc::Global;
 
@@ -37,9 +37,9 @@ struct Begun<M, P> {
 }
 
 /// Runs a session over files by this runner.
-pub fn run_files<S: SessionRunner, H: Outside, I: Source, O: Sink>(
+pub fn run_files<S: SessionRunner, H: System, I: Source, O: Sink>(
     alloc: Global,
-    outside: &mut H,
+    system: &mut H,
     line: &RunLine,
     runner: S,
     commands: &mut I,
@@ -49,16 +49,16 @@ pub fn run_files<S: SessionRunner, H: Outside, I: Source, O: Sink>(
     requires alone { line.now.sharing.workers ≡ 1 → ¬ S.may_want runner }
     requires reader { I.has_failed commands.old ≡ false }
     requires writer { O.has_failed answers.old ≡ false }
-    ensures does { Did H.does outside.old outside.new (DoesRun (reads_by H.File.left H.File.has_failed) line.now
+    ensures does { HasTrace H.does system.old system.new (IsRunTrace (reads_by H.File.left H.File.has_failed) line.now
         (streams (I.left commands.old) (I.left commands.new) (O.contents answers.old) (O.contents answers.new)
         (I.has_failed commands.new) (O.has_failed answers.new)) result) }
 {
-    match begin_files(alloc, outside, line) {
+    match begin_files(alloc, system, line) {
         Ok(begun) => {
             let Begun { taken, part } = begun;
             let Taken { machine, program } = taken;
             run_any(
-                alloc, outside, machine, &program, part, runner, commands, answers,
+                alloc, system, machine, &program, part, runner, commands, answers,
             )
         }
         Err(fault) => Err(fault),
@@ -67,26 +67,26 @@ pub fn run_files<S: SessionRunner, H: Outside, I: Source, O: Sink>(
 
 /// Takes the image, then the program, looks whether the machine can be shared out so, and makes the file ready that is
 /// to be written, in this order, until something is refused.
-fn begin_files<H: Outside>(
+fn begin_files<H: System>(
     alloc: Global,
-    outside: &mut H,
+    system: &mut H,
     line: &RunLine,
 ) -> Result<Begun<AnyMachine, H::Part>, ProgramFault>
-    ensures value { IfOk result (λ begun. Did H.does outside.old outside.new (BeginsFiles
+    ensures value { IfOk result (λ begun. HasTrace H.does system.old system.new (BeginsFiles
         (reads_by H.File.left H.File.has_failed) line.now (sized begun.taken.machine) begun.taken.program begun.part)) }
-    ensures refused { IfErr result (λ fault. Did H.does outside.old outside.new (RefusesFiles
+    ensures refused { IfErr result (λ fault. HasTrace H.does system.old system.new (RefusesFiles
         (reads_by H.File.left H.File.has_failed) line.now fault)) }
 {
-    match take_both(alloc, outside, line.image.as_str(), line.program.as_str()) {
-        Ok(taken) => begin_taken(alloc, outside, line, taken.machine.dims(), taken),
+    match take_both(alloc, system, line.image.as_str(), line.program.as_str()) {
+        Ok(taken) => begin_taken(alloc, system, line, taken.machine.dims(), taken),
         Err(fault) => Err(fault),
     }
 }
 
 /// The same, once a machine of 2^`n` chips and a program are taken.
-fn begin_taken<H: Outside, M: Drop>(
+fn begin_taken<H: System, M: Drop>(
     alloc: Global,
-    outside: &mut H,
+    system: &mut H,
     line: &RunLine,
     n: u8,
     taken: Taken<M>,
@@ -94,23 +94,23 @@ fn begin_taken<H: Outside, M: Drop>(
     requires dimension { n ≤ 12 }
     ensures same { IfOk result (λ begun. begun.taken ≡ taken) }
     ensures shared { OnOk result (sharing_fault n line.now.sharing ≡ None) }
-    ensures value { IfOk result (λ begun. Did H.does outside.old outside.new
+    ensures value { IfOk result (λ begun. HasTrace H.does system.old system.new
         (Readies (option_map string_bytes line.now.out) begun.part)) }
-    ensures refused { IfErr result (λ fault. Did H.does outside.old outside.new (RefusesTaken n line.now fault)) }
+    ensures refused { IfErr result (λ fault. HasTrace H.does system.old system.new (RefusesTaken n line.now fault)) }
 {
     if let Err(fault) = line.sharing.check(n) {
         return Err(fault);
     }
-    match make_ready(alloc, outside, &line.out) {
+    match make_ready(alloc, system, &line.out) {
         Ok(part) => Ok(Begun { taken, part }),
         Err(fault) => Err(fault),
     }
 }
 
 /// Runs a session on a machine; and then the image of the machine goes into the file that was made ready, if one was.
-fn run_any<S: SessionRunner, H: Outside, I: Source, O: Sink>(
+fn run_any<S: SessionRunner, H: System, I: Source, O: Sink>(
     alloc: Global,
-    outside: &mut H,
+    system: &mut H,
     mut machine: AnyMachine,
     program: &Program,
     part: Option<H::Part>,
@@ -121,13 +121,13 @@ fn run_any<S: SessionRunner, H: Outside, I: Source, O: Sink>(
     requires can { S.can_run runner (sized machine) }
     requires reader { I.has_failed commands.old ≡ false }
     requires writer { O.has_failed answers.old ≡ false }
-    ensures does { Did H.does outside.old outside.new (RunsFrom (sized machine) program.now.acts (S.may_want runner)
+    ensures does { HasTrace H.does system.old system.new (RunsFrom (sized machine) program.now.acts (S.may_want runner)
         (streams (I.left commands.old) (I.left commands.new) (O.contents answers.old) (O.contents answers.new)
         (I.has_failed commands.new) (O.has_failed answers.new)) part result) }
 {
     let ended = run_lent(
         alloc,
-        outside,
+        system,
         &mut machine,
         program,
         part,
@@ -141,9 +141,9 @@ fn run_any<S: SessionRunner, H: Outside, I: Source, O: Sink>(
 }
 
 /// The same on a machine that is lent to it.
-fn run_lent<S: SessionRunner, H: Outside, I: Source, O: Sink>(
+fn run_lent<S: SessionRunner, H: System, I: Source, O: Sink>(
     alloc: Global,
-    outside: &mut H,
+    system: &mut H,
     machine: &mut AnyMachine,
     program: &Program,
     part: Option<H::Part>,
@@ -154,27 +154,27 @@ fn run_lent<S: SessionRunner, H: Outside, I: Source, O: Sink>(
     requires can { S.can_run runner (sized machine.old) }
     requires reader { I.has_failed commands.old ≡ false }
     requires writer { O.has_failed answers.old ≡ false }
-    ensures does { Did H.does outside.old outside.new (RunsFrom (sized machine.old) program.now.acts
+    ensures does { HasTrace H.does system.old system.new (RunsFrom (sized machine.old) program.now.acts
         (S.may_want runner)
         (streams (I.left commands.old) (I.left commands.new) (O.contents answers.old) (O.contents answers.new)
         (I.has_failed commands.new) (O.has_failed answers.new)) part result) }
 {
     match runner.go(alloc, machine, program, commands, answers) {
-        Ok(()) => close_any(alloc, outside, part, answers, machine),
-        Err(fault) => break_off(outside, part, ProgramFault::from(fault)),
+        Ok(()) => close_any(alloc, system, part, answers, machine),
+        Err(fault) => break_off(system, part, ProgramFault::from(fault)),
     }
 }
 
 /// Once a session has ended well, and left this machine: as `close_files`.
-fn close_any<H: Outside, O: Sink>(
+fn close_any<H: System, O: Sink>(
     alloc: Global,
-    outside: &mut H,
+    system: &mut H,
     part: Option<H::Part>,
     out: &O,
     machine: &AnyMachine,
 ) -> Result<(), ProgramFault>
-    ensures value { Did H.does outside.old outside.new (ClosesLeft (sized machine.now).n (sized machine.now).cap
+    ensures value { HasTrace H.does system.old system.new (ClosesLeft (sized machine.now).n (sized machine.now).cap
         (sized machine.now).machine part (O.contents out.now) result) }
 {
-    on_machine!(machine, machine => close_files(alloc, outside, part, out, machine))
+    on_machine!(machine, machine => close_files(alloc, system, part, out, machine))
 }

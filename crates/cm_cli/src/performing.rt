@@ -2,18 +2,18 @@
 
 ghost use Rattle.std.specs.Prelude.{◌≡◌, false, map, string_bytes, IfOk, IfErr, IsErrOf};
 ghost use Rattle.cm_line.specs.Lines.{AsksFor, IsBadLine};
-ghost use Rattle.cm_outside.specs.Deeds.{Did};
+ghost use Rattle.cm_outside.specs.Trace.{HasTrace};
 ghost use Rattle.cm_outside.specs.Takings.{reads_by};
 ghost use Rattle.cm_outside.specs.Streams.{streams};
-ghost use Rattle.cm_cli.specs.Lines.{DoesLine};
-ghost use Rattle.cm_cli.specs.Performed.{AsksLine, AsksNoLine, DoesWords, Performs, ReportsFault, asked_words};
+ghost use Rattle.cm_cli.specs.Lines.{IsLineTrace};
+ghost use Rattle.cm_cli.specs.Performed.{AsksLine, AsksNoLine, IsWordsTrace, Performs, ReportsFault, asked_words};
 
 use crate::files::{RunLine, run_files};
 use crate::lent::{Alone, Several};
 use crate::sharing::Sharing;
 use cm_bits::{Sink, Source};
 use cm_line::{Line, LineFault, command};
-use cm_outside::{Outside, ProgramFault, report};
+use cm_outside::{ProgramFault, System, report};
 use cm_tools::{WeaveLine, chip_line, fresh_line, list_line, weave_files};
 use cm_workers::Passage;
 use std::alloc::Global;
@@ -25,10 +25,10 @@ const UNTOLD: u8 = 4;
 
 /// Does what the words of the command line ask for, between standard input, output and error and what lies outside, and
 /// answers the status to end with.
-pub fn perform<R: Threads + Wait + Sync, H: Outside, I: Source, O: Sink, E: Sink>(
+pub fn perform<R: Threads + Wait + Sync, H: System, I: Source, O: Sink, E: Sink>(
     rt: &R,
     alloc: Global,
-    outside: &mut H,
+    system: &mut H,
     commands: &mut I,
     answers: &mut O,
     errors: &mut E,
@@ -36,54 +36,54 @@ pub fn perform<R: Threads + Wait + Sync, H: Outside, I: Source, O: Sink, E: Sink
     requires reader { I.has_failed commands.old ≡ false }
     requires writer { O.has_failed answers.old ≡ false }
     requires teller { E.has_failed errors.old ≡ false }
-    ensures performs { Did H.does outside.old outside.new (Performs (reads_by H.File.left H.File.has_failed)
+    ensures performs { HasTrace H.does system.old system.new (Performs (reads_by H.File.left H.File.has_failed)
         (streams (I.left commands.old) (I.left commands.new) (O.contents answers.old) (O.contents answers.new)
         (I.has_failed commands.new) (O.has_failed answers.new))
         (E.contents errors.old) (E.contents errors.new) (E.has_failed errors.new) result) }
 {
-    let ended = do_words(rt, alloc, outside, commands, answers);
+    let ended = do_words(rt, alloc, system, commands, answers);
     tell(ended, errors)
 }
 
 /// Does what the words ask for.
-fn do_words<R: Threads + Wait + Sync, H: Outside, I: Source, O: Sink>(
+fn do_words<R: Threads + Wait + Sync, H: System, I: Source, O: Sink>(
     rt: &R,
     alloc: Global,
-    outside: &mut H,
+    system: &mut H,
     commands: &mut I,
     answers: &mut O,
 ) -> Result<(), ProgramFault>
     requires reader { I.has_failed commands.old ≡ false }
     requires writer { O.has_failed answers.old ≡ false }
-    ensures does { Did H.does outside.old outside.new (DoesWords (reads_by H.File.left H.File.has_failed)
+    ensures does { HasTrace H.does system.old system.new (IsWordsTrace (reads_by H.File.left H.File.has_failed)
         (streams (I.left commands.old) (I.left commands.new) (O.contents answers.old) (O.contents answers.new)
         (I.has_failed commands.new) (O.has_failed answers.new)) result) }
 {
-    match ask_line(alloc, outside) {
-        Ok(line) => do_line(rt, alloc, outside, line, commands, answers),
+    match ask_line(alloc, system) {
+        Ok(line) => do_line(rt, alloc, system, line, commands, answers),
         Err(fault) => Err(fault),
     }
 }
 
 /// Does what a line asks for.
-fn do_line<R: Threads + Wait + Sync, H: Outside, I: Source, O: Sink>(
+fn do_line<R: Threads + Wait + Sync, H: System, I: Source, O: Sink>(
     rt: &R,
     alloc: Global,
-    outside: &mut H,
+    system: &mut H,
     line: Line,
     commands: &mut I,
     answers: &mut O,
 ) -> Result<(), ProgramFault>
     requires reader { I.has_failed commands.old ≡ false }
     requires writer { O.has_failed answers.old ≡ false }
-    ensures does { Did H.does outside.old outside.new (DoesLine (reads_by H.File.left H.File.has_failed) line
+    ensures does { HasTrace H.does system.old system.new (IsLineTrace (reads_by H.File.left H.File.has_failed) line
         (streams (I.left commands.old) (I.left commands.new) (O.contents answers.old) (O.contents answers.new)
         (I.has_failed commands.new) (O.has_failed answers.new)) result) }
 {
     match line {
-        Line::Chip => chip_line(alloc, outside, commands, answers),
-        Line::List { program } => list_line(alloc, outside, program.as_str(), answers),
-        Line::Fresh { n, cap, file } => fresh_line(alloc, outside, n, cap, file.as_str()),
+        Line::Chip => chip_line(alloc, system, commands, answers),
+        Line::List { program } => list_line(alloc, system, program.as_str(), answers),
+        Line::Fresh { n, cap, file } => fresh_line(alloc, system, n, cap, file.as_str()),
         Line::Run {
             image,
             program,
@@ -99,14 +99,14 @@ fn do_line<R: Threads + Wait + Sync, H: Outside, I: Source, O: Sink>(
                 out,
             };
             if workers == 1 {
-                return run_files(alloc, outside, &line, Alone, commands, answers);
+                return run_files(alloc, system, &line, Alone, commands, answers);
             }
             let several = Several {
                 rt,
                 sharing,
                 passage: Passage::Open,
             };
-            run_files(alloc, outside, &line, several, commands, answers)
+            run_files(alloc, system, &line, several, commands, answers)
         }
         Line::Weave {
             image,
@@ -122,17 +122,17 @@ fn do_line<R: Threads + Wait + Sync, H: Outside, I: Source, O: Sink>(
                 split,
                 out,
             };
-            weave_files(alloc, outside, &line, answers)
+            weave_files(alloc, system, &line, answers)
         }
     }
 }
 
 /// The line that the words of the command line ask for.
-fn ask_line<H: Outside>(alloc: Global, outside: &mut H) -> Result<Line, ProgramFault>
-    ensures value { IfOk result (λ line. Did H.does outside.old outside.new (AsksLine line)) }
-    ensures refused { IfErr result (λ fault. Did H.does outside.old outside.new (AsksNoLine fault)) }
+fn ask_line<H: System>(alloc: Global, system: &mut H) -> Result<Line, ProgramFault>
+    ensures value { IfOk result (λ line. HasTrace H.does system.old system.new (AsksLine line)) }
+    ensures refused { IfErr result (λ fault. HasTrace H.does system.old system.new (AsksNoLine fault)) }
 {
-    let words = match outside.words(alloc) {
+    let words = match system.words(alloc) {
         Ok(words) => words,
         Err(fault) => return Err(ProgramFault::from(fault)),
     };

@@ -5,7 +5,7 @@ ghost use Rattle.cm_bits.specs.Ends.{std_has_failed};
 
 use crate::pending::{PendingFile, make_ready};
 use cm_bits::{Failed, Sink, Std};
-use cm_outside::{LineFault, Outside, PutFault, Written};
+use cm_outside::{LineFault, PutFault, System, Written};
 use std::alloc::Global;
 use std::io::{ErrorKind, Write};
 use std::rt::{Env, Files};
@@ -24,7 +24,7 @@ impl<'a, R> Host<'a, R> {
     }
 }
 
-impl<'a, R: Env + Files + Print + AllocGlobal> Outside for Host<'a, R> {
+impl<'a, R: Env + Files + Print + AllocGlobal> System for Host<'a, R> {
     type File = Std<R::File>;
 
     type Part = PendingFile<R::File>;

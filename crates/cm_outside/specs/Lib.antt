@@ -1,4 +1,4 @@
-pub mod Deeds
+pub mod Trace
 pub mod Take
 pub mod Takings
 pub mod Written

@@ -14,8 +14,8 @@ use Rattle.cm_weave.specs.declared.first.WorldFault.TheVariants as world
 use Rattle.cm_steps.specs.declared.fault.WeaveFault.{WeaveFault}
 use Rattle.cm_steps.specs.declared.fault.WeaveFault.TheVariants as weave
 use Rattle.cm_refusals.specs.Refusals.{kind_number, image_number}
-use Rattle.cm_outside.specs.declared.outside.PutFault.{PutFault}
-use Rattle.cm_outside.specs.declared.outside.PutFault.TheVariants as put
+use Rattle.cm_outside.specs.declared.system.PutFault.{PutFault}
+use Rattle.cm_outside.specs.declared.system.PutFault.TheVariants as put
 use Rattle.cm_outside.specs.declared.fault.ChipFault.{ChipFault}
 use Rattle.cm_outside.specs.declared.fault.ChipFault.TheVariants as chip
 use Rattle.cm_outside.specs.declared.takes.TakeFault.{TakeFault}

@@ -5,11 +5,11 @@ use Rattle.std.specs.Option.{is_some}
 use Rattle.cm_bits.specs.declared.ends.Failed.{Failed}
 use Rattle.cm_model.specs.Machine.{Machine}
 use Rattle.cm_image_format.specs.Whole.{text_of}
-use Rattle.cm_outside.specs.declared.outside.PutFault.{PutFault}
+use Rattle.cm_outside.specs.declared.system.PutFault.{PutFault}
 use Rattle.cm_outside.specs.declared.program_fault.ProgramFault.{ProgramFault}
 use Rattle.cm_outside.specs.declared.program_fault.ProgramFault.TheVariants.{Write, Memory}
 use Rattle.cm_outside.specs.ProgramFault.{of_put}
-use Rattle.cm_outside.specs.Deeds.{Deed, Readied, Flushed, Filled, LetGo}
+use Rattle.cm_outside.specs.Trace.{IoEvent, Readied, Flushed, Filled, LetGo}
 
 -- the bytes of the image that is kept of a machine, if one is to be kept
 abbrev pub IsImageKept : ℕ → ℕ → Machine → Bool → Option (List ℕ) → Type 0
@@ -24,22 +24,22 @@ KeepsImage n cap machine keeps (Ok kept) = IsImageKept n cap machine keeps kept
 KeepsImage n cap machine keeps (Err fault) = (keeps ≡ true) × (fault ≡ Memory)
 
 -- the deeds make the file ready that is to be written, if one is named
-abbrev pub Readies : {F P : Type 0} → Option (List ℕ) → Option P → List (Deed F P) → Type 0
-Readies None None deeds = deeds ≡ []
-Readies None (Some part) deeds = ⊥
-Readies (Some path) (Some part) deeds = deeds ≡ Readied path (Ok part) ∷ []
-Readies (Some path) None deeds = ⊥
+abbrev pub Readies : {F P : Type 0} → Option (List ℕ) → Option P → List (IoEvent F P) → Type 0
+Readies None None trace = trace ≡ []
+Readies None (Some part) trace = ⊥
+Readies (Some path) (Some part) trace = trace ≡ Readied path (Ok part) ∷ []
+Readies (Some path) None trace = ⊥
 
 -- the deeds are to make it ready, which fails
-pub record FailsToReady {F P : Type 0} (path : List ℕ) (fault : ProgramFault) (deeds : List (Deed F P)) : Type 0 where
+pub record FailsToReady {F P : Type 0} (path : List ℕ) (fault : ProgramFault) (trace : List (IoEvent F P)) : Type 0 where
   pub own : PutFault
-  pub did : deeds ≡ Readied path (Err own) ∷ []
+  pub did : trace ≡ Readied path (Err own) ∷ []
   pub told : fault ≡ of_put own
 
 -- the same of a file that is named; where none is, nothing fails
-abbrev pub IsUnready : {F P : Type 0} → Option (List ℕ) → ProgramFault → List (Deed F P) → Type 0
-IsUnready None fault deeds = ⊥
-IsUnready (Some path) fault deeds = FailsToReady path fault deeds
+abbrev pub IsUnready : {F P : Type 0} → Option (List ℕ) → ProgramFault → List (IoEvent F P) → Type 0
+IsUnready None fault trace = ⊥
+IsUnready (Some path) fault trace = FailsToReady path fault trace
 
 -- how the program ends where putting a file ended so
 abbrev pub put_end : Result (Unit {0}) PutFault → Result (Unit {0}) ProgramFault
@@ -53,78 +53,78 @@ flush_end (Err failed) = Err Write
 
 -- the deeds are to fill the file that was made ready, and the program ends as that does
 pub record Fills {F P : Type 0} (part : P) (bytes : List ℕ) (result : Result (Unit {0}) ProgramFault)
-    (deeds : List (Deed F P)) : Type 0 where
+    (trace : List (IoEvent F P)) : Type 0 where
   pub done : Result (Unit {0}) PutFault
-  pub did : deeds ≡ Filled part bytes done ∷ []
+  pub did : trace ≡ Filled part bytes done ∷ []
   pub told : result ≡ put_end done
 
 -- once a file was to be made ready
 abbrev pub FillsReady : {F P : Type 0} → Result P PutFault → List ℕ → Result (Unit {0}) ProgramFault
-    → List (Deed F P) → Type 0
-FillsReady (Ok part) bytes result deeds = Fills part bytes result deeds
-FillsReady (Err fault) bytes result deeds = (deeds ≡ []) × (result ≡ Err (of_put fault))
+    → List (IoEvent F P) → Type 0
+FillsReady (Ok part) bytes result trace = Fills part bytes result trace
+FillsReady (Err fault) bytes result trace = (trace ≡ []) × (result ≡ Err (of_put fault))
 
 -- the deeds are to make a file ready, and to fill it
 pub record Puts {F P : Type 0} (path bytes : List ℕ) (result : Result (Unit {0}) ProgramFault)
-    (deeds : List (Deed F P)) : Type 0 where
+    (trace : List (IoEvent F P)) : Type 0 where
   pub part : Result P PutFault
-  pub more : List (Deed F P)
-  pub did : deeds ≡ Readied path part ∷ more
+  pub more : List (IoEvent F P)
+  pub did : trace ≡ Readied path part ∷ more
   pub then : FillsReady part bytes result more
 
 -- the deeds are that standard output goes out, and the program ends as that does
 pub record FlushesOut {F P : Type 0} (holds : Option (List ℕ)) (result : Result (Unit {0}) ProgramFault)
-    (deeds : List (Deed F P)) : Type 0 where
+    (trace : List (IoEvent F P)) : Type 0 where
   pub done : Result (Unit {0}) Failed
-  pub did : deeds ≡ Flushed holds done ∷ []
+  pub did : trace ≡ Flushed holds done ∷ []
   pub told : result ≡ flush_end done
 
 -- once the program's work ended so: standard output goes out where it has no fault, and nothing more is done
 abbrev pub Flushes : {F P : Type 0} → Option (List ℕ) → Result (Unit {0}) ProgramFault
-    → Result (Unit {0}) ProgramFault → List (Deed F P) → Type 0
-Flushes holds (Ok done) result deeds = FlushesOut holds result deeds
-Flushes holds (Err fault) result deeds = (deeds ≡ []) × (result ≡ Err fault)
+    → Result (Unit {0}) ProgramFault → List (IoEvent F P) → Type 0
+Flushes holds (Ok done) result trace = FlushesOut holds result trace
+Flushes holds (Err fault) result trace = (trace ≡ []) × (result ≡ Err fault)
 
 -- the deeds that take away the file that was made ready, if one was
-abbrev pub let_go : {F P : Type 0} → Option P → List (Deed F P)
+abbrev pub let_go : {F P : Type 0} → Option P → List (IoEvent F P)
 let_go None = []
 let_go (Some part) = LetGo part ∷ []
 
 -- once standard output was to go out: the file that was made ready, if one was, is filled with the image that was kept
 abbrev pub Saves : {F P : Type 0} → Option P → Option (List ℕ) → Result (Unit {0}) ProgramFault
-    → List (Deed F P) → Type 0
-Saves None kept result deeds = (deeds ≡ []) × (result ≡ Ok tt)
-Saves (Some part) (Some image) result deeds = Fills part image result deeds
-Saves (Some part) None result deeds = ⊥
+    → List (IoEvent F P) → Type 0
+Saves None kept result trace = (trace ≡ []) × (result ≡ Ok tt)
+Saves (Some part) (Some image) result trace = Fills part image result trace
+Saves (Some part) None result trace = ⊥
 
 -- and where it could not go out, that file is taken away
 abbrev pub SavesAfter : {F P : Type 0} → Result (Unit {0}) Failed → Option P → Option (List ℕ)
-    → Result (Unit {0}) ProgramFault → List (Deed F P) → Type 0
-SavesAfter (Ok done) part kept result deeds = Saves part kept result deeds
-SavesAfter (Err failed) part kept result deeds = (deeds ≡ let_go part) × (result ≡ Err Write)
+    → Result (Unit {0}) ProgramFault → List (IoEvent F P) → Type 0
+SavesAfter (Ok done) part kept result trace = Saves part kept result trace
+SavesAfter (Err failed) part kept result trace = (trace ≡ let_go part) × (result ≡ Err Write)
 
 -- a session ended well: standard output goes out, and only then is the file filled
 pub record ClosesWell {F P : Type 0} (part : Option P) (holds : Option (List ℕ)) (kept : Option (List ℕ))
-    (result : Result (Unit {0}) ProgramFault) (deeds : List (Deed F P)) : Type 0 where
+    (result : Result (Unit {0}) ProgramFault) (trace : List (IoEvent F P)) : Type 0 where
   pub done : Result (Unit {0}) Failed
-  pub more : List (Deed F P)
-  pub did : deeds ≡ Flushed holds done ∷ more
+  pub more : List (IoEvent F P)
+  pub did : trace ≡ Flushed holds done ∷ more
   pub then : SavesAfter done part kept result more
 
 -- once a session ended so: after a fault the file that was made ready is taken away, and nothing more is done
 abbrev pub Closes : {F P : Type 0} → Option P → Option (List ℕ) → Result (Option (List ℕ)) ProgramFault
-    → Result (Unit {0}) ProgramFault → List (Deed F P) → Type 0
-Closes part holds (Ok kept) result deeds = ClosesWell part holds kept result deeds
-Closes part holds (Err fault) result deeds = (deeds ≡ let_go part) × (result ≡ Err fault)
+    → Result (Unit {0}) ProgramFault → List (IoEvent F P) → Type 0
+Closes part holds (Ok kept) result trace = ClosesWell part holds kept result trace
+Closes part holds (Err fault) result trace = (trace ≡ let_go part) × (result ≡ Err fault)
 
 -- a session ended well, and left this machine: its image is kept, if a file was made ready, and goes there
 pub record ClosesLeft {F P : Type 0} (n cap : ℕ) (machine : Machine) (part : Option P) (holds : Option (List ℕ))
-    (result : Result (Unit {0}) ProgramFault) (deeds : List (Deed F P)) : Type 0 where
+    (result : Result (Unit {0}) ProgramFault) (trace : List (IoEvent F P)) : Type 0 where
   pub kept : Result (Option (List ℕ)) ProgramFault
   pub is : KeepsImage n cap machine (is_some part) kept
-  pub closes : Closes part holds kept result deeds
+  pub closes : Closes part holds kept result trace
 
 -- the deeds take away the file that was made ready, if one was, and the program ends with this fault
-abbrev pub BreaksOff : {F P : Type 0} → Option P → ProgramFault → Result (Unit {0}) ProgramFault → List (Deed F P)
+abbrev pub BreaksOff : {F P : Type 0} → Option P → ProgramFault → Result (Unit {0}) ProgramFault → List (IoEvent F P)
     → Type 0
-BreaksOff part fault result deeds = (deeds ≡ let_go part) × (result ≡ Err fault)
+BreaksOff part fault result trace = (trace ≡ let_go part) × (result ≡ Err fault)

@@ -18,7 +18,7 @@ use Rattle.cm_outside.specs.declared.program_fault.ProgramFault.{ProgramFault}
 use Rattle.cm_outside.specs.declared.program_fault.ProgramFault.TheVariants.{Text, Read as unread}
 use Rattle.cm_outside.specs.ProgramFault.{of_open, of_take}
 use Rattle.cm_outside.specs.Take.{ConsumesAtMost, ConsumesBeyond}
-use Rattle.cm_outside.specs.Deeds.{Deed, Opened}
+use Rattle.cm_outside.specs.Trace.{IoEvent, Opened}
 
 -- the most bytes of a program text
 abbrev pub PROGRAM_LIMIT : ℕ
@@ -56,17 +56,17 @@ IsGiven reads limit (Err failed) taken = taken ≡ Err Read
 
 -- the deeds are to open a file, which is then taken to its end
 pub record TakesFile {F P : Type 0} (reads : Reads F) (path : List ℕ) (limit : ℕ)
-    (taken : Result (Vec ℕ Global) TakeFault) (deeds : List (Deed F P)) : Type 0 where
+    (taken : Result (Vec ℕ Global) TakeFault) (trace : List (IoEvent F P)) : Type 0 where
   pub file : Result F Failed
-  pub did : deeds ≡ Opened path file ∷ []
+  pub did : trace ≡ Opened path file ∷ []
   pub given : IsGiven reads limit file taken
 
 -- the deeds are to open a file, all of whose bytes are the image of this machine
-pub record OpensImage {F P : Type 0} (reads : Reads F) (path : List ℕ) (start : SizedMachine) (deeds : List (Deed F P))
+pub record OpensImage {F P : Type 0} (reads : Reads F) (path : List ℕ) (start : SizedMachine) (trace : List (IoEvent F P))
     : Type 0 where
   pub file : F
   pub after : F
-  pub did : deeds ≡ Opened path (Ok file) ∷ []
+  pub did : trace ≡ Opened path (Ok file) ∷ []
   pub image : GivesRest IMAGE_LIMIT (reads.left file) (reads.left after) (λ bytes. image_opened bytes ≡ Ok start)
   pub read : ¬ (reads.has_failed after ≡ true)
 
@@ -85,9 +85,9 @@ IsNoImage reads (Err failed) fault = fault ≡ unread
 
 -- the deeds are to open a file, of which no machine comes
 pub record RefusesImage {F P : Type 0} (reads : Reads F) (path : List ℕ) (fault : ProgramFault)
-    (deeds : List (Deed F P)) : Type 0 where
+    (trace : List (IoEvent F P)) : Type 0 where
   pub file : Result F Failed
-  pub did : deeds ≡ Opened path file ∷ []
+  pub did : trace ≡ Opened path file ∷ []
   pub refused : IsNoImage reads file fault
 
 -- the text is refused with this fault: it was not read to its end, or is no program, or memory ran out
@@ -98,38 +98,38 @@ IsRefusedText (Err own) fault = fault ≡ of_take own
 
 -- the deeds are to take a text, which is this program
 pub record ReadsProgram {F P : Type 0} (reads : Reads F) (path : List ℕ) (program : ProgramText)
-    (deeds : List (Deed F P)) : Type 0 where
+    (trace : List (IoEvent F P)) : Type 0 where
   pub text : Vec ℕ Global
-  pub takes : TakesFile reads path PROGRAM_LIMIT (Ok text) deeds
+  pub takes : TakesFile reads path PROGRAM_LIMIT (Ok text) trace
   pub is : program_of text.items ≡ Ok program
 
 -- the deeds are to take a text, which is refused
 pub record RefusesProgram {F P : Type 0} (reads : Reads F) (path : List ℕ) (fault : ProgramFault)
-    (deeds : List (Deed F P)) : Type 0 where
+    (trace : List (IoEvent F P)) : Type 0 where
   pub taken : Result (Vec ℕ Global) TakeFault
-  pub takes : TakesFile reads path PROGRAM_LIMIT taken deeds
+  pub takes : TakesFile reads path PROGRAM_LIMIT taken trace
   pub refused : IsRefusedText taken fault
 
 -- the deeds take an image, and then a text
 pub record TakesBoth {F P : Type 0} (reads : Reads F) (image text : List ℕ) (start : SizedMachine)
-    (program : ProgramText) (deeds : List (Deed F P)) : Type 0 where
-  pub first : List (Deed F P)
-  pub second : List (Deed F P)
-  pub did : deeds ≡ first ++ second
+    (program : ProgramText) (trace : List (IoEvent F P)) : Type 0 where
+  pub first : List (IoEvent F P)
+  pub second : List (IoEvent F P)
+  pub did : trace ≡ first ++ second
   pub opens : OpensImage reads image start first
   pub reads_text : ReadsProgram reads text program second
 
 -- the image is taken, and the text is refused
 pub record RefusesText {F P : Type 0} (reads : Reads F) (image text : List ℕ) (fault : ProgramFault)
-    (deeds : List (Deed F P)) : Type 0 where
-  pub first : List (Deed F P)
-  pub second : List (Deed F P)
-  pub did : deeds ≡ first ++ second
+    (trace : List (IoEvent F P)) : Type 0 where
+  pub first : List (IoEvent F P)
+  pub second : List (IoEvent F P)
+  pub did : trace ≡ first ++ second
   pub start : SizedMachine
   pub opens : OpensImage reads image start first
   pub refused : RefusesProgram reads text fault second
 
 -- the image is refused, or the text is
-abbrev pub RefusesBoth : {F P : Type 0} → Reads F → List ℕ → List ℕ → ProgramFault → List (Deed F P) → Type 0
-RefusesBoth reads image text fault deeds =
-    RefusesImage reads image fault deeds ⊎ RefusesText reads image text fault deeds
+abbrev pub RefusesBoth : {F P : Type 0} → Reads F → List ℕ → List ℕ → ProgramFault → List (IoEvent F P) → Type 0
+RefusesBoth reads image text fault trace =
+    RefusesImage reads image fault trace ⊎ RefusesText reads image text fault trace

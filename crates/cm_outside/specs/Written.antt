@@ -1,7 +1,7 @@
 -- What goes into a file: ours.
 use Rattle.std.specs.Prelude.{Bool, true, false, Result, Ok, Err}
-use Rattle.cm_outside.specs.declared.outside.PutFault.{PutFault}
-use Rattle.cm_outside.specs.declared.outside.PutFault.TheVariants.{Write, Memory}
+use Rattle.cm_outside.specs.declared.system.PutFault.{PutFault}
+use Rattle.cm_outside.specs.declared.system.PutFault.TheVariants.{Write, Memory}
 
 -- whether a write failed
 abbrev pub is_put_write : Result (Unit {0}) PutFault → Bool

@@ -2,10 +2,10 @@
 #![tactic(auto)]
 
 mod fault;
-mod outside;
 mod program_fault;
 mod puttings;
 mod reports;
+mod system;
 mod takes;
 mod takings;
 mod written;
@@ -13,10 +13,10 @@ mod written;
 pub use cm_language::{AsmFault, AsmKind};
 pub use cm_line::LineFault;
 pub use fault::ChipFault;
-pub use outside::{Outside, PutFault};
 pub use program_fault::ProgramFault;
 pub use puttings::{break_off, close_files, flush_out, make_ready, put_file};
 pub use reports::report;
+pub use system::{PutFault, System};
 pub use takes::{TakeFault, take};
 pub use takings::{Taken, take_both};
 pub use written::{Image, Written};

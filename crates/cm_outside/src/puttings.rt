@@ -2,57 +2,57 @@
 //! file gets its place.
 
 ghost use Rattle.std.specs.Prelude.{◌≡◌, IfOk, IfErr, Some, option_map, string_bytes};
-ghost use Rattle.cm_outside.specs.Deeds.{Did};
+ghost use Rattle.cm_outside.specs.Trace.{HasTrace};
 ghost use Rattle.cm_outside.specs.Puttings.{BreaksOff, ClosesLeft, ClosesWell, Fills, FlushesOut, IsUnready, Puts};
 ghost use Rattle.cm_outside.specs.Puttings.{Readies, let_go};
 
-use crate::outside::Outside;
 use crate::program_fault::ProgramFault;
+use crate::system::System;
 use crate::written::{Image, Written};
 use cm_array::Machine;
 use cm_bits::Sink;
 use std::alloc::Global;
 
 /// Makes the file ready that is to be written, if one is named.
-pub fn make_ready<H: Outside>(
+pub fn make_ready<H: System>(
     alloc: Global,
-    outside: &mut H,
+    system: &mut H,
     out: &Option<String>,
 ) -> Result<Option<H::Part>, ProgramFault>
-    ensures value { IfOk result (λ part. Did H.does outside.old outside.new
+    ensures value { IfOk result (λ part. HasTrace H.does system.old system.new
         (Readies (option_map string_bytes out.now) part)) }
-    ensures refused { IfErr result (λ fault. Did H.does outside.old outside.new
+    ensures refused { IfErr result (λ fault. HasTrace H.does system.old system.new
         (IsUnready (option_map string_bytes out.now) fault)) }
 {
     let Some(path) = out else {
         return Ok(None);
     };
-    match outside.ready(alloc, path.as_str()) {
+    match system.ready(alloc, path.as_str()) {
         Ok(part) => Ok(Some(part)),
         Err(fault) => Err(ProgramFault::from(fault)),
     }
 }
 
 /// Puts a file of these bytes where the path says.
-pub fn put_file<H: Outside, T: Written>(
+pub fn put_file<H: System, T: Written>(
     alloc: Global,
-    outside: &mut H,
+    system: &mut H,
     path: &str,
     image: T,
 ) -> Result<(), ProgramFault>
-    ensures { Did H.does outside.old outside.new (Puts path.now (T.bytes image) result) }
+    ensures { HasTrace H.does system.old system.new (Puts path.now (T.bytes image) result) }
 {
-    match outside.ready(alloc, path) {
-        Ok(part) => fill(outside, part, image),
+    match system.ready(alloc, path) {
+        Ok(part) => fill(system, part, image),
         Err(fault) => Err(ProgramFault::from(fault)),
     }
 }
 
 /// What was written goes out.
-pub fn flush_out<H: Outside, O: Sink>(outside: &mut H, out: &O) -> Result<(), ProgramFault>
-    ensures { Did H.does outside.old outside.new (FlushesOut (O.contents out.now) result) }
+pub fn flush_out<H: System, O: Sink>(system: &mut H, out: &O) -> Result<(), ProgramFault>
+    ensures { HasTrace H.does system.old system.new (FlushesOut (O.contents out.now) result) }
 {
-    match outside.flush(out) {
+    match system.flush(out) {
         Ok(()) => Ok(()),
         Err(_) => Err(ProgramFault::Write),
     }
@@ -60,77 +60,74 @@ pub fn flush_out<H: Outside, O: Sink>(outside: &mut H, out: &O) -> Result<(), Pr
 
 /// Once a session has ended well, and left this machine: what it wrote goes out, and then the file that was made ready
 /// gets the machine's image. What writing that takes of memory is taken before.
-pub fn close_files<const N: usize, const CAP: usize, H: Outside, O: Sink>(
+pub fn close_files<const N: usize, const CAP: usize, H: System, O: Sink>(
     alloc: Global,
-    outside: &mut H,
+    system: &mut H,
     part: Option<H::Part>,
     out: &O,
     machine: &Machine<N, CAP>,
 ) -> Result<(), ProgramFault>
-    ensures value { Did H.does outside.old outside.new (ClosesLeft N CAP machine.now.machine part (O.contents out.now)
+    ensures value { HasTrace H.does system.old system.new
+        (ClosesLeft N CAP machine.now.machine part (O.contents out.now)
         result) }
 {
     let Some(part) = part else {
-        return flush_out(outside, out);
+        return flush_out(system, out);
     };
     match Image::of(alloc, machine) {
-        Ok(image) => save(outside, part, out, image),
+        Ok(image) => save(system, part, out, image),
         Err(_) => {
-            outside.let_go(part);
+            system.let_go(part);
             Err(ProgramFault::Memory)
         }
     }
 }
 
 /// Once a session broke off: the file that was made ready is taken away.
-pub fn break_off<H: Outside>(
-    outside: &mut H,
+pub fn break_off<H: System>(
+    system: &mut H,
     part: Option<H::Part>,
     fault: ProgramFault,
 ) -> Result<(), ProgramFault>
-    ensures value { Did H.does outside.old outside.new (BreaksOff part fault result) }
+    ensures value { HasTrace H.does system.old system.new (BreaksOff part fault result) }
 {
-    take_away(outside, part);
+    take_away(system, part);
     Err(fault)
 }
 
 /// A file that was made ready, if one was, is taken away.
-fn take_away<H: Outside>(outside: &mut H, part: Option<H::Part>)
-    ensures { Did H.does outside.old outside.new (λ deeds. deeds ≡ let_go part) }
+fn take_away<H: System>(system: &mut H, part: Option<H::Part>)
+    ensures { HasTrace H.does system.old system.new (λ trace. trace ≡ let_go part) }
 {
     if let Some(part) = part {
-        outside.let_go(part);
+        system.let_go(part);
     }
 }
 
 /// What was written goes out, and then the file that was made ready is filled.
-fn save<H: Outside, T: Written, O: Sink>(
-    outside: &mut H,
+fn save<H: System, T: Written, O: Sink>(
+    system: &mut H,
     part: H::Part,
     out: &O,
     image: T,
 ) -> Result<(), ProgramFault>
-    ensures value { Did H.does outside.old outside.new (ClosesWell (Some part) (O.contents out.now)
+    ensures value { HasTrace H.does system.old system.new (ClosesWell (Some part) (O.contents out.now)
         (Some (T.bytes image)) result) }
 {
-    match outside.flush(out) {
-        Ok(()) => fill(outside, part, image),
+    match system.flush(out) {
+        Ok(()) => fill(system, part, image),
         Err(_) => {
-            outside.let_go(part);
+            system.let_go(part);
             Err(ProgramFault::Write)
         }
     }
 }
 
 /// Fills a file that was made ready.
-fn fill<H: Outside, T: Written>(
-    outside: &mut H,
-    part: H::Part,
-    image: T,
-) -> Result<(), ProgramFault>
-    ensures { Did H.does outside.old outside.new (Fills part (T.bytes image) result) }
+fn fill<H: System, T: Written>(system: &mut H, part: H::Part, image: T) -> Result<(), ProgramFault>
+    ensures { HasTrace H.does system.old system.new (Fills part (T.bytes image) result) }
 {
-    match outside.fill(part, image) {
+    match system.fill(part, image) {
         Ok(()) => Ok(()),
         Err(fault) => Err(ProgramFault::from(fault)),
     }

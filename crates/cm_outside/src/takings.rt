@@ -2,12 +2,12 @@
 
 ghost use Rattle.std.specs.Prelude.{◌≡◌, IfOk, IfErr};
 ghost use Rattle.cm_sizes.specs.Sizes.{sized};
-ghost use Rattle.cm_outside.specs.Deeds.{Did};
+ghost use Rattle.cm_outside.specs.Trace.{HasTrace};
 ghost use Rattle.cm_outside.specs.Takings.{OpensImage, ReadsProgram, RefusesImage, RefusesProgram, TakesFile, reads_by};
 ghost use Rattle.cm_outside.specs.Takings.{RefusesBoth, TakesBoth};
 
-use crate::outside::Outside;
 use crate::program_fault::ProgramFault;
+use crate::system::System;
 use crate::takes::{TakeFault, take};
 use cm_asm::{Program, assemble};
 use cm_sizes::{AnyMachine, open_image_source};
@@ -24,54 +24,54 @@ pub struct Taken<M> {
 }
 
 /// The machine of an image's file, and then the program of a text's.
-pub fn take_both<H: Outside>(
+pub fn take_both<H: System>(
     alloc: Global,
-    outside: &mut H,
+    system: &mut H,
     image: &str,
     program: &str,
 ) -> Result<Taken<AnyMachine>, ProgramFault>
-    ensures value { IfOk result (λ taken. Did H.does outside.old outside.new (TakesBoth
+    ensures value { IfOk result (λ taken. HasTrace H.does system.old system.new (TakesBoth
         (reads_by H.File.left H.File.has_failed) image.now program.now (sized taken.machine) taken.program)) }
-    ensures refused { IfErr result (λ fault. Did H.does outside.old outside.new (RefusesBoth
+    ensures refused { IfErr result (λ fault. HasTrace H.does system.old system.new (RefusesBoth
         (reads_by H.File.left H.File.has_failed) image.now program.now fault)) }
 {
-    match open_image_file(alloc, outside, image) {
-        Ok(machine) => take_program(alloc, outside, machine, program),
+    match open_image_file(alloc, system, image) {
+        Ok(machine) => take_program(alloc, system, machine, program),
         Err(fault) => Err(fault),
     }
 }
 
 /// The program of a text's file, beside a machine that was taken before.
-fn take_program<H: Outside, M: Drop>(
+fn take_program<H: System, M: Drop>(
     alloc: Global,
-    outside: &mut H,
+    system: &mut H,
     machine: M,
     path: &str,
 ) -> Result<Taken<M>, ProgramFault>
-    ensures value { IfOk result (λ taken. Did H.does outside.old outside.new (ReadsProgram
+    ensures value { IfOk result (λ taken. HasTrace H.does system.old system.new (ReadsProgram
         (reads_by H.File.left H.File.has_failed) path.now taken.program)) }
     ensures same { IfOk result (λ taken. taken.machine ≡ machine) }
-    ensures refused { IfErr result (λ fault. Did H.does outside.old outside.new (RefusesProgram
+    ensures refused { IfErr result (λ fault. HasTrace H.does system.old system.new (RefusesProgram
         (reads_by H.File.left H.File.has_failed) path.now fault)) }
 {
-    match read_program_file(alloc, outside, path) {
+    match read_program_file(alloc, system, path) {
         Ok(program) => Ok(Taken { machine, program }),
         Err(fault) => Err(fault),
     }
 }
 
 /// The machine of an image's file.
-fn open_image_file<H: Outside>(
+fn open_image_file<H: System>(
     alloc: Global,
-    outside: &mut H,
+    system: &mut H,
     path: &str,
 ) -> Result<AnyMachine, ProgramFault>
-    ensures value { IfOk result (λ machine. Did H.does outside.old outside.new (OpensImage
+    ensures value { IfOk result (λ machine. HasTrace H.does system.old system.new (OpensImage
         (reads_by H.File.left H.File.has_failed) path.now (sized machine))) }
-    ensures refused { IfErr result (λ fault. Did H.does outside.old outside.new (RefusesImage
+    ensures refused { IfErr result (λ fault. HasTrace H.does system.old system.new (RefusesImage
         (reads_by H.File.left H.File.has_failed) path.now fault)) }
 {
-    match outside.open(path) {
+    match system.open(path) {
         Ok(mut file) => match open_image_source(alloc, &mut file) {
             Ok(machine) => Ok(machine),
             Err(fault) => Err(ProgramFault::from(fault)),
@@ -81,17 +81,17 @@ fn open_image_file<H: Outside>(
 }
 
 /// The program of a text's file.
-fn read_program_file<H: Outside>(
+fn read_program_file<H: System>(
     alloc: Global,
-    outside: &mut H,
+    system: &mut H,
     path: &str,
 ) -> Result<Program, ProgramFault>
-    ensures value { IfOk result (λ program. Did H.does outside.old outside.new (ReadsProgram
+    ensures value { IfOk result (λ program. HasTrace H.does system.old system.new (ReadsProgram
         (reads_by H.File.left H.File.has_failed) path.now program)) }
-    ensures refused { IfErr result (λ fault. Did H.does outside.old outside.new (RefusesProgram
+    ensures refused { IfErr result (λ fault. HasTrace H.does system.old system.new (RefusesProgram
         (reads_by H.File.left H.File.has_failed) path.now fault)) }
 {
-    let text = match take_file(alloc, outside, path, PROGRAM_LIMIT) {
+    let text = match take_file(alloc, system, path, PROGRAM_LIMIT) {
         Ok(text) => text,
         Err(fault) => return Err(ProgramFault::from(fault)),
     };
@@ -102,16 +102,16 @@ fn read_program_file<H: Outside>(
 }
 
 /// The bytes of a file, at most `limit` of them.
-fn take_file<H: Outside>(
+fn take_file<H: System>(
     alloc: Global,
-    outside: &mut H,
+    system: &mut H,
     path: &str,
     limit: u64,
 ) -> Result<Vec<u8>, TakeFault>
-    ensures { Did H.does outside.old outside.new (TakesFile
+    ensures { HasTrace H.does system.old system.new (TakesFile
         (reads_by H.File.left H.File.has_failed) path.now limit result) }
 {
-    match outside.open(path) {
+    match system.open(path) {
         Ok(mut file) => take(alloc, &mut file, limit),
         Err(_) => Err(TakeFault::Read),
     }

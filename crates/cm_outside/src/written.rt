@@ -6,7 +6,7 @@ ghost use Rattle.cm_image_format.specs.Whole.{text_of};
 ghost use Rattle.cm_image.specs.Sending.{GoesOutInPart};
 ghost use Rattle.cm_outside.specs.Written.{is_put_write};
 
-use crate::outside::PutFault;
+use crate::system::PutFault;
 use cm_array::Machine;
 use cm_bits::{NoMemory, Sink, write_all};
 use cm_image::{DumpFault, DumpRoom, dump_into};

@@ -17,7 +17,7 @@ use Rattle.cm_tools.specs.Session.{is_chip_write}
 use Rattle.cm_outside.specs.Takings.{PROGRAM_LIMIT}
 use Rattle.cm_tools.specs.Listed.{EndsListing, EndsListingForSome, has_read_all, is_listing_write}
 use Rattle.cm_tools.specs.Fresh.{program_fresh_fault}
-use Rattle.cm_outside.specs.Deeds.{Deed, Opened}
+use Rattle.cm_outside.specs.Trace.{IoEvent, Opened}
 use Rattle.cm_outside.specs.Takings.{Reads}
 use Rattle.cm_outside.specs.Puttings.{Flushes, Puts}
 use Rattle.cm_outside.specs.Streams.{Streams}
@@ -28,8 +28,8 @@ chip_end (Ok done) = Ok tt
 chip_end (Err fault) = Err (of_chip fault)
 
 -- `chip`: a session of one chip, and standard output goes out
-pub record DoesChip {F P : Type 0} (streams : Streams) (result : Result (Unit {0}) ProgramFault)
-    (deeds : List (Deed F P)) : Type 0 where
+pub record IsChipTrace {F P : Type 0} (streams : Streams) (result : Result (Unit {0}) ProgramFault)
+    (trace : List (IoEvent F P)) : Type 0 where
   pub ended : Result (Unit {0}) ChipFault
   pub ends : IfSome streams.lines (λ text. ChipSessionEnds text streams.held streams.holds ended)
   pub heard : EndsForSome streams.lines streams.rest streams.held streams.holds ended
@@ -38,11 +38,11 @@ pub record DoesChip {F P : Type 0} (streams : Streams) (result : Result (Unit {0
   pub read_within : IsErrOf ended chip.Read → ConsumesAtMost CHIP_LIMIT streams.lines streams.rest
   pub memory_within : IsErrOf ended chip.Memory → ConsumesAtMost CHIP_LIMIT streams.lines streams.rest
   pub write : streams.write_failed ≡ is_chip_write ended
-  pub then : Flushes streams.holds (chip_end ended) result deeds
+  pub then : Flushes streams.holds (chip_end ended) result trace
 
 -- a program's file is open: its listing is written, and standard output goes out
 pub record ListsOut {F P : Type 0} (reads : Reads F) (file : F) (held holds : Option (List ℕ)) (failed : Bool)
-    (result : Result (Unit {0}) ProgramFault) (deeds : List (Deed F P)) : Type 0 where
+    (result : Result (Unit {0}) ProgramFault) (trace : List (IoEvent F P)) : Type 0 where
   pub after : F
   pub ended : Result (Unit {0}) ProgramFault
   pub ends : IfSome (reads.left file) (λ text. EndsListing text held holds ended)
@@ -52,22 +52,22 @@ pub record ListsOut {F P : Type 0} (reads : Reads F) (file : F) (held holds : Op
   pub read_within : IsErrOf ended Read → ConsumesAtMost PROGRAM_LIMIT (reads.left file) (reads.left after)
   pub memory_within : IsErrOf ended Memory → ConsumesAtMost PROGRAM_LIMIT (reads.left file) (reads.left after)
   pub write : failed ≡ is_listing_write ended
-  pub then : Flushes holds ended result deeds
+  pub then : Flushes holds ended result trace
 
 -- the same of a file that was to be opened
 abbrev pub Lists : {F P : Type 0} → Reads F → Result F Failed → Option (List ℕ) → Option (List ℕ) → Bool
-    → Result (Unit {0}) ProgramFault → List (Deed F P) → Type 0
-Lists reads (Ok file) held holds failed result deeds = ListsOut reads file held holds failed result deeds
-Lists reads (Err none) held holds failed result deeds =
-    (deeds ≡ []) × (result ≡ Err Read) × (holds ≡ held) × (failed ≡ false)
+    → Result (Unit {0}) ProgramFault → List (IoEvent F P) → Type 0
+Lists reads (Ok file) held holds failed result trace = ListsOut reads file held holds failed result trace
+Lists reads (Err none) held holds failed result trace =
+    (trace ≡ []) × (result ≡ Err Read) × (holds ≡ held) × (failed ≡ false)
 
 -- `list`: a program's file is opened, and its listing goes to a sink, which held this and holds that, and has failed or
 -- not
-pub record DoesList {F P : Type 0} (reads : Reads F) (path : List ℕ) (held holds : Option (List ℕ)) (failed : Bool)
-    (result : Result (Unit {0}) ProgramFault) (deeds : List (Deed F P)) : Type 0 where
+pub record IsListTrace {F P : Type 0} (reads : Reads F) (path : List ℕ) (held holds : Option (List ℕ)) (failed : Bool)
+    (result : Result (Unit {0}) ProgramFault) (trace : List (IoEvent F P)) : Type 0 where
   pub file : Result F Failed
-  pub more : List (Deed F P)
-  pub did : deeds ≡ Opened path file ∷ more
+  pub more : List (IoEvent F P)
+  pub did : trace ≡ Opened path file ∷ more
   pub then : Lists reads file held holds failed result more
 
 -- the image of a blank machine, or why there is none
@@ -78,13 +78,13 @@ pub record IsBlankImage (n cap : ℕ) (made : Result (Vec ℕ Global) ProgramFau
 
 -- an image that was made is put where the path says
 abbrev pub PutsMade : {F P : Type 0} → List ℕ → Result (Vec ℕ Global) ProgramFault → Result (Unit {0}) ProgramFault
-    → List (Deed F P) → Type 0
-PutsMade path (Ok image) result deeds = Puts path image.items result deeds
-PutsMade path (Err fault) result deeds = (deeds ≡ []) × (result ≡ Err fault)
+    → List (IoEvent F P) → Type 0
+PutsMade path (Ok image) result trace = Puts path image.items result trace
+PutsMade path (Err fault) result trace = (trace ≡ []) × (result ≡ Err fault)
 
 -- `fresh`: the image of a blank machine is made, and put where the path says
-pub record DoesFresh {F P : Type 0} (n cap : ℕ) (path : List ℕ) (result : Result (Unit {0}) ProgramFault)
-    (deeds : List (Deed F P)) : Type 0 where
+pub record IsFreshTrace {F P : Type 0} (n cap : ℕ) (path : List ℕ) (result : Result (Unit {0}) ProgramFault)
+    (trace : List (IoEvent F P)) : Type 0 where
   pub made : Result (Vec ℕ Global) ProgramFault
   pub is : IsBlankImage n cap made
-  pub then : PutsMade path made result deeds
+  pub then : PutsMade path made result trace

@@ -5,15 +5,16 @@ ghost use Rattle.cm_model.specs.Machine.{run_of};
 ghost use Rattle.cm_steps.specs.Ends.{is_weave_write};
 ghost use Rattle.cm_steps.specs.Hearing.{exchange_in};
 ghost use Rattle.cm_sizes.specs.Sizes.{sized};
-ghost use Rattle.cm_outside.specs.Deeds.{Did};
+ghost use Rattle.cm_outside.specs.Trace.{HasTrace};
 ghost use Rattle.cm_outside.specs.Takings.{reads_by};
 ghost use Rattle.cm_tools.specs.Weaving.{EndsExchange, ended_of, outgoing_of};
-ghost use Rattle.cm_tools.specs.Weaves.{DoesWeave, OpensEnds, OpensSteps, RefusesEnds, RefusesSteps, WeavesAt, WeavesWorld};
+ghost use Rattle.cm_tools.specs.Weaves.{IsWeaveTrace, OpensEnds, OpensSteps, RefusesEnds, RefusesSteps, WeavesAt};
+ghost use Rattle.cm_tools.specs.Weaves.{WeavesWorld};
 
 use cm_array::Machine;
 use cm_asm::Program;
 use cm_bits::{Failed, Sink, Source};
-use cm_outside::{Outside, ProgramFault, Taken, break_off, close_files, make_ready, take_both};
+use cm_outside::{ProgramFault, System, Taken, break_off, close_files, make_ready, take_both};
 use cm_sizes::{AnyMachine, on_machine};
 use cm_steps::{WeaveFault, weave_self, weave_session};
 use cm_weave::World;
@@ -39,121 +40,119 @@ struct Ends<F, P> {
 
 /// Steps the exchange of a machine's blocks over files: image and program are taken, and the machine is cut; then the
 /// steps are opened, and only then is the file made ready that is to be written. It waits for nobody.
-pub fn weave_files<H: Outside, O: Sink>(
+pub fn weave_files<H: System, O: Sink>(
     alloc: Global,
-    outside: &mut H,
+    system: &mut H,
     line: &WeaveLine,
     answers: &mut O,
 ) -> Result<(), ProgramFault>
     requires writer { O.has_failed answers.old ≡ false }
-    ensures does { Did H.does outside.old outside.new (DoesWeave (reads_by H.File.left H.File.has_failed) line.now
+    ensures does { HasTrace H.does system.old system.new (IsWeaveTrace (reads_by H.File.left H.File.has_failed) line.now
         (outgoing_of (O.contents answers.old) (O.contents answers.new) (O.has_failed answers.new)) result) }
 {
-    match take_both(alloc, outside, line.image.as_str(), line.program.as_str()) {
+    match take_both(alloc, system, line.image.as_str(), line.program.as_str()) {
         Ok(taken) => {
             let Taken { machine, program } = taken;
-            weave_any(alloc, outside, line, machine, &program, answers)
+            weave_any(alloc, system, line, machine, &program, answers)
         }
         Err(fault) => Err(fault),
     }
 }
 
 /// The same, once a machine of any size and a program are taken.
-fn weave_any<H: Outside, O: Sink>(
+fn weave_any<H: System, O: Sink>(
     alloc: Global,
-    outside: &mut H,
+    system: &mut H,
     line: &WeaveLine,
     machine: AnyMachine,
     program: &Program,
     answers: &mut O,
 ) -> Result<(), ProgramFault>
     requires writer { O.has_failed answers.old ≡ false }
-    ensures does { Did H.does outside.old outside.new (WeavesAt (reads_by H.File.left H.File.has_failed) line.now
+    ensures does { HasTrace H.does system.old system.new (WeavesAt (reads_by H.File.left H.File.has_failed) line.now
         (sized machine) program.now.acts
         (outgoing_of (O.contents answers.old) (O.contents answers.new) (O.has_failed answers.new)) result) }
 {
-    on_machine!(machine, machine => weave_machine(alloc, outside, line, machine, program, answers))
+    on_machine!(machine, machine => weave_machine(alloc, system, line, machine, program, answers))
 }
 
 /// The same, on a machine of these sizes.
-fn weave_machine<const N: usize, const CAP: usize, H: Outside, O: Sink>(
+fn weave_machine<const N: usize, const CAP: usize, H: System, O: Sink>(
     alloc: Global,
-    outside: &mut H,
+    system: &mut H,
     line: &WeaveLine,
     machine: Machine<N, CAP>,
     program: &Program,
     answers: &mut O,
 ) -> Result<(), ProgramFault>
     requires writer { O.has_failed answers.old ≡ false }
-    ensures does { Did H.does outside.old outside.new (WeavesAt (reads_by H.File.left H.File.has_failed)
+    ensures does { HasTrace H.does system.old system.new (WeavesAt (reads_by H.File.left H.File.has_failed)
         line.now (record { n = N; cap = CAP; machine = machine.entry.machine }) program.now.acts
         (outgoing_of (O.contents answers.old) (O.contents answers.new) (O.has_failed answers.new)) result) }
 {
     match World::new(alloc, machine, program.acts(), line.split) {
-        Ok(world) => weave_world(alloc, outside, line, world, answers),
+        Ok(world) => weave_world(alloc, system, line, world, answers),
         Err(refused) => Err(ProgramFault::from(refused.fault)),
     }
 }
 
 /// The same, once there is a world; and then the image of the machine that is left goes into the file that was made
 /// ready, if one was.
-fn weave_world<const N: usize, const CAP: usize, H: Outside, O: Sink>(
+fn weave_world<const N: usize, const CAP: usize, H: System, O: Sink>(
     alloc: Global,
-    outside: &mut H,
+    system: &mut H,
     line: &WeaveLine,
     world: World<N, CAP>,
     answers: &mut O,
 ) -> Result<(), ProgramFault>
     requires writer { O.has_failed answers.old ≡ false }
-    ensures does { Did H.does outside.old outside.new (WeavesWorld (reads_by H.File.left H.File.has_failed) line.now
+    ensures does { HasTrace H.does system.old system.new (WeavesWorld (reads_by H.File.left H.File.has_failed) line.now
         N CAP world.entry
         (outgoing_of (O.contents answers.old) (O.contents answers.new) (O.has_failed answers.new)) result) }
 {
-    let Ends { steps, part } = match open_ends(alloc, outside, line) {
+    let Ends { steps, part } = match open_ends(alloc, system, line) {
         Ok(ends) => ends,
         Err(fault) => return Err(fault),
     };
     match step_world(alloc, world, steps, answers) {
-        Ok(machine) => close_files(alloc, outside, part, answers, &machine),
-        Err(fault) => break_off(outside, part, ProgramFault::from(fault)),
+        Ok(machine) => close_files(alloc, system, part, answers, &machine),
+        Err(fault) => break_off(system, part, ProgramFault::from(fault)),
     }
 }
 
 /// Opens the file of the steps, and then makes the file ready that is to be written, each if it is named.
-fn open_ends<H: Outside>(
+fn open_ends<H: System>(
     alloc: Global,
-    outside: &mut H,
+    system: &mut H,
     line: &WeaveLine,
 ) -> Result<Ends<H::File, H::Part>, ProgramFault>
     ensures working { IfOk result (λ ends. IfSome ends.steps (λ one. H.File.has_failed one ≡ false)) }
-    ensures value { IfOk result (λ ends. Did H.does outside.old outside.new (OpensEnds line.now ends.steps ends.part)) }
-    ensures refused { IfErr result (λ fault. Did H.does outside.old outside.new (RefusesEnds line.now fault)) }
+    ensures value { IfOk result
+        (λ ends. HasTrace H.does system.old system.new (OpensEnds line.now ends.steps ends.part)) }
+    ensures refused { IfErr result (λ fault. HasTrace H.does system.old system.new (RefusesEnds line.now fault)) }
 {
-    let steps = match open_steps(outside, &line.steps) {
+    let steps = match open_steps(system, &line.steps) {
         Ok(steps) => steps,
         Err(_) => return Err(ProgramFault::Read),
     };
-    match make_ready(alloc, outside, &line.out) {
+    match make_ready(alloc, system, &line.out) {
         Ok(part) => Ok(Ends { steps, part }),
         Err(fault) => Err(fault),
     }
 }
 
 /// Opens the file of the steps, if one is named.
-fn open_steps<H: Outside>(
-    outside: &mut H,
-    steps: &Option<String>,
-) -> Result<Option<H::File>, Failed>
+fn open_steps<H: System>(system: &mut H, steps: &Option<String>) -> Result<Option<H::File>, Failed>
     ensures working { IfOk result (λ file. IfSome file (λ one. H.File.has_failed one ≡ false)) }
-    ensures value { IfOk result (λ file. Did H.does outside.old outside.new
+    ensures value { IfOk result (λ file. HasTrace H.does system.old system.new
         (OpensSteps (option_map string_bytes steps.now) file)) }
-    ensures refused { IfErr result (λ _. Did H.does outside.old outside.new
+    ensures refused { IfErr result (λ _. HasTrace H.does system.old system.new
         (RefusesSteps (option_map string_bytes steps.now))) }
 {
     let Some(path) = steps else {
         return Ok(None);
     };
-    match outside.open(path.as_str()) {
+    match system.open(path.as_str()) {
         Ok(file) => Ok(Some(file)),
         Err(fault) => Err(fault),
     }

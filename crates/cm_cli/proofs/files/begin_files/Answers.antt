@@ -8,13 +8,13 @@ use Rattle.cm_cli.proofs.files.begin_files.Goals as goal
 pub returns-in-Ok : goal.returns-in-Ok
 returns-in-Ok g c =
     let both = did_so c.in-Ok.ensures.value
-    (λ deeds took. taken_of c.as_str.ensures.value c.as_str-2.ensures.value took) in
+    (λ trace took. taken_of c.as_str.ensures.value c.as_str-2.ensures.value took) in
     record {
-      value = begun_so c.begin_taken.new.outside (reads_by g.H.File.Source.left g.H.File.Source.has_failed)
+      value = begun_so c.begin_taken.new.system (reads_by g.H.File.Source.left g.H.File.Source.has_failed)
           c.args.line.now c.in-Ok.taken c.dims.result c.dims.ensures.value c.begin_taken.result both
           c.begin_taken.ensures.same
           c.begin_taken.ensures.shared c.begin_taken.ensures.value;
-      refused = unbegun_so c.begin_taken.new.outside (reads_by g.H.File.Source.left g.H.File.Source.has_failed)
+      refused = unbegun_so c.begin_taken.new.system (reads_by g.H.File.Source.left g.H.File.Source.has_failed)
           c.args.line.now c.in-Ok.taken c.dims.result c.dims.ensures.value c.begin_taken.result both
           c.begin_taken.ensures.refused;
     }
@@ -23,5 +23,5 @@ pub returns-in-Err : goal.returns-in-Err
 returns-in-Err g c = record {
   value = tt;
   refused = did_so c.in-Err.ensures.refused
-      (λ deeds refused. inl (refused_of c.as_str.ensures.value c.as_str-2.ensures.value refused));
+      (λ trace refused. inl (refused_of c.as_str.ensures.value c.as_str-2.ensures.value refused));
 }

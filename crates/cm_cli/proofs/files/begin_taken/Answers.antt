@@ -3,8 +3,8 @@ use Rattle.cm_outside.proofs.Leading.{did_so}
 use Rattle.cm_cli.proofs.files.begin_taken.Goals as goal
 
 pub returns-in-Err-clause-refused : goal.returns-in-Err-clause-refused
-returns-in-Err-clause-refused g c = record { deeds = []; lead = refl; so = inl (refl, c.in-Err.ensures.err) }
+returns-in-Err-clause-refused g c = record { trace = []; lead = refl; so = inl (refl, c.in-Err.ensures.err) }
 
 pub returns-in-Err-make_ready-clause-refused : goal.returns-in-Err-make_ready-clause-refused
 returns-in-Err-make_ready-clause-refused g c =
-    did_so c.in-Err-make_ready.ensures.refused (λ deeds refused. inr (c.in_default.ensures.ok, refused))
+    did_so c.in-Err-make_ready.ensures.refused (λ trace refused. inr (c.in_default.ensures.ok, refused))

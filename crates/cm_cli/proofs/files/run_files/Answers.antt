@@ -12,8 +12,8 @@ run_any-requires g c = record {
 
 pub returns-in-Ok : goal.returns-in-Ok
 returns-in-Ok g c = record {
-  does = did_both c.in-Ok.ensures.value c.run_any.ensures.does (λ deeds more begins runs. inr (record {
-    first = deeds;
+  does = did_both c.in-Ok.ensures.value c.run_any.ensures.does (λ trace more begins runs. inr (record {
+    first = trace;
     second = more;
     did = refl;
     start = sized c.in-Ok.begun.taken.machine;
@@ -29,7 +29,7 @@ returns-in-Ok g c = record {
 
 pub returns-in-Err : goal.returns-in-Err
 returns-in-Err g c = record {
-  does = did_so c.in-Err.ensures.refused (λ deeds refused. inl (record {
+  does = did_so c.in-Err.ensures.refused (λ trace refused. inl (record {
     fault = c.in-Err.fault;
     told = refl;
     refused = refused;

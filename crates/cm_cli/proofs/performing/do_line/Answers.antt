@@ -8,13 +8,13 @@ returns-in-Chip g c = record { does = rw c.in-Chip.is c.chip_line.ensures.does }
 pub returns-in-List : goal.returns-in-List
 returns-in-List g c = record {
   does = rw c.in-List.is (did_so c.list_line.ensures.does
-      (λ deeds h. ((refl, c.requires.reader), rw c.as_str.ensures.value at h)));
+      (λ trace h. ((refl, c.requires.reader), rw c.as_str.ensures.value at h)));
 }
 
 pub returns-in-Fresh : goal.returns-in-Fresh
 returns-in-Fresh g c = record {
   does = rw c.in-Fresh.is (did_so c.fresh_line.ensures.does
-      (λ deeds h. (
+      (λ trace h. (
         ((refl, c.requires.reader), refl, c.requires.writer),
         rw c.as_str-in-Fresh.ensures.value at h,
       )));
@@ -36,5 +36,5 @@ returns-else-workers-eq1 g c = record { does = rw c.in-Run.is c.run_files-in-Run
 
 pub returns-in-Weave : goal.returns-in-Weave
 returns-in-Weave g c = record {
-  does = rw c.in-Weave.is (did_so c.weave_files.ensures.does (λ deeds h. ((refl, c.requires.reader), h)));
+  does = rw c.in-Weave.is (did_so c.weave_files.ensures.does (λ trace h. ((refl, c.requires.reader), h)));
 }

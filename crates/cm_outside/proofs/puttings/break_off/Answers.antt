@@ -3,4 +3,4 @@ use Rattle.cm_outside.proofs.Leading.{did_so}
 use Rattle.cm_outside.proofs.puttings.break_off.Goals as goal
 
 pub returns : goal.returns
-returns g c = record { value = did_so c.take_away.ensures (λ deeds is. (is, refl)) }
+returns g c = record { value = did_so c.take_away.ensures (λ trace is. (is, refl)) }

@@ -6,7 +6,7 @@ use Rattle.cm_outside.proofs.puttings.close_files.Goals as goal
 
 pub returns-in_default : goal.returns-in_default
 returns-in_default g c = rw c.in_default.is (record {
-  value = did_so c.flush_out.ensures (λ deeds flushes. record {
+  value = did_so c.flush_out.ensures (λ trace flushes. record {
     kept = Ok None;
     is = tt;
     closes = record {
@@ -20,7 +20,7 @@ returns-in_default g c = rw c.in_default.is (record {
 
 pub returns-in-Ok : goal.returns-in-Ok
 returns-in-Ok g c = rw c.in-Some.is (record {
-  value = did_so c.save.ensures.value (λ deeds closes. record {
+  value = did_so c.save.ensures.value (λ trace closes. record {
     kept = Ok (Some c.in-Ok.image);
     is = c.in-Ok.ensures.value;
     closes = closes;
@@ -30,8 +30,8 @@ returns-in-Ok g c = rw c.in-Some.is (record {
 pub returns-in-Err : goal.returns-in-Err
 returns-in-Err g c = rw c.in-Some.is (record {
   value = record {
-    deeds = _;
-    lead = one g.H.Outside.does c.args.outside.now _ c.let_go.new.self c.let_go.ensures.does;
+    trace = _;
+    lead = one g.H.System.does c.args.system.now _ c.let_go.new.self c.let_go.ensures.does;
     so = record { kept = Err Memory; is = (refl, refl); closes = (refl, refl) };
   };
 })

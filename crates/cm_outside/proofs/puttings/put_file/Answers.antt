@@ -4,15 +4,15 @@ use Rattle.cm_outside.proofs.puttings.put_file.Goals as goal
 
 pub returns-in-Ok : goal.returns-in-Ok
 returns-in-Ok g c = record {
-  deeds = _;
+  trace = _;
   lead = (c.ready.new.self, c.in-Ok.ensures.does, c.fill.ensures.lead);
-  so = record { part = Ok c.in-Ok.part; more = c.fill.ensures.deeds; did = refl; then = c.fill.ensures.so };
+  so = record { part = Ok c.in-Ok.part; more = c.fill.ensures.trace; did = refl; then = c.fill.ensures.so };
 }
 
 pub returns-in-Err : goal.returns-in-Err
 returns-in-Err g c = record {
-  deeds = _;
-  lead = one g.H.Outside.does c.args.outside.now _ c.ready.new.self c.in-Err.ensures.does;
+  trace = _;
+  lead = one g.H.System.does c.args.system.now _ c.ready.new.self c.in-Err.ensures.does;
   so = record {
     part = Err c.in-Err.fault;
     more = [];

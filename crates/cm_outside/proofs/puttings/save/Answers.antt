@@ -1,16 +1,16 @@
 use Rattle.std.proofs.Common.{Ok, Err, [], ◌∷◌, refl}
-use Rattle.cm_outside.specs.Deeds.{LetGo}
+use Rattle.cm_outside.specs.Trace.{LetGo}
 use Rattle.cm_outside.proofs.Leading.{one, followed}
 use Rattle.cm_outside.proofs.puttings.save.Goals as goal
 
 pub returns-in-Ok : goal.returns-in-Ok
 returns-in-Ok g c = record {
   value = record {
-    deeds = _;
-    lead = followed g.H.Outside.does c.args.outside.now _ c.flush.new.self _ _ c.in-Ok.ensures.does c.fill.ensures.lead;
+    trace = _;
+    lead = followed g.H.System.does c.args.system.now _ c.flush.new.self _ _ c.in-Ok.ensures.does c.fill.ensures.lead;
     so = record {
       done = Ok c.in-Ok.field-0;
-      more = c.fill.ensures.deeds;
+      more = c.fill.ensures.trace;
       did = refl;
       then = c.fill.ensures.so;
     };
@@ -20,9 +20,9 @@ returns-in-Ok g c = record {
 pub returns-in-Err : goal.returns-in-Err
 returns-in-Err g c = record {
   value = record {
-    deeds = _;
-    lead = followed g.H.Outside.does c.args.outside.now _ c.flush.new.self (LetGo c.args.part ∷ []) c.let_go.new.self
-        c.in-Err.ensures.does (one g.H.Outside.does c.flush.new.self _ c.let_go.new.self c.let_go.ensures.does);
+    trace = _;
+    lead = followed g.H.System.does c.args.system.now _ c.flush.new.self (LetGo c.args.part ∷ []) c.let_go.new.self
+        c.in-Err.ensures.does (one g.H.System.does c.flush.new.self _ c.let_go.new.self c.let_go.ensures.does);
     so = record {
       done = Err c.in-Err.field-0;
       more = LetGo c.args.part ∷ [];

@@ -5,8 +5,8 @@ use Rattle.cm_outside.proofs.takings.open_image_file.Goals as goal
 pub returns-in-Ok-open_image_source : goal.returns-in-Ok-open_image_source
 returns-in-Ok-open_image_source g c = record {
   value = record {
-    deeds = _;
-    lead = one g.H.Outside.does c.args.outside.now _ c.open.new.self c.in-Ok.ensures.does;
+    trace = _;
+    lead = one g.H.System.does c.args.system.now _ c.open.new.self c.in-Ok.ensures.does;
     so = record {
       file = c.in-Ok.file;
       after = c.open_image_source.new.source;
@@ -22,8 +22,8 @@ pub returns-in-Ok : goal.returns-in-Ok
 returns-in-Ok g c = record {
   value = tt;
   refused = record {
-    deeds = _;
-    lead = one g.H.Outside.does c.args.outside.now _ c.open.new.self c.in-Ok.ensures.does;
+    trace = _;
+    lead = one g.H.System.does c.args.system.now _ c.open.new.self c.in-Ok.ensures.does;
     so = record {
       file = Ok c.in-Ok.file;
       did = refl;
@@ -45,8 +45,8 @@ pub returns : goal.returns
 returns g c = record {
   value = tt;
   refused = record {
-    deeds = _;
-    lead = one g.H.Outside.does c.args.outside.now _ c.open.new.self c.in-Err.ensures.does;
+    trace = _;
+    lead = one g.H.System.does c.args.system.now _ c.open.new.self c.in-Err.ensures.does;
     so = record { file = Err c.in-Err.field-0; did = refl; refused = refl };
   };
 }

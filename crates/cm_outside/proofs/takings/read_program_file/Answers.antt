@@ -5,7 +5,7 @@ use Rattle.cm_outside.proofs.takings.read_program_file.Goals as goal
 
 pub returns-in-Ok-assemble : goal.returns-in-Ok-assemble
 returns-in-Ok-assemble g c = record {
-  value = did_so c.in-Ok.ensures (λ deeds takes. record {
+  value = did_so c.in-Ok.ensures (λ trace takes. record {
     text = c.in-Ok.text;
     takes = takes;
     is = subst (λ (bytes : List ℕ). program_of bytes ≡ Ok c.in-Ok-assemble.program) c.as_slice.ensures.value
@@ -17,7 +17,7 @@ returns-in-Ok-assemble g c = record {
 pub returns : goal.returns
 returns g c = record {
   value = tt;
-  refused = did_so c.in-Ok.ensures (λ deeds takes. record {
+  refused = did_so c.in-Ok.ensures (λ trace takes. record {
     taken = Ok c.in-Ok.text;
     takes = takes;
     refused = subst (λ (bytes : List ℕ). IsFaultOf bytes c.in-Err-assemble.fault) c.as_slice.ensures.value
@@ -28,7 +28,7 @@ returns g c = record {
 pub returns-in-Err : goal.returns-in-Err
 returns-in-Err g c = record {
   value = tt;
-  refused = did_so c.in-Err.ensures (λ deeds takes. record {
+  refused = did_so c.in-Err.ensures (λ trace takes. record {
     taken = Err c.in-Err.fault;
     takes = takes;
     refused = c.from.ensures;

@@ -6,8 +6,8 @@ use Rattle.cm_outside.proofs.takings.take_file.Goals as goal
 
 pub returns-in-Ok : goal.returns-in-Ok
 returns-in-Ok g c = record {
-  deeds = _;
-  lead = one g.H.Outside.does c.args.outside.now _ c.open.new.self c.in-Ok.ensures.does;
+  trace = _;
+  lead = one g.H.System.does c.args.system.now _ c.open.new.self c.in-Ok.ensures.does;
   so = record {
     file = Ok c.in-Ok.file;
     did = refl;
@@ -23,7 +23,7 @@ returns-in-Ok g c = record {
 
 pub returns-in-Err : goal.returns-in-Err
 returns-in-Err g c = record {
-  deeds = _;
-  lead = one g.H.Outside.does c.args.outside.now _ c.open.new.self c.in-Err.ensures.does;
+  trace = _;
+  lead = one g.H.System.does c.args.system.now _ c.open.new.self c.in-Err.ensures.does;
   so = record { file = Err c.in-Err.field-0; did = refl; given = refl };
 }

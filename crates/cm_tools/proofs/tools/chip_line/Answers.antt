@@ -4,7 +4,7 @@ use Rattle.cm_tools.proofs.tools.chip_line.Goals as goal
 pub returns-in-Ok : goal.returns-in-Ok
 returns-in-Ok g c = record {
   does = record {
-    deeds = c.flush_out.ensures.deeds;
+    trace = c.flush_out.ensures.trace;
     lead = c.flush_out.ensures.lead;
     so = record {
       ended = Ok c.in-Ok.field-0;
@@ -23,7 +23,7 @@ returns-in-Ok g c = record {
 pub returns-in-Err : goal.returns-in-Err
 returns-in-Err g c = record {
   does = record {
-    deeds = [];
+    trace = [];
     lead = refl;
     so = record {
       ended = Err c.in-Err.fault;

@@ -4,7 +4,7 @@ use Rattle.cm_tools.proofs.tools.fresh_line.Goals as goal
 
 pub returns-in-Ok : goal.returns-in-Ok
 returns-in-Ok g c = record {
-  does = did_so c.put_file.ensures (λ deeds h. record {
+  does = did_so c.put_file.ensures (λ trace h. record {
     made = Ok c.in-Ok.image;
     is = record {
       value = c.in-Ok.ensures.value;
@@ -18,7 +18,7 @@ returns-in-Ok g c = record {
 pub returns-in-Err : goal.returns-in-Err
 returns-in-Err g c = record {
   does = record {
-    deeds = [];
+    trace = [];
     lead = refl;
     so = record {
       made = Err c.in-Err.fault;

@@ -5,11 +5,11 @@ use Rattle.cm_tools.proofs.tools.list_line.Goals as goal
 pub returns-in-Ok-list : goal.returns-in-Ok-list
 returns-in-Ok-list g c = record {
   does = record {
-    deeds = _;
+    trace = _;
     lead = (c.open.new.self, c.in-Ok.ensures.does, c.flush_out.ensures.lead);
     so = record {
       file = Ok c.in-Ok.file;
-      more = c.flush_out.ensures.deeds;
+      more = c.flush_out.ensures.trace;
       did = refl;
       then = record {
         after = c.list.new.source;
@@ -30,8 +30,8 @@ returns-in-Ok-list g c = record {
 pub returns-in-Ok : goal.returns-in-Ok
 returns-in-Ok g c = record {
   does = record {
-    deeds = _;
-    lead = one g.H.Outside.does c.args.outside.now _ c.open.new.self c.in-Ok.ensures.does;
+    trace = _;
+    lead = one g.H.System.does c.args.system.now _ c.open.new.self c.in-Ok.ensures.does;
     so = record {
       file = Ok c.in-Ok.file;
       more = [];
@@ -55,8 +55,8 @@ returns-in-Ok g c = record {
 pub returns : goal.returns
 returns g c = record {
   does = record {
-    deeds = _;
-    lead = one g.H.Outside.does c.args.outside.now _ c.open.new.self c.in-Err.ensures.does;
+    trace = _;
+    lead = one g.H.System.does c.args.system.now _ c.open.new.self c.in-Err.ensures.does;
     so = record {
       file = Err c.in-Err.field-0;
       more = [];

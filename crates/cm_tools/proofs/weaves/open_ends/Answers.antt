@@ -6,14 +6,14 @@ pub returns-in-Err : goal.returns-in-Err
 returns-in-Err g c = record {
   working = tt;
   value = tt;
-  refused = did_so c.in-Err.ensures.refused (λ deeds refused. inl (refl, refused));
+  refused = did_so c.in-Err.ensures.refused (λ trace refused. inl (refl, refused));
 }
 
 pub returns-in-Ok-make_ready : goal.returns-in-Ok-make_ready
 returns-in-Ok-make_ready g c = record {
   working = c.in-Ok.ensures.working;
-  value = did_both c.in-Ok.ensures.value c.in-Ok-make_ready.ensures.value (λ deeds more opens ready. record {
-    first = deeds;
+  value = did_both c.in-Ok.ensures.value c.in-Ok-make_ready.ensures.value (λ trace more opens ready. record {
+    first = trace;
     second = more;
     did = refl;
     opens = opens;
@@ -26,8 +26,8 @@ pub returns-in-Err-make_ready : goal.returns-in-Err-make_ready
 returns-in-Err-make_ready g c = record {
   working = tt;
   value = tt;
-  refused = did_both c.in-Ok.ensures.value c.in-Err-make_ready.ensures.refused (λ deeds more opens refused. inr (record {
-    first = deeds;
+  refused = did_both c.in-Ok.ensures.value c.in-Err-make_ready.ensures.refused (λ trace more opens refused. inr (record {
+    first = trace;
     second = more;
     did = refl;
     file = c.in-Ok.steps;

@@ -5,7 +5,7 @@ use Rattle.cm_tools.proofs.weaves.open_steps.Goals as goal
 pub returns-in_default : goal.returns-in_default
 returns-in_default g c = record {
   working = tt;
-  value = rw c.in_default.is (record { deeds = []; lead = refl; so = refl });
+  value = rw c.in_default.is (record { trace = []; lead = refl; so = refl });
   refused = tt;
 }
 
@@ -13,8 +13,8 @@ pub returns-in-Ok : goal.returns-in-Ok
 returns-in-Ok g c = record {
   working = c.in-Ok.ensures.working;
   value = rw c.in-Some.is (record {
-    deeds = _;
-    lead = one g.H.Outside.does c.args.outside.now _ c.open.new.self
+    trace = _;
+    lead = one g.H.System.does c.args.system.now _ c.open.new.self
         (rw c.as_str.ensures.value at c.in-Ok.ensures.does);
     so = refl;
   });
@@ -26,8 +26,8 @@ returns-in-Err g c = record {
   working = tt;
   value = tt;
   refused = rw c.in-Some.is (record {
-    deeds = _;
-    lead = one g.H.Outside.does c.args.outside.now _ c.open.new.self
+    trace = _;
+    lead = one g.H.System.does c.args.system.now _ c.open.new.self
         (rw c.as_str.ensures.value at c.in-Err.ensures.does);
     so = record { none = c.in-Err.fault; did = refl };
   });

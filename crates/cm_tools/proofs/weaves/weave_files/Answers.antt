@@ -6,7 +6,7 @@ use Rattle.cm_tools.proofs.weaves.weave_files.Goals as goal
 
 pub returns-in-Err : goal.returns-in-Err
 returns-in-Err g c = record {
-  does = did_so c.in-Err.ensures.refused (λ deeds refused. inl (record {
+  does = did_so c.in-Err.ensures.refused (λ trace refused. inl (record {
     fault = c.in-Err.fault;
     told = refl;
     refused = refused_of c.as_str.ensures.value c.as_str-2.ensures.value refused;
@@ -16,8 +16,8 @@ returns-in-Err g c = record {
 
 pub returns-in-Ok : goal.returns-in-Ok
 returns-in-Ok g c = record {
-  does = did_both c.in-Ok.ensures.value c.weave_any.ensures.does (λ deeds more both weaves. inr (record {
-    first = deeds;
+  does = did_both c.in-Ok.ensures.value c.weave_any.ensures.does (λ trace more both weaves. inr (record {
+    first = trace;
     second = more;
     did = refl;
     start = sized c.in-Ok.taken.machine;

@@ -5,7 +5,7 @@ use Rattle.cm_tools.proofs.weaves.weave_machine.Goals as goal
 
 pub returns-in-Ok : goal.returns-in-Ok
 returns-in-Ok g c = record {
-  does = did_so c.weave_world.ensures.does (λ deeds weaves. inr (record {
+  does = did_so c.weave_world.ensures.does (λ trace weaves. inr (record {
     woven = _;
     begins = same_acts c.acts.ensures.value c.in-Ok.ensures.value;
     faultless = faultless _ _ _ c.acts.ensures.value (c.in-Ok.ensures.ok refl);
@@ -16,7 +16,7 @@ returns-in-Ok g c = record {
 pub returns-in-Err : goal.returns-in-Err
 returns-in-Err g c = record {
   does = record {
-    deeds = [];
+    trace = [];
     lead = refl;
     so = inl (record {
       told = told_fault _ _ _ c.acts.ensures.value c.from.ensures c.in-Err.ensures.fault;

@@ -7,7 +7,7 @@ use Rattle.cm_tools.proofs.weaves.weave_world.Goals as goal
 
 pub returns-in-Err : goal.returns-in-Err
 returns-in-Err g c = record {
-  does = did_so c.in-Err.ensures.refused (λ deeds refused. inl (record {
+  does = did_so c.in-Err.ensures.refused (λ trace refused. inl (record {
     fault = c.in-Err.fault;
     told = refl;
     refused = refused;
@@ -17,8 +17,8 @@ returns-in-Err g c = record {
 
 pub returns-in-Ok-step_world : goal.returns-in-Ok-step_world
 returns-in-Ok-step_world g c = record {
-  does = did_both c.in-Ok.ensures.value c.close_files.ensures.value (λ deeds more opens left. inr (record {
-    first = deeds;
+  does = did_both c.in-Ok.ensures.value c.close_files.ensures.value (λ trace more opens left. inr (record {
+    first = trace;
     second = more;
     did = refl;
     file = c.in-Ok.ends.steps;
@@ -38,8 +38,8 @@ returns-in-Ok-step_world g c = record {
 
 pub returns-in-Err-step_world : goal.returns-in-Err-step_world
 returns-in-Err-step_world g c = record {
-  does = did_both c.in-Ok.ensures.value c.break_off.ensures.value (λ deeds more opens broke. inr (record {
-    first = deeds;
+  does = did_both c.in-Ok.ensures.value c.break_off.ensures.value (λ trace more opens broke. inr (record {
+    first = trace;
     second = more;
     did = refl;
     file = c.in-Ok.ends.steps;

@@ -1,7 +1,7 @@
 //! What lies outside of the program, and what it may do there.
 
 ghost use Rattle.std.specs.Prelude.{◌≡◌, ℕ, false, IfOk, List, Option};
-ghost use Rattle.cm_outside.specs.Deeds.{Deed, Asked, Opened, Readied, Flushed, Filled, LetGo};
+ghost use Rattle.cm_outside.specs.Trace.{IoEvent, Asked, Opened, Readied, Flushed, Filled, LetGo};
 
 use crate::written::Written;
 use cm_bits::{Failed, Sink, Source};
@@ -20,7 +20,7 @@ pub enum PutFault {
 
 /// What lies outside of the program but for its standard input, output and error: the words of its command line, files,
 /// and the way on which standard output goes out.
-pub trait Outside {
+pub trait System {
     /// A file that is read.
     type File: Source + Drop;
 
@@ -28,7 +28,7 @@ pub trait Outside {
     type Part: Drop;
 
     // What a deed may leave of the outside: the outside before, the deed, the outside after it.
-    ghost does: { Self → Deed Self.File Self.Part → Self → Type 0 };
+    ghost does: { Self → IoEvent Self.File Self.Part → Self → Type 0 };
 
     /// The words of the command line, the first of which is the program's name.
     fn words(&mut self, alloc: Global) -> Result<Vec<String>, LineFault>
