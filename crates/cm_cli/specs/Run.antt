@@ -35,7 +35,7 @@ IsToldAs false (Ok done) fault = ⊥
 IsToldAs keeps (Err own) fault = fault ≡ of_session own
 
 -- the session broke off
-pub record HasBrokenOff (start : SizedMachine) (acts : List Act) (lines : List ℕ) (rest held holds : Option (List ℕ))
+pub record HasAbortedSession (start : SizedMachine) (acts : List Act) (lines : List ℕ) (rest held holds : Option (List ℕ))
     (keeps : Bool) (fault : ProgramFault) : Type 0 where
   pub after : Machine
   pub result : Result (Unit {0}) SessionFault
@@ -44,9 +44,9 @@ pub record HasBrokenOff (start : SizedMachine) (acts : List Act) (lines : List �
 
 -- the commands gave some text, and it broke off so as of that text and nothing more; if it is the image that memory was
 -- wanting for, the text is all that they had
-pub record HasBrokenOffForSome (start : SizedMachine) (acts : List Act) (source rest held holds : Option (List ℕ))
+pub record HasAbortedForSome (start : SizedMachine) (acts : List Act) (source rest held holds : Option (List ℕ))
     (keeps : Bool) (fault : ProgramFault) : Type 0 where
   pub lines : List ℕ
   pub read : Consumes source rest lines
-  pub run : HasBrokenOff start acts lines (Some []) held holds keeps fault
+  pub run : HasAbortedSession start acts lines (Some []) held holds keeps fault
   pub end : OnOk run.result (IsAtEnd rest)

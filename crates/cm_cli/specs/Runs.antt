@@ -8,7 +8,7 @@ use Rattle.cm_cli.specs.declared.files.RunLine.{RunLine}
 use Rattle.cm_outside.specs.declared.program_fault.ProgramFault.{ProgramFault}
 use Rattle.cm_outside.specs.declared.program_fault.ProgramFault.TheVariants.{Read, Write, NoThread}
 use Rattle.cm_sizes.specs.Sizes.{SizedMachine}
-use Rattle.cm_cli.specs.Run.{HasLeft, HasLeftForSome, HasBrokenOff, HasBrokenOffForSome}
+use Rattle.cm_cli.specs.Run.{HasLeft, HasLeftForSome, HasAbortedSession, HasAbortedForSome}
 use Rattle.cm_outside.specs.Trace.{IoEvent}
 use Rattle.cm_outside.specs.Takings.{Reads}
 use Rattle.cm_outside.specs.Puttings.{Closes}
@@ -20,14 +20,14 @@ abbrev pub EndsSession : SizedMachine → List Act → Streams → Bool → Resu
 EndsSession start acts streams keeps (Ok kept) =
     IfSome streams.lines (λ lines. HasLeft start acts lines streams.rest streams.held streams.holds keeps kept)
 EndsSession start acts streams keeps (Err fault) =
-    IfSome streams.lines (λ lines. HasBrokenOff start acts lines streams.rest streams.held streams.holds keeps fault)
+    IfSome streams.lines (λ lines. HasAbortedSession start acts lines streams.rest streams.held streams.holds keeps fault)
 
 -- the same of some text, whatever the commands tell of theirs
 abbrev pub HearsSession : SizedMachine → List Act → Streams → Bool → Result (Option (List ℕ)) ProgramFault → Type 0
 HearsSession start acts streams keeps (Ok kept) =
     HasLeftForSome start acts streams.lines streams.rest streams.held streams.holds keeps kept
 HearsSession start acts streams keeps (Err fault) =
-    HasBrokenOffForSome start acts streams.lines streams.rest streams.held streams.holds keeps fault
+    HasAbortedForSome start acts streams.lines streams.rest streams.held streams.holds keeps fault
 
 -- a session that begins here, from standard input to standard output
 pub record IsSession (start : SizedMachine) (acts : List Act) (streams : Streams) (keeps : Bool)

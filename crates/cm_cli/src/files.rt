@@ -14,7 +14,7 @@ use crate::lent::SessionRunner;
 use crate::sharing::Sharing;
 use cm_asm::Program;
 use cm_bits::{Sink, Source};
-use cm_outside::{ProgramFault, System, Taken, break_off, close_files, make_ready, take_both};
+use cm_outside::{ProgramFault, System, Taken, abort_files, close_files, make_ready, take_both};
 use cm_sizes::{AnyMachine, on_machine};
 use std::alloc::Global;
 
@@ -161,7 +161,7 @@ fn run_lent<S: SessionRunner, H: System, I: Source, O: Sink>(
 {
     match runner.go(alloc, machine, program, commands, answers) {
         Ok(()) => close_any(alloc, system, part, answers, machine),
-        Err(fault) => break_off(system, part, ProgramFault::from(fault)),
+        Err(fault) => abort_files(system, part, ProgramFault::from(fault)),
     }
 }
 

@@ -8,11 +8,11 @@ use Rattle.cm_model.specs.Machine.{Machine}
 use Rattle.cm_session.specs.declared.fault.SessionFault.{SessionFault}
 use Rattle.cm_session.specs.declared.fault.SessionFault.TheVariants.{Read, Write, TooMuch, Memory, NoThread}
 use Rattle.cm_session.specs.Session.{Session, Answered, preceded_by, opening, after_line, after_lines}
-use Rattle.cm_session.specs.Ends.{ended_lines, open_line, IsBeforeOrAmid, IsOnTheWay, IsStopped, IsBrokenOff}
+use Rattle.cm_session.specs.Ends.{ended_lines, open_line, IsBeforeOrAmid, IsOnTheWay, IsStopped, IsAborted}
 use Rattle.cm_session.proofs.Lines.{ended_lines-end}
-use Rattle.cm_debug.specs.BufferedOutput.{IsCutOff, BreaksOffBetween}
-use Rattle.cm_debug.specs.Talk.{Talk, Setting, after_all, IsTold, BreaksOffAmong}
-use Rattle.cm_debug.specs.Taking.{BreaksOffIn}
+use Rattle.cm_debug.specs.BufferedOutput.{IsCutOff, AbortsBetween}
+use Rattle.cm_debug.specs.Talk.{Talk, Setting, after_all, IsTold, AbortsAmong}
+use Rattle.cm_debug.specs.Taking.{AbortsIn}
 use Rattle.cm_debug.proofs.Lines.{next, lines-more, answers-append, answers-longer}
 use Rattle.cm_debug.proofs.Sending.{take_front, front_written, all_written}
 
@@ -39,8 +39,8 @@ still_reached n cap first done [] more count within =
 still_reached n cap first done (line ∷ undone) more count within = within
 
 broken_more : (n cap : ℕ) (first : Setting) (lines more : List (List ℕ)) (machine : Machine) (on : Option (List ℕ))
-    → IsBrokenOff n cap first.acts first.machine first.out lines machine on
-    → IsBrokenOff n cap first.acts first.machine first.out (lines ++ more) machine on
+    → IsAborted n cap first.acts first.machine first.out lines machine on
+    → IsAborted n cap first.acts first.machine first.out (lines ++ more) machine on
 broken_more n cap first lines more machine on off = record {
   done = off.done;
   undone = off.undone ++ more;
@@ -51,8 +51,8 @@ broken_more n cap first lines more machine on off = record {
 
 -- what breaks off among the first lines breaks off among all
 pub among_more : (n cap : ℕ) (first : Setting) (lines more : List (List ℕ)) (machine : Machine)
-    (on : Option (List ℕ)) (fault : SessionFault) → BreaksOffAmong n cap first lines machine on fault
-    → BreaksOffAmong n cap first (lines ++ more) machine on fault
+    (on : Option (List ℕ)) (fault : SessionFault) → AbortsAmong n cap first lines machine on fault
+    → AbortsAmong n cap first (lines ++ more) machine on fault
 among_more n cap first lines more machine on (Write count) off = record {
   within = omega (arith, off.within, answers-longer n cap first lines more);
   written = subst (Appends first.out on) (sym (ap (take count) (answers-append n cap first lines more)
@@ -70,7 +70,7 @@ among_more n cap first lines more machine on TooMuch off = absurd off
 
 -- before the first line
 pub broken_first : (n cap : ℕ) (first : Setting) (lines : List (List ℕ))
-    → IsBrokenOff n cap first.acts first.machine first.out lines first.machine first.out
+    → IsAborted n cap first.acts first.machine first.out lines first.machine first.out
 unfolding after_lines
 broken_first n cap first lines = record {
   done = [];
@@ -156,7 +156,7 @@ given_up_in : (n cap : ℕ) (first : Setting) (done : List (List ℕ)) (line kep
     (machine : Machine) → Appends first.out (append_known holds kept) (after_all n cap first done).answer
     → Appends holds on kept
     → IsOnTheWay n cap first.acts (after_all n cap first done).session (next n cap first done line).session machine
-    → IsBrokenOff n cap first.acts first.machine first.out (done ++ line ∷ []) machine on
+    → IsAborted n cap first.acts first.machine first.out (done ++ line ∷ []) machine on
 given_up_in n cap first done line kept holds on machine wrote rest way = record {
   done = done;
   undone = line ∷ [];
@@ -168,12 +168,12 @@ given_up_in n cap first done line kept holds on machine wrote rest way = record 
 -- a line that has ended breaks off; it is cleared then
 pub breaks_in : (n cap : ℕ) (first : Setting) (taken : List ℕ) (a : Talk) (cleared : List ℕ) (machine : Machine)
     (on : Option (List ℕ)) (fault : SessionFault) → IsTold n cap first taken a
-    → BreaksOffIn n cap (after_line n cap a.acts a.session a.line) (record a { line = cleared }) machine on fault
-    → BreaksOffAmong n cap first (ended_lines (taken ++ 10 ∷ [])) machine on fault
+    → AbortsIn n cap (after_line n cap a.acts a.session a.line) (record a { line = cleared }) machine on fault
+    → AbortsAmong n cap first (ended_lines (taken ++ 10 ∷ [])) machine on fault
 breaks_in n cap first taken a cleared machine on fault told' breaks =
-    subst (λ (ls : List (List ℕ)). BreaksOffAmong n cap first ls machine on fault) (sym (ended_lines-end taken))
+    subst (λ (ls : List (List ℕ)). AbortsAmong n cap first ls machine on fault) (sym (ended_lines-end taken))
     (by fault (subst (λ (x : Talk).
-    BreaksOffIn n cap (after_line n cap x.acts x.session x.line) (record x { line = cleared }) machine on fault) as_told
+    AbortsIn n cap (after_line n cap x.acts x.session x.line) (record x { line = cleared }) machine on fault) as_told
     breaks)) where
       done : List (List ℕ)
       done = ended_lines taken
@@ -189,8 +189,8 @@ breaks_in n cap first taken a cleared machine on fault told' breaks =
       as_told = (λ i. record a { acts = told'.acts i; session = told'.session i; line = told'.line i })
 
       by : (f : SessionFault)
-          → BreaksOffIn n cap (next n cap first done (open_line taken)) (record told_so { line = cleared }) machine on f
-          → BreaksOffAmong n cap first (done ++ open_line taken ∷ []) machine on f
+          → AbortsIn n cap (next n cap first done (open_line taken)) (record told_so { line = cleared }) machine on f
+          → AbortsAmong n cap first (done ++ open_line taken ∷ []) machine on f
       by (Write count) off = stopped_in n cap first done (open_line taken) a.sent a.kept a.out on machine count
           told'.written told'.count off.0 off.1
       by Memory off =
@@ -204,7 +204,7 @@ breaks_in n cap first taken a cleared machine on fault told' breaks =
 
 broken_between : (n cap : ℕ) (first : Setting) (taken : List ℕ) (a : Talk) (on : Option (List ℕ))
     → IsTold n cap first taken a → Appends a.out on a.kept
-    → IsBrokenOff n cap first.acts first.machine first.out (ended_lines taken) a.session.machine on
+    → IsAborted n cap first.acts first.machine first.out (ended_lines taken) a.session.machine on
 broken_between n cap first taken a on told' wrote = record {
   done = ended_lines taken;
   undone = [];
@@ -215,8 +215,8 @@ broken_between n cap first taken a on told' wrote = record {
 }
 
 pub breaks_between : (n cap : ℕ) (first : Setting) (taken : List ℕ) (a : Talk) (on : Option (List ℕ))
-    (fault : SessionFault) → IsTold n cap first taken a → BreaksOffBetween a.sent a.kept a.out on fault
-    → BreaksOffAmong n cap first (ended_lines taken) a.session.machine on fault
+    (fault : SessionFault) → IsTold n cap first taken a → AbortsBetween a.sent a.kept a.out on fault
+    → AbortsAmong n cap first (ended_lines taken) a.session.machine on fault
 breaks_between n cap first taken a on (Write count) told' cut =
     let front : List ℕ = (after_all n cap first (ended_lines taken)).answer in
     let none : a.kept ++ [] ≡ a.kept = append-nil a.kept in

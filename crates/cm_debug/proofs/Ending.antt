@@ -15,7 +15,7 @@ use Rattle.cm_session.specs.declared.fault.SessionFault.TheVariants.{Read, Write
 use Rattle.cm_session.specs.Session.{Session, opening, after_lines}
 use Rattle.cm_session.specs.Ends.{COMMANDS_LIMIT, ended_lines, open_line, processed_lines, IsAnswered, Ends, EndsForSome}
 use Rattle.cm_session.proofs.Lines.{heard_first, heard_whole}
-use Rattle.cm_debug.specs.Talk.{Talk, Setting, setting, after_all, IsTold, IsBroken, BreaksOffAmong, MayBeLeft, HasEnded, HasTakenAll}
+use Rattle.cm_debug.specs.Talk.{Talk, Setting, setting, after_all, IsTold, IsBroken, AbortsAmong, MayBeLeft, HasEnded, HasTakenAll}
 use Rattle.cm_debug.specs.Taking.{HasTaken, HasStopped}
 use Rattle.cm_debug.proofs.Breaking.{among_more, broken_first}
 use Rattle.cm_debug.proofs.Lines.{lines_of-closed, lines_at_last}
@@ -35,7 +35,7 @@ all_told {n} {cap} {first} {taken} {a} none told' = record {
 -- what breaks off among the lines that are heard is an end
 off_ends : (n cap : ℕ) (first : Setting) (text : List ℕ) (rest : Option (List ℕ)) (machine : Machine)
     (holds : Option (List ℕ)) (fault : SessionFault)
-    → BreaksOffAmong n cap first (processed_lines text) machine holds fault
+    → AbortsAmong n cap first (processed_lines text) machine holds fault
     → Ends n cap first.acts text rest first.machine first.out machine holds (Err fault)
 off_ends n cap first text rest machine holds (Write count) off = off
 off_ends n cap first text rest machine holds Memory off = off
@@ -130,7 +130,7 @@ ended_in_read {n} {cap} {first} {c} {fault} source left rest taken buf count roo
           let begins = heard_first (taken ++ take room buf) (drop room (take count buf) ++ more)
           (omega (arith, is, so, few, length-append taken (take room buf), short room buf)) in
           off_ends n cap first ((taken ++ take count buf) ++ more) (Some more) c.session.machine c.out fault
-          (subst (λ (ls : List (List ℕ)). BreaksOffAmong n cap first ls c.session.machine c.out fault)
+          (subst (λ (ls : List (List ℕ)). AbortsAmong n cap first ls c.session.machine c.out fault)
           (sym (ap processed_lines (parted taken buf more room count (omega (arith, is))) ∙ begins.is))
           (among_more n cap first (ended_lines (taken ++ take room buf)) begins.more c.session.machine c.out fault
           off.breaks));
@@ -247,7 +247,7 @@ ended_broken {n} {cap} {first} {source} {rest} {a} {c} {fault} all some stopped 
       ends = λ more may. subst (λ (t : List ℕ). Ends n cap first.acts t (Some more) first.machine first.out
           c.session.machine c.out (Err fault)) (no_more rest all.text more all.end may)
           (off_ends n cap first all.text (Some more) c.session.machine c.out fault
-          (subst (λ (ls : List (List ℕ)). BreaksOffAmong n cap first ls c.session.machine c.out fault)
+          (subst (λ (ls : List (List ℕ)). AbortsAmong n cap first ls c.session.machine c.out fault)
           (sym (heard_whole all.text all.within ∙ lines_at_last all.text a.line some all.told.line)) off.breaks));
       end = tt;
       lacked = off.lacked;

@@ -15,9 +15,9 @@ use Rattle.cm_session.specs.Commands.{command_of}
 use Rattle.cm_session.specs.Session.{Answered, preceded_by, answered, after_line}
 use Rattle.cm_session.specs.Ends.{ended_lines, is_session_no_thread}
 use Rattle.cm_session.proofs.Lines.{ended_lines-append, ended_lines-end, open_line-end, ended_after}
-use Rattle.cm_debug.specs.BufferedOutput.{BreaksOffBetween}
-use Rattle.cm_debug.specs.Talk.{Talk, Setting, holds_of, answered_count, after_all, IsTold, IsBroken, BreaksOffAmong}
-use Rattle.cm_debug.specs.Taking.{BreaksOffIn, HasTaken, HasStopped, HasAnswered, HasBrokenOff}
+use Rattle.cm_debug.specs.BufferedOutput.{AbortsBetween}
+use Rattle.cm_debug.specs.Talk.{Talk, Setting, holds_of, answered_count, after_all, IsTold, IsBroken, AbortsAmong}
+use Rattle.cm_debug.specs.Taking.{AbortsIn, HasTaken, HasStopped, HasAnswered, HasAborted}
 use Rattle.cm_debug.proofs.Breaking.{among_more, breaks_in, breaks_between}
 use Rattle.cm_debug.proofs.Lines.{ended_lines-part, open_line-part, lines-more, answered_line}
 use Rattle.cm_debug.proofs.Sending.{as_gathered, with_none}
@@ -127,11 +127,11 @@ stopped_in_front {n} {cap} {a} {c} {front} {fault} more stopped = record {
 
 -- it breaks off between two lines
 pub stopped_between : {n cap : ℕ} {a : Talk} (c : Talk) (bytes : List ℕ) (fault : SessionFault)
-    → BreaksOffBetween a.sent a.kept a.out c.out fault → c.session.machine ≡ a.session.machine
+    → AbortsBetween a.sent a.kept a.out c.out fault → c.session.machine ≡ a.session.machine
     → is_session_no_thread fault ≡ false → c.lacked ≡ a.lacked → HasStopped n cap a bytes c fault
 stopped_between {n} {cap} {a} c bytes fault off stays other lacked = record {
   broken = λ first taken told'. broken_on n cap first taken bytes c fault (record {
-    breaks = subst (λ (m : Machine). BreaksOffAmong n cap first (ended_lines taken) m c.out fault) (sym stays)
+    breaks = subst (λ (m : Machine). AbortsAmong n cap first (ended_lines taken) m c.out fault) (sym stays)
         (breaks_between n cap first taken a c.out fault told' off);
     lacked = lacked ∙ told'.lacked
         ∙ sym (ap (λ (b : Bool). lacked_after b first.lacked) other);
@@ -195,7 +195,7 @@ pub line_stopped : {n cap : ℕ} {a c : Talk} {asked : Result (Option Command) R
     (part cleared kept : List ℕ) (on : Option (List ℕ)) (sent : ℕ) → IsUnended part
     → asked ≡ command_of n (length a.acts) (words_of (a.line ++ part))
     → Appends (holds_of a) (append_known on kept) [] → sent + length kept ≡ answered_count a
-    → HasBrokenOff n cap (answered n cap a.acts a.session asked)
+    → HasAborted n cap (answered n cap a.acts a.session asked)
     (record a { line = cleared; out = on; kept = kept; sent = sent }) c fault
     → HasStopped n cap a (part ++ 10 ∷ []) c fault
 line_stopped {n} {cap} {a} {c} {asked} {fault} part cleared kept on sent free is wrote count off = record {
@@ -206,7 +206,7 @@ line_stopped {n} {cap} {a} {c} {asked} {fault} part cleared kept on sent free is
             (record a { line = a.line ++ part; out = on; kept = kept; sent = sent }) cleared c.session.machine c.out
             fault
             (told_sent on kept sent wrote count (told_part part (a.line ++ part) free refl told'))
-            (subst (λ (x : Answered). BreaksOffIn n cap x
+            (subst (λ (x : Answered). AbortsIn n cap x
             (record a { line = cleared; out = on; kept = kept; sent = sent }) c.session.machine c.out fault)
             (answered_line n cap a.acts a.session (a.line ++ part) asked is) off.breaks);
         lacked = off.lacked ∙ ap (λ (k : ℕ). lacked_after (is_session_no_thread fault) k) told'.lacked;

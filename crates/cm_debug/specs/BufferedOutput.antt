@@ -21,8 +21,8 @@ pub record IsCutOff (sent : ℕ) (text : List ℕ) (held holds : Option (List �
   pub written : Appends held holds (take part text)
 
 -- how a session breaks off between two lines: with a front of what is gathered written, or all of it
-abbrev pub BreaksOffBetween : ℕ → List ℕ → Option (List ℕ) → Option (List ℕ) → SessionFault → Type 0
-BreaksOffBetween sent kept held holds (Write count) = IsCutOff sent kept held holds count
-BreaksOffBetween sent kept held holds Memory = Appends held holds kept
-BreaksOffBetween sent kept held holds NoThread = Appends held holds kept
-BreaksOffBetween sent kept held holds _ = ⊥
+abbrev pub AbortsBetween : ℕ → List ℕ → Option (List ℕ) → Option (List ℕ) → SessionFault → Type 0
+AbortsBetween sent kept held holds (Write count) = IsCutOff sent kept held holds count
+AbortsBetween sent kept held holds Memory = Appends held holds kept
+AbortsBetween sent kept held holds NoThread = Appends held holds kept
+AbortsBetween sent kept held holds _ = ⊥

@@ -44,22 +44,22 @@ pub record HasAnswered (one : Answered) (before after : Talk) : Type 0 where
 -- how it breaks off. Where its answer cannot be written whole a front of that and of what was gathered went out, and the
 -- machine is that after the line, or on the way to it; else what was gathered is written, nothing of the answer, and the
 -- machine is on the way
-abbrev pub BreaksOffIn : ℕ → ℕ → Answered → Talk → Machine → Option (List ℕ) → SessionFault → Type 0
-BreaksOffIn n cap one before machine holds (Write count) =
+abbrev pub AbortsIn : ℕ → ℕ → Answered → Talk → Machine → Option (List ℕ) → SessionFault → Type 0
+AbortsIn n cap one before machine holds (Write count) =
     IsCutOff before.sent (before.kept ++ one.answer) before.out holds count
     × ((machine ≡ one.session.machine) ⊎ IsOnTheWay n cap before.acts before.session one.session machine)
-BreaksOffIn n cap one before machine holds Memory =
+AbortsIn n cap one before machine holds Memory =
     Appends before.out holds before.kept × IsOnTheWay n cap before.acts before.session one.session machine
-BreaksOffIn n cap one before machine holds NoThread =
+AbortsIn n cap one before machine holds NoThread =
     Appends before.out holds before.kept × IsOnTheWay n cap before.acts before.session one.session machine
-BreaksOffIn n cap one before machine holds _ = ⊥
+AbortsIn n cap one before machine holds _ = ⊥
 
 -- it has broken off
-pub record HasBrokenOff (n cap : ℕ) (one : Answered) (before after : Talk) (fault : SessionFault) : Type 0 where
-  pub breaks : BreaksOffIn n cap one before after.session.machine after.out fault
+pub record HasAborted (n cap : ℕ) (one : Answered) (before after : Talk) (fault : SessionFault) : Type 0 where
+  pub breaks : AbortsIn n cap one before after.session.machine after.out fault
   pub lacked : after.lacked ≡ lacked_after (is_session_no_thread fault) before.lacked
 
 -- how a console goes on that is to answer this
 abbrev pub ConsoleAnswers : ℕ → ℕ → Answered → Talk → Talk → Result (Unit {0}) SessionFault → Type 0
 ConsoleAnswers n cap one before after (Ok done) = HasAnswered one before after
-ConsoleAnswers n cap one before after (Err fault) = HasBrokenOff n cap one before after fault
+ConsoleAnswers n cap one before after (Err fault) = HasAborted n cap one before after fault

@@ -8,7 +8,7 @@ use Rattle.cm_array.specs.Faults.{CountsLacks, lacked_after}
 use Rattle.cm_session.specs.declared.fault.SessionFault.{SessionFault}
 use Rattle.cm_session.specs.declared.fault.SessionFault.TheVariants.{Write, Memory, NoThread}
 use Rattle.cm_session.specs.Session.{Session, Answered, opening, after_lines}
-use Rattle.cm_session.specs.Ends.{COMMANDS_LIMIT, ended_lines, open_line, is_session_no_thread, IsStopped, IsBrokenOff, Ends}
+use Rattle.cm_session.specs.Ends.{COMMANDS_LIMIT, ended_lines, open_line, is_session_no_thread, IsStopped, IsAborted, Ends}
 use Rattle.cm_debug.specs.declared.console.Console.{Console}
 use Rattle.cm_debug.specs.State.{session_of}
 
@@ -72,19 +72,19 @@ pub record IsTold (n cap : ℕ) (first : Setting) (taken : List ℕ) (now : Talk
   pub lacked : now.lacked ≡ first.lacked
 
 -- how it breaks off among lines
-abbrev pub BreaksOffAmong : ℕ → ℕ → Setting → List (List ℕ) → Machine → Option (List ℕ) → SessionFault → Type 0
-BreaksOffAmong n cap first lines machine holds (Write count) =
+abbrev pub AbortsAmong : ℕ → ℕ → Setting → List (List ℕ) → Machine → Option (List ℕ) → SessionFault → Type 0
+AbortsAmong n cap first lines machine holds (Write count) =
     IsStopped n cap first.acts first.machine first.out lines machine holds count
-BreaksOffAmong n cap first lines machine holds Memory =
-    IsBrokenOff n cap first.acts first.machine first.out lines machine holds
-BreaksOffAmong n cap first lines machine holds NoThread =
-    IsBrokenOff n cap first.acts first.machine first.out lines machine holds
-BreaksOffAmong n cap first lines machine holds _ = ⊥
+AbortsAmong n cap first lines machine holds Memory =
+    IsAborted n cap first.acts first.machine first.out lines machine holds
+AbortsAmong n cap first lines machine holds NoThread =
+    IsAborted n cap first.acts first.machine first.out lines machine holds
+AbortsAmong n cap first lines machine holds _ = ⊥
 
 -- it has broken off among these lines, and the runner lacked a thread if that is the fault
 pub record IsBroken (n cap : ℕ) (first : Setting) (lines : List (List ℕ)) (now : Talk) (fault : SessionFault)
     : Type 0 where
-  pub breaks : BreaksOffAmong n cap first lines now.session.machine now.out fault
+  pub breaks : AbortsAmong n cap first lines now.session.machine now.out fault
   pub lacked : now.lacked ≡ lacked_after (is_session_no_thread fault) first.lacked
 
 -- ---- a source

@@ -4,7 +4,7 @@ ghost use Rattle.std.specs.Prelude.{◌≡◌, ◌+◌, ◌<◌, ◌^◌, ◌++�
 ghost use Rattle.std.specs.Prelude.{if◌then◌else◌};
 ghost use Rattle.std.specs.Io.KnownBytes.{Appends};
 ghost use Rattle.cm_session.specs.Ends.{is_session_no_thread, is_write};
-ghost use Rattle.cm_debug.specs.BufferedOutput.{answered_bytes, with_gathered, BreaksOffBetween, IsCutOff};
+ghost use Rattle.cm_debug.specs.BufferedOutput.{answered_bytes, with_gathered, AbortsBetween, IsCutOff};
 ghost use Rattle.cm_debug.specs.Telling.{is_thread};
 ghost use Rattle.cm_debug.specs.declared.out_of.OutOf.TheVariants.{Thread};
 
@@ -108,7 +108,7 @@ impl BufferedOutput {
         requires writer { O.has_failed out.old ≡ false }
         requires room { answered_bytes self.old < 2 ^ 128 }
         requires none { want ≡ Thread → self.old.bytes.items ≡ [] }
-        ensures value { BreaksOffBetween self.old.sent self.old.bytes.items (O.contents out.old)
+        ensures value { AbortsBetween self.old.sent self.old.bytes.items (O.contents out.old)
             (O.contents out.new) result }
         ensures failed { O.has_failed out.new ≡ is_write (Err result) }
         ensures thread { is_session_no_thread result ≡ is_thread want }

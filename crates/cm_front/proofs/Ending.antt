@@ -14,7 +14,7 @@ use Rattle.cm_session.specs.Ends.{ended_lines, open_line}
 use Rattle.cm_debug.specs.BufferedOutput.{IsCutOff}
 use Rattle.cm_front.specs.Front.{Front}
 use Rattle.cm_front.specs.Ends.{LINE_LIMIT, ALL, AreShort, Ends, IsAnswered}
-use Rattle.cm_front.specs.Hearing.{BreaksOff, HasHeard, HearingStops}
+use Rattle.cm_front.specs.Hearing.{LineAborts, HasHeard, HearingStops}
 use Rattle.cm_front.proofs.Lines.{AreLinesOf, line_more, last_line, all_ended, left_open, no_open}
 use Rattle.cm_front.proofs.Told.{IsTold, answered_all, stopped, broken_off, line_stops}
 
@@ -70,7 +70,7 @@ pub line_ends : (n cap : ℕ) (start : Machine) (held before after : Option (Lis
     (machine : Machine) (fault : SessionFault) → rest ≡ take (length heard - place) (drop place heard)
     → line ≡ take len rest → len < length rest → get_or rest len 0 ≡ 10 → IsUnended line → AreLinesOf given done
     → Consumes before after (given ++ drop place heard) → IsTold n cap start held done front holds sent kept
-    → BreaksOff n cap front line sent kept holds machine on fault → Ends n cap before after start held machine on (Err fault)
+    → LineAborts n cap front line sent kept holds machine on fault → Ends n cap before after start held machine on (Err fault)
 line_ends n cap start held before after heard given rest line place len done front holds on sent kept machine fault is
     part inside ends free lines consumed told' breaks = record {
       taken = given ++ drop place heard;
@@ -226,7 +226,7 @@ pub last_ends : (n cap : ℕ) (start : Machine) (held before after : Option (Lis
     (done : List (List ℕ)) (front : Front) (holds on : Option (List ℕ)) (sent : ℕ) (kept : List ℕ) (machine : Machine)
     (fault : SessionFault) → IsUnended heard → 0 < length heard → AreLinesOf given done
     → Consumes before after (given ++ heard) → IsTold n cap start held done front holds sent kept
-    → BreaksOff n cap front heard sent kept holds machine on fault → Ends n cap before after start held machine on (Err fault)
+    → LineAborts n cap front heard sent kept holds machine on fault → Ends n cap before after start held machine on (Err fault)
 last_ends n cap start held before after given heard done front holds on sent kept machine fault free some lines consumed
     told' breaks = record {
       taken = given ++ heard;

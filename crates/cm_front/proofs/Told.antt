@@ -7,12 +7,12 @@ use Rattle.cm_bits.specs.Text.{lines_of}
 use Rattle.cm_model.specs.Machine.{Machine}
 use Rattle.cm_session.specs.declared.fault.SessionFault.{SessionFault}
 use Rattle.cm_session.specs.declared.fault.SessionFault.TheVariants.{Read, Write, TooMuch, Memory, NoThread}
-use Rattle.cm_debug.specs.BufferedOutput.{IsCutOff, BreaksOffBetween}
+use Rattle.cm_debug.specs.BufferedOutput.{IsCutOff, AbortsBetween}
 use Rattle.cm_debug.proofs.Sending.{front_written, all_written, with_none}
 use Rattle.cm_front.specs.Front.{Front, FrontAnswered, front_opening, front_answered_with, front_preceded_by}
 use Rattle.cm_front.specs.Front.{front_after_line, front_after_lines, front_answers}
-use Rattle.cm_front.specs.Ends.{IsAnswered, IsStopped, IsBrokenOff, EndsOver}
-use Rattle.cm_front.specs.Hearing.{BreaksOff}
+use Rattle.cm_front.specs.Ends.{IsAnswered, IsStopped, IsFrontAborted, EndsOver}
+use Rattle.cm_front.specs.Hearing.{LineAborts}
 
 -- ---- lines in two parts
 
@@ -153,7 +153,7 @@ stopped n cap start held done undone lines front holds on sent kept count parts 
 pub broken_off : (n cap : ℕ) (start : Machine) (held : Option (List ℕ)) (done undone lines : List (List ℕ))
     (front : Front) (holds on : Option (List ℕ)) (sent : ℕ) (kept : List ℕ) → lines ≡ done ++ undone
     → IsTold n cap start held done front holds sent kept → Appends holds on kept
-    → IsBrokenOff n cap start held lines front.machine on
+    → IsFrontAborted n cap start held lines front.machine on
 broken_off n cap start held done undone lines front holds on sent kept parts told' wrote = record {
   done = done;
   undone = undone;
@@ -169,7 +169,7 @@ pub line_stops : (n cap : ℕ) (start : Machine) (held : Option (List ℕ)) (tak
     (done undone : List (List ℕ)) (front : Front) (holds on : Option (List ℕ)) (sent : ℕ) (kept line : List ℕ)
     (machine : Machine) (fault : SessionFault) → lines_of taken ≡ (done ++ line ∷ []) ++ undone
     → IsTold n cap start held done front holds sent kept
-    → BreaksOff n cap front line sent kept holds machine on fault
+    → LineAborts n cap front line sent kept holds machine on fault
     → EndsOver n cap taken start held machine on (Err fault)
 line_stops n cap start held taken done undone front holds on sent kept line machine (Write count) parts told'
     (inl before) =
@@ -183,11 +183,11 @@ line_stops n cap start held taken done undone front holds on sent kept line mach
     sent (kept ++ (front_after_line n cap front line).answer) count parts
     (told_kept n cap start held done front holds sent kept line told') after.1)
 line_stops n cap start held taken done undone front holds on sent kept line machine Memory parts told' before =
-    subst (λ (m : Machine). IsBrokenOff n cap start held (lines_of taken) m on) (sym before.0)
+    subst (λ (m : Machine). IsFrontAborted n cap start held (lines_of taken) m on) (sym before.0)
     (broken_off n cap start held done (line ∷ undone) (lines_of taken) front holds on sent kept
     (parts ∙ append_assoc done (line ∷ []) undone) told' before.1)
 line_stops n cap start held taken done undone front holds on sent kept line machine NoThread parts told' before =
-    subst (λ (m : Machine). IsBrokenOff n cap start held (lines_of taken) m on) (sym before.0)
+    subst (λ (m : Machine). IsFrontAborted n cap start held (lines_of taken) m on) (sym before.0)
     (broken_off n cap start held done (line ∷ undone) (lines_of taken) front holds on sent kept
     (parts ∙ append_assoc done (line ∷ []) undone) told' before.1)
 line_stops n cap start held taken done undone front holds on sent kept line machine Read parts told' none = absurd none
@@ -196,8 +196,8 @@ line_stops n cap start held taken done undone front holds on sent kept line mach
 
 -- what is wanting before a line
 pub wanting : (n cap : ℕ) (front : Front) (line : List ℕ) (sent : ℕ) (kept : List ℕ) (holds on : Option (List ℕ))
-    (machine : Machine) (fault : SessionFault) → BreaksOffBetween sent kept holds on fault → machine ≡ front.machine
-    → BreaksOff n cap front line sent kept holds machine on fault
+    (machine : Machine) (fault : SessionFault) → AbortsBetween sent kept holds on fault → machine ≡ front.machine
+    → LineAborts n cap front line sent kept holds machine on fault
 wanting n cap front line sent kept holds on machine (Write count) cut is = inl (is, cut)
 wanting n cap front line sent kept holds on machine Memory wrote is = (is, wrote)
 wanting n cap front line sent kept holds on machine NoThread wrote is = (is, wrote)

@@ -38,7 +38,7 @@ pub record IsStopped (n cap : ℕ) (start : Machine) (held : Option (List ℕ)) 
   pub machine_is : machine ≡ front_left n cap start done
 
 -- some of these lines are done and their answers written, and nothing of the others
-pub record IsBrokenOff (n cap : ℕ) (start : Machine) (held : Option (List ℕ)) (lines : List (List ℕ))
+pub record IsFrontAborted (n cap : ℕ) (start : Machine) (held : Option (List ℕ)) (lines : List (List ℕ))
     (machine : Machine) (holds : Option (List ℕ)) : Type 0 where
   pub done : List (List ℕ)
   pub undone : List (List ℕ)
@@ -59,9 +59,9 @@ EndsOver n cap taken start held machine holds (Err TooMuch) =
     AreShort (ended_lines taken) × ((LINE_LIMIT < length (open_line taken)) ⊎ (ALL ≤ length taken))
     × IsAnswered n cap start held (ended_lines taken) machine holds
 EndsOver n cap taken start held machine holds (Err Memory) =
-    IsBrokenOff n cap start held (lines_of taken) machine holds
+    IsFrontAborted n cap start held (lines_of taken) machine holds
 EndsOver n cap taken start held machine holds (Err NoThread) =
-    IsBrokenOff n cap start held (lines_of taken) machine holds
+    IsFrontAborted n cap start held (lines_of taken) machine holds
 
 -- it took a text from its source, the known bytes of which began with it, and ended so
 pub record Ends (n cap : ℕ) (before after : Option (List ℕ)) (start : Machine) (held : Option (List ℕ))

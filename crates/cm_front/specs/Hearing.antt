@@ -33,13 +33,13 @@ HearingStops before after NoThread = ⊥
 
 -- how a line breaks off: before it, with what was gathered written or a front of that; or after it, with a front
 -- written
-abbrev pub BreaksOff : ℕ → ℕ → Front → List ℕ → ℕ → List ℕ → Option (List ℕ) → Machine → Option (List ℕ)
+abbrev pub LineAborts : ℕ → ℕ → Front → List ℕ → ℕ → List ℕ → Option (List ℕ) → Machine → Option (List ℕ)
     → SessionFault → Type 0
-BreaksOff n cap front line sent kept held machine holds (Write count) =
+LineAborts n cap front line sent kept held machine holds (Write count) =
     ((machine ≡ front.machine) × IsCutOff sent kept held holds count)
     ⊎ ((machine ≡ (front_after_line n cap front line).front.machine)
     × IsCutOff sent (kept ++ (front_after_line n cap front line).answer) held holds count)
-BreaksOff n cap front line sent kept held machine holds Memory = (machine ≡ front.machine) × Appends held holds kept
-BreaksOff n cap front line sent kept held machine holds NoThread = (machine ≡ front.machine) × Appends held holds kept
-BreaksOff n cap front line sent kept held machine holds Read = ⊥
-BreaksOff n cap front line sent kept held machine holds TooMuch = ⊥
+LineAborts n cap front line sent kept held machine holds Memory = (machine ≡ front.machine) × Appends held holds kept
+LineAborts n cap front line sent kept held machine holds NoThread = (machine ≡ front.machine) × Appends held holds kept
+LineAborts n cap front line sent kept held machine holds Read = ⊥
+LineAborts n cap front line sent kept held machine holds TooMuch = ⊥

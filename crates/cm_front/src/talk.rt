@@ -5,11 +5,11 @@ ghost use Rattle.std.specs.Prelude.{IsFalse, IsTrue, OnOk};
 ghost use Rattle.std.specs.Io.KnownBytes.{Appends, IsAtEnd};
 ghost use Rattle.cm_array.specs.Faults.{one_more_lacked};
 ghost use Rattle.cm_session.specs.Ends.{is_session_no_thread, is_write};
-ghost use Rattle.cm_debug.specs.BufferedOutput.{answered_bytes, with_gathered, BreaksOffBetween};
+ghost use Rattle.cm_debug.specs.BufferedOutput.{answered_bytes, with_gathered, AbortsBetween};
 ghost use Rattle.cm_debug.specs.Telling.{is_thread};
 ghost use Rattle.cm_front.specs.Front.{front_of, front_after_line};
 ghost use Rattle.cm_front.specs.Ends.{LINE_LIMIT, ALL, Ends};
-ghost use Rattle.cm_front.specs.Hearing.{BreaksOff};
+ghost use Rattle.cm_front.specs.Hearing.{LineAborts};
 
 use crate::front_end::FrontEnd;
 use crate::hearing::{LIMIT, hear, line_len};
@@ -144,7 +144,7 @@ fn tell_line<const N: usize, const CAP: usize, R: Runner<N, CAP>, O: Sink>(
     ensures count { OnOk result (answered_bytes answers.new ≡ answered_bytes answers.old
         + length (front_after_line N CAP (front_of machine.old.machine front.old) line.now).answer) }
     ensures few { OnOk result (answered_bytes answers.new ≤ answered_bytes answers.old + 2 ^ 64) }
-    ensures err { IfErr result (BreaksOff N CAP (front_of machine.old.machine front.old) line.now answers.old.sent
+    ensures err { IfErr result (LineAborts N CAP (front_of machine.old.machine front.old) line.now answers.old.sent
         answers.old.bytes.items (O.contents out.old) machine.new.machine (O.contents out.new)) }
     ensures failed { O.has_failed out.new ≡ is_write result }
     ensures thread { OnOk result (R.threads_lacked runner.new ≡ R.threads_lacked runner.old) }
@@ -165,7 +165,7 @@ fn tell_line<const N: usize, const CAP: usize, R: Runner<N, CAP>, O: Sink>(
 fn give_up<O: Sink>(answers: &mut BufferedOutput, want: OutOf, out: &mut O) -> SessionFault
     requires writer { O.has_failed out.old ≡ false }
     requires room { answered_bytes answers.old < 2 ^ 128 }
-    ensures value { BreaksOffBetween answers.old.sent answers.old.bytes.items (O.contents out.old) (O.contents out.new)
+    ensures value { AbortsBetween answers.old.sent answers.old.bytes.items (O.contents out.old) (O.contents out.new)
         result }
     ensures failed { O.has_failed out.new ≡ is_write (Err result) }
     ensures thread { is_session_no_thread result ≡ true → is_thread want ≡ true }

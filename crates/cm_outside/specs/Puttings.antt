@@ -125,6 +125,6 @@ pub record ClosesLeft {F P : Type 0} (n cap : ℕ) (machine : Machine) (part : O
   pub closes : Closes part holds kept result trace
 
 -- the deeds take away the file that was made ready, if one was, and the program ends with this fault
-abbrev pub BreaksOff : {F P : Type 0} → Option P → ProgramFault → Result (Unit {0}) ProgramFault → List (IoEvent F P)
+abbrev pub Aborts : {F P : Type 0} → Option P → ProgramFault → Result (Unit {0}) ProgramFault → List (IoEvent F P)
     → Type 0
-BreaksOff part fault result trace = (trace ≡ let_go part) × (result ≡ Err fault)
+Aborts part fault result trace = (trace ≡ let_go part) × (result ≡ Err fault)

@@ -3,7 +3,7 @@
 
 ghost use Rattle.std.specs.Prelude.{◌≡◌, IfOk, IfErr, Some, option_map, string_bytes};
 ghost use Rattle.cm_outside.specs.Trace.{HasTrace};
-ghost use Rattle.cm_outside.specs.Puttings.{BreaksOff, ClosesLeft, ClosesWell, Fills, FlushesOut, IsUnready, Puts};
+ghost use Rattle.cm_outside.specs.Puttings.{Aborts, ClosesLeft, ClosesWell, Fills, FlushesOut, IsUnready, Puts};
 ghost use Rattle.cm_outside.specs.Puttings.{Readies, let_go};
 
 use crate::program_fault::ProgramFault;
@@ -84,12 +84,12 @@ pub fn close_files<const N: usize, const CAP: usize, H: System, O: Sink>(
 }
 
 /// Once a session broke off: the file that was made ready is taken away.
-pub fn break_off<H: System>(
+pub fn abort_files<H: System>(
     system: &mut H,
     part: Option<H::Part>,
     fault: ProgramFault,
 ) -> Result<(), ProgramFault>
-    ensures value { HasTrace H.does system.old system.new (BreaksOff part fault result) }
+    ensures value { HasTrace H.does system.old system.new (Aborts part fault result) }
 {
     take_away(system, part);
     Err(fault)

@@ -85,7 +85,7 @@ pub record IsAnsweredSoFar (n cap : ℕ) (acts : List Act) (text : List ℕ) (re
   pub answered : IsAnswered n cap acts start held (ended_lines taken) machine holds
 
 -- some of these lines are done and their answers written, no byte more; and perhaps some acts of the next are run
-pub record IsBrokenOff (n cap : ℕ) (acts : List Act) (start : Machine) (held : Option (List ℕ))
+pub record IsAborted (n cap : ℕ) (acts : List Act) (start : Machine) (held : Option (List ℕ))
     (lines : List (List ℕ)) (machine : Machine)
     (holds : Option (List ℕ)) : Type 0 where
   pub done : List (List ℕ)
@@ -110,9 +110,9 @@ Ends n cap acts text rest start held machine holds (Err (Write count)) =
 Ends n cap acts text rest start held machine holds (Err TooMuch) =
     (COMMANDS_LIMIT < length text) × IsAnswered n cap acts start held (ended_lines (take COMMANDS_LIMIT text)) machine holds
 Ends n cap acts text rest start held machine holds (Err Memory) =
-    IsBrokenOff n cap acts start held (processed_lines text) machine holds
+    IsAborted n cap acts start held (processed_lines text) machine holds
 Ends n cap acts text rest start held machine holds (Err NoThread) =
-    IsBrokenOff n cap acts start held (processed_lines text) machine holds
+    IsAborted n cap acts start held (processed_lines text) machine holds
 
 -- a source, of which this was left in the end, gave some text, and it ended so as of that text and nothing more; after Ok
 -- nothing is left. This can be said of a source that does not tell its bytes

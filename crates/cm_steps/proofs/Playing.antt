@@ -21,7 +21,7 @@ use Rattle.cm_steps.specs.Alone.{step_line, with_rest, by_itself, step_count, ow
 use Rattle.cm_steps.specs.Ends.{finished_line, IsCutBy}
 use Rattle.cm_weave.specs.Woven.{Woven, IsOnItsWay}
 use Rattle.cm_weave.proofs.Following.{exchange_is}
-use Rattle.cm_steps.specs.Hearing.{exchange_in, BreaksOff, HasSentFront, HasPlayed}
+use Rattle.cm_steps.specs.Hearing.{exchange_in, TextAborts, HasSentFront, HasPlayed}
 use Rattle.cm_steps.proofs.Going.{cut_text}
 
 -- ---- steps
@@ -182,7 +182,7 @@ module _ (exchange : Exchange) (is : HasItsKinds exchange) (start world : World)
     }
 
     -- it breaks off
-    pub plays_cut : (on : Option (List ℕ)) (fault : WeaveFault) → BreaksOff (rest ++ step_line step) sent holds on fault
+    pub plays_cut : (on : Option (List ℕ)) (fault : WeaveFault) → TextAborts (rest ++ step_line step) sent holds on fault
         → IsCutBy (own_text exchange start) held on fault
     plays_cut on fault breaks =
         let others : List Step = by_itself exchange (mid.left - 1) (world_after exchange world step) in
@@ -250,7 +250,7 @@ module _ (exchange : Exchange) (start world : World) (held holds : Option (List 
 
   -- it is cut
   pub plays_cut_at_end : (text : List ℕ) (on : Option (List ℕ)) (fault : WeaveFault) → text ≡ rest ++ end_text steps
-      → BreaksOff text sent holds on fault → IsCutBy (own_text exchange start) held on fault
+      → TextAborts text sent holds on fault → IsCutBy (own_text exchange start) held on fault
   plays_cut_at_end text on fault is breaks =
       cut_text (own_text exchange start) has.gone text [] held holds on sent fault has.written has.sent_is
       (whole ∙ ap (λ (xs : List ℕ). has.gone ++ xs) (sym is ∙ sym (append-nil text))) breaks

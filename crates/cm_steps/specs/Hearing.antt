@@ -78,12 +78,12 @@ pub record IsShortWriteBehind (text : List ℕ) (sent : ℕ) (held holds : Optio
   pub written : Appends held holds (take part text)
 
 -- how a text breaks off: cut by a write, or nothing of it went out
-abbrev pub BreaksOff : List ℕ → ℕ → Option (List ℕ) → Option (List ℕ) → WeaveFault → Type 0
-BreaksOff text sent held holds (Write count) = IsShortWriteBehind text sent held holds count
-BreaksOff text sent held holds Memory = Appends held holds []
-BreaksOff text sent held holds Read = ⊥
-BreaksOff text sent held holds TooMuch = ⊥
-BreaksOff text sent held holds Unfinished = ⊥
+abbrev pub TextAborts : List ℕ → ℕ → Option (List ℕ) → Option (List ℕ) → WeaveFault → Type 0
+TextAborts text sent held holds (Write count) = IsShortWriteBehind text sent held holds count
+TextAborts text sent held holds Memory = Appends held holds []
+TextAborts text sent held holds Read = ⊥
+TextAborts text sent held holds TooMuch = ⊥
+TextAborts text sent held holds Unfinished = ⊥
 
 -- all lines of a text are answered by so many bytes, and the world is that after them
 pub record IsHeard (exchange : Exchange) (text : List ℕ) (start : World) (held : Option (List ℕ)) (world : World)

@@ -9,7 +9,7 @@ ghost use Rattle.cm_exchange.specs.Worlds.{IsFinished};
 ghost use Rattle.cm_session.specs.Answer.{line};
 ghost use Rattle.cm_steps.specs.Alone.{own_text, step_line};
 ghost use Rattle.cm_steps.specs.Ends.{finished_line, is_weave_write, IsCutBy};
-ghost use Rattle.cm_steps.specs.Hearing.{exchange_in, BreaksOff, HasSentFront, HasPlayed, IsOfRun};
+ghost use Rattle.cm_steps.specs.Hearing.{exchange_in, TextAborts, HasSentFront, HasPlayed, IsOfRun};
 
 use crate::fault::WeaveFault;
 use crate::outgoing::send;
@@ -134,7 +134,7 @@ fn tell_step<const N: usize, const CAP: usize, O: Sink>(
         ++ step_line step) sent (O.contents out.old) (O.contents out.new)
         text.new.items) }
     ensures few { IfOk result (λ now. now < sent + 2 ^ 64) }
-    ensures err { IfErr result (BreaksOff (text.old.items ++ step_line step) sent (O.contents out.old)
+    ensures err { IfErr result (TextAborts (text.old.items ++ step_line step) sent (O.contents out.old)
         (O.contents out.new)) }
     ensures write { O.has_failed out.new ≡ is_weave_write result }
 {

@@ -2,7 +2,7 @@
 
 ghost use Rattle.std.specs.Prelude.{◌≡◌, ◌+◌, ◌<◌, ◌^◌, [], false, length, is_err, IfOk, IfErr, OnOk};
 ghost use Rattle.cm_steps.specs.Ends.{is_weave_write};
-ghost use Rattle.cm_steps.specs.Hearing.{HasSentFront, BreaksOff};
+ghost use Rattle.cm_steps.specs.Hearing.{HasSentFront, TextAborts};
 
 use crate::fault::WeaveFault;
 use cm_bits::{Sink, write_all};
@@ -13,7 +13,7 @@ pub fn send<O: Sink>(text: &mut Vec<u8>, sent: u128, out: &mut O) -> Result<u128
     requires room { sent + length text.old.items < 2 ^ 128 }
     ensures ok { IfOk result (HasSentFront text.old.items sent (O.contents out.old) (O.contents out.new) []) }
     ensures none { OnOk result (text.new.items ≡ []) }
-    ensures err { IfErr result (BreaksOff text.old.items sent (O.contents out.old) (O.contents out.new)) }
+    ensures err { IfErr result (TextAborts text.old.items sent (O.contents out.old) (O.contents out.new)) }
     ensures failed { O.has_failed out.new ≡ is_weave_write result }
 {
     match write_all(out, text) {

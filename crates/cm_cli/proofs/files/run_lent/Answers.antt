@@ -24,7 +24,7 @@ returns-in-Ok g c = record {
 
 pub returns-in-Err : goal.returns-in-Err
 returns-in-Err g c = record {
-  does = did_so c.break_off.ensures.value (λ trace broke. record {
+  does = did_so c.abort_files.ensures.value (λ trace broke. record {
     ran = Err c.from.result;
     session = off_so (sized c.args.machine.now) (sized c.go.new.machine) c.args.program.now.acts
         (streams (g.I.Source.left c.args.commands.now) (g.I.Source.left c.go.new.commands)

@@ -8,7 +8,7 @@ use Rattle.cm_debug.proofs.Ending.{is_none, has_some}
 use Rattle.cm_front.specs.Front.{Front, front_of}
 use Rattle.std.proofs.lemmas.List.Elements.{All-nil}
 use Rattle.cm_front.specs.Ends.{LINE_LIMIT}
-use Rattle.cm_front.specs.Hearing.{BreaksOff}
+use Rattle.cm_front.specs.Hearing.{LineAborts}
 use Rattle.cm_front.proofs.Lines.{no_lines, line_more}
 use Rattle.cm_front.proofs.Told.{IsTold, nothing_told, told_line, told_sent}
 use Rattle.cm_front.proofs.Ending.{a_line_on, unended_rest, line_ends, send_ends, hearing_ends, heard_more, heard_len}
@@ -265,7 +265,7 @@ returns-in-Err-tell_line-clause-ends g c =
     (told_sent g.row.N g.row.CAP start held so.done front (g.O.Sink.contents c.loop-front.out)
     (g.O.Sink.contents c.send.new.out) c.loop-front.answers.sent c.send.new.self.sent c.loop-front.answers.bytes.items
     c.send.new.self.bytes.items c.in-Ok-send.ensures.written c.in-Ok-send.ensures.none c.in-Ok-send.ensures.sent so.told)
-    (subst (λ (l : List ℕ). BreaksOff g.row.N g.row.CAP front l c.send.new.self.sent c.send.new.self.bytes.items
+    (subst (λ (l : List ℕ). LineAborts g.row.N g.row.CAP front l c.send.new.self.sent c.send.new.self.bytes.items
     (g.O.Sink.contents c.send.new.out) c.tell_line-2.new.machine.machine (g.O.Sink.contents c.tell_line-2.new.out)
     c.in-Err-tell_line.fault) c.as_slice.ensures.value c.in-Err-tell_line.ensures.err)
 

@@ -38,7 +38,7 @@ returns-in-Ok-step_world g c = record {
 
 pub returns-in-Err-step_world : goal.returns-in-Err-step_world
 returns-in-Err-step_world g c = record {
-  does = did_both c.in-Ok.ensures.value c.break_off.ensures.value (λ trace more opens broke. inr (record {
+  does = did_both c.in-Ok.ensures.value c.abort_files.ensures.value (λ trace more opens broke. inr (record {
     first = trace;
     second = more;
     did = refl;
