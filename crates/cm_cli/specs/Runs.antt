@@ -11,7 +11,7 @@ use Rattle.cm_sizes.specs.Sizes.{SizedMachine}
 use Rattle.cm_cli.specs.Run.{HasLeft, HasLeftForSome, HasAbortedSession, HasAbortedForSome}
 use Rattle.cm_outside.specs.Trace.{IoEvent}
 use Rattle.cm_outside.specs.Takings.{Reads}
-use Rattle.cm_outside.specs.Puttings.{Closes}
+use Rattle.cm_outside.specs.Puttings.{FinishesOutput}
 use Rattle.cm_outside.specs.Streams.{Streams, IsUntouched}
 use Rattle.cm_cli.specs.Files.{BeginsFiles, RefusesFiles}
 
@@ -44,7 +44,7 @@ pub record RunsFrom {F P : Type 0} (start : SizedMachine) (acts : List Act) (Wan
   pub ran : Result (Option (List ℕ)) ProgramFault
   pub session : IsSession start acts streams (is_some part) ran
   pub threads : IsErrOf ran NoThread → WantsThread
-  pub closes : Closes part streams.holds ran result trace
+  pub closes : FinishesOutput part streams.holds ran result trace
 
 -- no session begins
 pub record BeginsNot {F P : Type 0} (reads : Reads F) (line : RunLine) (streams : Streams)
@@ -68,7 +68,7 @@ pub record IsFilesTrace {F P : Type 0} (reads : Reads F) (line : RunLine) (strea
   pub ran : Result (Option (List ℕ)) ProgramFault
   pub session : IsSession start program.acts streams (is_some part) ran
   pub threads : line.sharing.workers ≡ 1 → ¬ IsErrOf ran NoThread
-  pub closes : Closes part streams.holds ran result second
+  pub closes : FinishesOutput part streams.holds ran result second
 
 -- what `cm1 run` does
 abbrev pub IsRunTrace : {F P : Type 0} → Reads F → RunLine → Streams → Result (Unit {0}) ProgramFault → List (IoEvent F P)

@@ -5,7 +5,7 @@ ghost use Rattle.cm_sizes.specs.Sizes.{SizedMachine, sized};
 ghost use Rattle.cm_cli.specs.Sharing.{sharing_fault};
 ghost use Rattle.cm_outside.specs.Trace.{HasTrace};
 ghost use Rattle.cm_outside.specs.Takings.{reads_by};
-ghost use Rattle.cm_outside.specs.Puttings.{ClosesLeft, Readies};
+ghost use Rattle.cm_outside.specs.Puttings.{FinishesWithImage, Readies};
 ghost use Rattle.cm_cli.specs.Files.{BeginsFiles, RefusesFiles, RefusesTaken};
 ghost use Rattle.cm_outside.specs.Streams.{streams};
 ghost use Rattle.cm_cli.specs.Runs.{IsRunTrace, RunsFrom};
@@ -14,7 +14,7 @@ use crate::lent::SessionRunner;
 use crate::sharing::Sharing;
 use cm_asm::Program;
 use cm_bits::{Sink, Source};
-use cm_outside::{ProgramFault, System, Taken, abort_files, close_files, make_ready, take_both};
+use cm_outside::{ProgramFault, System, Taken, abort_files, finish_files, make_ready, take_both};
 use cm_sizes::{AnyMachine, on_machine};
 use std::alloc::Global;
 
@@ -165,7 +165,7 @@ fn run_lent<S: SessionRunner, H: System, I: Source, O: Sink>(
     }
 }
 
-/// Once a session has ended well, and left this machine: as `close_files`.
+/// Once a session has ended well, and left this machine: as `finish_files`.
 fn close_any<H: System, O: Sink>(
     alloc: Global,
     system: &mut H,
@@ -173,8 +173,9 @@ fn close_any<H: System, O: Sink>(
     out: &O,
     machine: &AnyMachine,
 ) -> Result<(), ProgramFault>
-    ensures value { HasTrace H.does system.old system.new (ClosesLeft (sized machine.now).n (sized machine.now).cap
+    ensures value { HasTrace H.does system.old system.new
+        (FinishesWithImage (sized machine.now).n (sized machine.now).cap
         (sized machine.now).machine part (O.contents out.now) result) }
 {
-    on_machine!(machine, machine => close_files(alloc, system, part, out, machine))
+    on_machine!(machine, machine => finish_files(alloc, system, part, out, machine))
 }

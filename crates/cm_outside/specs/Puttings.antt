@@ -104,7 +104,7 @@ SavesAfter (Ok done) part kept result trace = Saves part kept result trace
 SavesAfter (Err failed) part kept result trace = (trace ≡ let_go part) × (result ≡ Err Write)
 
 -- a session ended well: standard output goes out, and only then is the file filled
-pub record ClosesWell {F P : Type 0} (part : Option P) (holds : Option (List ℕ)) (kept : Option (List ℕ))
+pub record FinishesWell {F P : Type 0} (part : Option P) (holds : Option (List ℕ)) (kept : Option (List ℕ))
     (result : Result (Unit {0}) ProgramFault) (trace : List (IoEvent F P)) : Type 0 where
   pub done : Result (Unit {0}) Failed
   pub more : List (IoEvent F P)
@@ -112,17 +112,17 @@ pub record ClosesWell {F P : Type 0} (part : Option P) (holds : Option (List ℕ
   pub then : SavesAfter done part kept result more
 
 -- once a session ended so: after a fault the file that was made ready is taken away, and nothing more is done
-abbrev pub Closes : {F P : Type 0} → Option P → Option (List ℕ) → Result (Option (List ℕ)) ProgramFault
+abbrev pub FinishesOutput : {F P : Type 0} → Option P → Option (List ℕ) → Result (Option (List ℕ)) ProgramFault
     → Result (Unit {0}) ProgramFault → List (IoEvent F P) → Type 0
-Closes part holds (Ok kept) result trace = ClosesWell part holds kept result trace
-Closes part holds (Err fault) result trace = (trace ≡ let_go part) × (result ≡ Err fault)
+FinishesOutput part holds (Ok kept) result trace = FinishesWell part holds kept result trace
+FinishesOutput part holds (Err fault) result trace = (trace ≡ let_go part) × (result ≡ Err fault)
 
 -- a session ended well, and left this machine: its image is kept, if a file was made ready, and goes there
-pub record ClosesLeft {F P : Type 0} (n cap : ℕ) (machine : Machine) (part : Option P) (holds : Option (List ℕ))
+pub record FinishesWithImage {F P : Type 0} (n cap : ℕ) (machine : Machine) (part : Option P) (holds : Option (List ℕ))
     (result : Result (Unit {0}) ProgramFault) (trace : List (IoEvent F P)) : Type 0 where
   pub kept : Result (Option (List ℕ)) ProgramFault
   pub is : KeepsImage n cap machine (is_some part) kept
-  pub closes : Closes part holds kept result trace
+  pub closes : FinishesOutput part holds kept result trace
 
 -- the deeds take away the file that was made ready, if one was, and the program ends with this fault
 abbrev pub Aborts : {F P : Type 0} → Option P → ProgramFault → Result (Unit {0}) ProgramFault → List (IoEvent F P)

@@ -14,7 +14,7 @@ pub use cm_language::{AsmFault, AsmKind};
 pub use cm_line::LineFault;
 pub use fault::ChipFault;
 pub use program_fault::ProgramFault;
-pub use puttings::{abort_files, close_files, flush_out, make_ready, put_file};
+pub use puttings::{abort_files, finish_files, flush_out, make_ready, put_file};
 pub use reports::report;
 pub use system::{PutFault, System};
 pub use takes::{TakeFault, take};

@@ -3,7 +3,8 @@
 
 ghost use Rattle.std.specs.Prelude.{◌≡◌, IfOk, IfErr, Some, option_map, string_bytes};
 ghost use Rattle.cm_outside.specs.Trace.{HasTrace};
-ghost use Rattle.cm_outside.specs.Puttings.{Aborts, ClosesLeft, ClosesWell, Fills, FlushesOut, IsUnready, Puts};
+ghost use Rattle.cm_outside.specs.Puttings.{Aborts, FinishesWithImage, FinishesWell, Fills, FlushesOut, IsUnready};
+ghost use Rattle.cm_outside.specs.Puttings.{Puts};
 ghost use Rattle.cm_outside.specs.Puttings.{Readies, let_go};
 
 use crate::program_fault::ProgramFault;
@@ -60,7 +61,7 @@ pub fn flush_out<H: System, O: Sink>(system: &mut H, out: &O) -> Result<(), Prog
 
 /// Once a session has ended well, and left this machine: what it wrote goes out, and then the file that was made ready
 /// gets the machine's image. What writing that takes of memory is taken before.
-pub fn close_files<const N: usize, const CAP: usize, H: System, O: Sink>(
+pub fn finish_files<const N: usize, const CAP: usize, H: System, O: Sink>(
     alloc: Global,
     system: &mut H,
     part: Option<H::Part>,
@@ -68,7 +69,7 @@ pub fn close_files<const N: usize, const CAP: usize, H: System, O: Sink>(
     machine: &Machine<N, CAP>,
 ) -> Result<(), ProgramFault>
     ensures value { HasTrace H.does system.old system.new
-        (ClosesLeft N CAP machine.now.machine part (O.contents out.now)
+        (FinishesWithImage N CAP machine.now.machine part (O.contents out.now)
         result) }
 {
     let Some(part) = part else {
@@ -111,7 +112,7 @@ fn save<H: System, T: Written, O: Sink>(
     out: &O,
     image: T,
 ) -> Result<(), ProgramFault>
-    ensures value { HasTrace H.does system.old system.new (ClosesWell (Some part) (O.contents out.now)
+    ensures value { HasTrace H.does system.old system.new (FinishesWell (Some part) (O.contents out.now)
         (Some (T.bytes image)) result) }
 {
     match system.flush(out) {

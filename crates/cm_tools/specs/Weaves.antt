@@ -16,7 +16,7 @@ use Rattle.cm_outside.specs.declared.program_fault.ProgramFault.TheVariants.{Rea
 use Rattle.cm_outside.specs.ProgramFault.{of_world}
 use Rattle.cm_outside.specs.Trace.{IoEvent, Opened}
 use Rattle.cm_outside.specs.Takings.{Reads, TakesBoth, RefusesBoth}
-use Rattle.cm_outside.specs.Puttings.{Closes, Readies, IsUnready}
+use Rattle.cm_outside.specs.Puttings.{FinishesOutput, Readies, IsUnready}
 use Rattle.cm_tools.specs.Weaving.{Outgoing, IsWoven}
 
 -- nothing was written
@@ -86,7 +86,7 @@ pub record Exchanges {F P : Type 0} (reads : Reads F) (line : WeaveLine) (n cap 
   pub opens : OpensEnds line file part first
   pub ran : Result (Option (List ℕ)) ProgramFault
   pub is : IsWoven reads n cap woven file (is_some part) out ran
-  pub closes : Closes part out.holds ran result second
+  pub closes : FinishesOutput part out.holds ran result second
 
 -- what is done with a world
 abbrev pub WeavesWorld : {F P : Type 0} → Reads F → WeaveLine → ℕ → ℕ → Woven → Outgoing

@@ -14,7 +14,7 @@ ghost use Rattle.cm_tools.specs.Weaves.{WeavesWorld};
 use cm_array::Machine;
 use cm_asm::Program;
 use cm_bits::{Failed, Sink, Source};
-use cm_outside::{ProgramFault, System, Taken, abort_files, close_files, make_ready, take_both};
+use cm_outside::{ProgramFault, System, Taken, abort_files, finish_files, make_ready, take_both};
 use cm_sizes::{AnyMachine, on_machine};
 use cm_steps::{WeaveFault, weave_self, weave_session};
 use cm_weave::World;
@@ -115,7 +115,7 @@ fn weave_world<const N: usize, const CAP: usize, H: System, O: Sink>(
         Err(fault) => return Err(fault),
     };
     match step_world(alloc, world, steps, answers) {
-        Ok(machine) => close_files(alloc, system, part, answers, &machine),
+        Ok(machine) => finish_files(alloc, system, part, answers, &machine),
         Err(fault) => abort_files(system, part, ProgramFault::from(fault)),
     }
 }

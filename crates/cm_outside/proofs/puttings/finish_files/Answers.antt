@@ -2,7 +2,7 @@ use Rattle.std.proofs.Common.{Ok, Err, Some, None, [], refl}
 use Rattle.cm_outside.specs.declared.program_fault.ProgramFault.TheVariants.{Memory}
 use Rattle.cm_outside.proofs.Leading.{one, did_so}
 use Rattle.cm_outside.proofs.Putting.{saves_none}
-use Rattle.cm_outside.proofs.puttings.close_files.Goals as goal
+use Rattle.cm_outside.proofs.puttings.finish_files.Goals as goal
 
 pub returns-in_default : goal.returns-in_default
 returns-in_default g c = rw c.in_default.is (record {
