@@ -20,7 +20,7 @@ use Rattle.cm_model.proofs.Unlogged.{standing-all, none_injected, HasTagsOnce-st
 use Rattle.cm_model.proofs.Blanks.{IsMachine-blank_at}
 use Rattle.cm_element.specs.Near.{with_near}
 use Rattle.cm_router.specs.Routes.{routing_of}
-use Rattle.cm_crossing.specs.Standing.{UnderWay}
+use Rattle.cm_crossing.specs.Standing.{InFlight}
 use Rattle.cm_array.specs.declared.parts.Parts.{Parts}
 use Rattle.cm_array.specs.Parts.{machine_of, AreParts}
 use Rattle.cm_array.specs.Pokes.{machine_with_message}
@@ -161,7 +161,7 @@ IsUnfinished-with_message n cap machine c m h below room message born =
     }
 
 -- the machine of the parts with such a buffer
-pub machine_of-with_message : (parts : Parts) (i : ℕ) (crossing : UnderWay) (m : Message)
+pub machine_of-with_message : (parts : Parts) (i : ℕ) (crossing : InFlight) (m : Message)
     → crossing.buffers ≡ set parts.crossing.buffers i (list_at parts.crossing.buffers i ++ m ∷ [])
     → machine_of (record parts { crossing = crossing }) ≡ machine_with_message (machine_of parts) i m
 machine_of-with_message parts i crossing m is =
@@ -173,7 +173,7 @@ machine_of-with_message parts i crossing m is =
       routing = routing_of parts.routing;
     }
 
-pub AreUnfinished-with_message : (n cap : ℕ) (parts : Parts) (i : ℕ) (crossing : UnderWay) (m : Message)
+pub AreUnfinished-with_message : (n cap : ℕ) (parts : Parts) (i : ℕ) (crossing : InFlight) (m : Message)
     → AreUnfinished n cap parts → i < 2 ^ n
     → crossing.buffers ≡ set parts.crossing.buffers i (list_at parts.crossing.buffers i ++ m ∷ [])
     → length (list_at (machine_of parts).buffers i) < cap
@@ -210,7 +210,7 @@ IsMachine-finished n cap machine h apart = record {
 }
 
 -- its messages gathered
-pub AreParts-finished : (n cap : ℕ) (parts : Parts) (crossing : UnderWay) → AreUnfinished n cap parts
+pub AreParts-finished : (n cap : ℕ) (parts : Parts) (crossing : InFlight) → AreUnfinished n cap parts
     → crossing.buffers ≡ parts.crossing.buffers → IsTrue crossing.gathered
     → has_tag_twice (standing_messages (machine_of parts)) ≡ false
     → AreParts n cap (record parts { crossing = crossing })

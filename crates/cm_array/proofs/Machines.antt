@@ -26,7 +26,7 @@ use Rattle.cm_model.specs.Keeping.{AreSizes, HasTagsOnce, IsMachine}
 use Rattle.cm_model.proofs.Blanks.{IsMachine-blank_at}
 use Rattle.cm_model.proofs.Keeping.{IsMachine-after_act, IsMachine-run_of}
 use Rattle.cm_model.proofs.Runs.{run_of-nil, run_of-cons}
-use Rattle.cm_crossing.specs.Standing.{UnderWay}
+use Rattle.cm_crossing.specs.Standing.{InFlight}
 use Rattle.cm_router.specs.declared.routing.Routing.{Routing}
 use Rattle.cm_router.specs.Routes.{routing_of}
 use Rattle.cm_router.specs.Logs.{Log}
@@ -68,7 +68,7 @@ AreUnderWay-parts n cap parts h = record {
 }
 
 -- and once the messages are gathered they are the parts of a machine between two lists
-pub machine_of-gathered : (parts : Parts) (crossing : UnderWay) → crossing.buffers ≡ parts.crossing.buffers
+pub machine_of-gathered : (parts : Parts) (crossing : InFlight) → crossing.buffers ≡ parts.crossing.buffers
     → machine_of (record parts { crossing = crossing }) ≡ machine_of parts
 machine_of-gathered parts crossing same =
     λ i. record {
@@ -79,7 +79,7 @@ machine_of-gathered parts crossing same =
       routing = routing_of parts.routing;
     }
 
-pub AreParts-gathered : (n cap : ℕ) (parts : Parts) (crossing : UnderWay) → crossing.buffers ≡ parts.crossing.buffers
+pub AreParts-gathered : (n cap : ℕ) (parts : Parts) (crossing : InFlight) → crossing.buffers ≡ parts.crossing.buffers
     → IsTrue crossing.gathered
     → AreUnderWay n cap parts → AreParts n cap (record parts { crossing = crossing })
 AreParts-gathered n cap parts crossing same gathered h = record {
@@ -291,7 +291,7 @@ AreParts-copied n cap count parts copy h counted chips crossing logs row clock s
         clock = omega (arith, clock, h.sized.clock);
         cube = ap (λ (r : Routing). r.cuts.dims) routing ∙ h.sized.cube;
       };
-      gathered = subst (λ (u : UnderWay). IsTrue u.gathered) (sym crossing) h.gathered;
+      gathered = subst (λ (u : InFlight). IsTrue u.gathered) (sym crossing) h.gathered;
       machine = subst (λ (m : Machine). IsMachine n cap m)
           (λ i. record {
             chips = sym chips i;

@@ -13,7 +13,7 @@ use Rattle.std.specs.Prelude.{IsTrue}
 use Rattle.cm_model.specs.Machine.{Machine}
 use Rattle.cm_model.specs.Keeping.{AreSizes, IsMachine}
 use Rattle.cm_blocks.specs.Parts.{Part}
-use Rattle.cm_crossing.specs.Standing.{UnderWay}
+use Rattle.cm_crossing.specs.Standing.{InFlight}
 use Rattle.cm_router.specs.Routes.{routing_of}
 use Rattle.cm_router.specs.Logs.{Log}
 use Rattle.cm_router.specs.Rows.{with_row}
@@ -117,7 +117,7 @@ pub record ArePut (n : ℕ) (pieces : List Part) (j at : ℕ) (now : Parts) : Ty
   pub within : 0 < j → now.clock < 2 ^ 63
 
 -- all of them, gathered, are the machine that the pieces are
-module _ (n cap : ℕ) (pieces : List Part) (j at : ℕ) (now : Parts) (crossing : UnderWay) (were : ArePut n pieces j at now)
+module _ (n cap : ℕ) (pieces : List Part) (j at : ℕ) (now : Parts) (crossing : InFlight) (were : ArePut n pieces j at now)
     (all : j ≡ length pieces) (is : IsMachine n cap (joined pieces)) (same : crossing.buffers ≡ now.crossing.buffers)
   where
     long : length now.run ≡ length (joined pieces).chips

@@ -11,14 +11,14 @@ use Rattle.cm_outside.specs.Takings.{Reads}
 use Rattle.cm_outside.specs.Puttings.{Readies}
 use Rattle.cm_outside.proofs.Leading.{did_both}
 use Rattle.cm_cli.specs.declared.files.RunLine.{RunLine}
-use Rattle.cm_cli.specs.declared.files.Begun.{Begun}
+use Rattle.cm_cli.specs.declared.files.PreparedFiles.{PreparedFiles}
 use Rattle.cm_cli.specs.Sharing.{sharing_fault}
 use Rattle.cm_cli.specs.Files.{TakesFiles, BeginsFiles, RefusesSharing, RefusesOut, RefusesFiles, RefusesTaken}
 
 -- it begins
 pub begun_so : {S F P : Type 0} {does : S → IoEvent F P → S → Type 0} {from next : S} (to : S) (reads : Reads F)
     (line : RunLine) (taken : Taken AnyMachine) (n : ℕ) → n ≡ (sized taken.machine).n
-    → (r : Result (Begun AnyMachine P) ProgramFault)
+    → (r : Result (PreparedFiles AnyMachine P) ProgramFault)
     → HasTrace does from next (TakesFiles reads line (sized taken.machine) taken.program)
     → IfOk r (λ begun. begun.taken ≡ taken) → OnOk r (sharing_fault n line.sharing ≡ None)
     → IfOk r (λ begun. HasTrace does next to (Readies (option_map string_bytes line.out) begun.part))
@@ -61,7 +61,7 @@ refused_end {F} {P} reads line taken n dims fault trace more both (inr unready) 
 -- it does not
 pub unbegun_so : {S F P : Type 0} {does : S → IoEvent F P → S → Type 0} {from next : S} (to : S) (reads : Reads F)
     (line : RunLine) (taken : Taken AnyMachine) (n : ℕ) → n ≡ (sized taken.machine).n
-    → (r : Result (Begun AnyMachine P) ProgramFault)
+    → (r : Result (PreparedFiles AnyMachine P) ProgramFault)
     → HasTrace does from next (TakesFiles reads line (sized taken.machine) taken.program)
     → IfErr r (λ fault. HasTrace does next to (RefusesTaken n line fault))
     → IfErr r (λ fault. HasTrace does from to (RefusesFiles reads line fault))

@@ -31,7 +31,7 @@ pub struct RunLine {
 /// What a session over files begins with: its machine and its program, and the file that was made ready, if one is
 /// named.
 #[derive(Drop)]
-struct Begun<M, P> {
+struct PreparedFiles<M, P> {
     taken: Taken<M>,
     part: Option<P>,
 }
@@ -55,7 +55,7 @@ pub fn run_files<S: SessionRunner, H: System, I: Source, O: Sink>(
 {
     match begin_files(alloc, system, line) {
         Ok(begun) => {
-            let Begun { taken, part } = begun;
+            let PreparedFiles { taken, part } = begun;
             let Taken { machine, program } = taken;
             run_any(
                 alloc, system, machine, &program, part, runner, commands, answers,
@@ -71,7 +71,7 @@ fn begin_files<H: System>(
     alloc: Global,
     system: &mut H,
     line: &RunLine,
-) -> Result<Begun<AnyMachine, H::Part>, ProgramFault>
+) -> Result<PreparedFiles<AnyMachine, H::Part>, ProgramFault>
     ensures value { IfOk result (λ begun. HasTrace H.does system.old system.new (BeginsFiles
         (reads_by H.File.left H.File.has_failed) line.now (sized begun.taken.machine) begun.taken.program begun.part)) }
     ensures refused { IfErr result (λ fault. HasTrace H.does system.old system.new (RefusesFiles
@@ -90,7 +90,7 @@ fn begin_taken<H: System, M: Drop>(
     line: &RunLine,
     n: u8,
     taken: Taken<M>,
-) -> Result<Begun<M, H::Part>, ProgramFault>
+) -> Result<PreparedFiles<M, H::Part>, ProgramFault>
     requires dimension { n ≤ 12 }
     ensures same { IfOk result (λ begun. begun.taken ≡ taken) }
     ensures shared { OnOk result (sharing_fault n line.now.sharing ≡ None) }
@@ -102,7 +102,7 @@ fn begin_taken<H: System, M: Drop>(
         return Err(fault);
     }
     match make_ready(alloc, system, &line.out) {
-        Ok(part) => Ok(Begun { taken, part }),
+        Ok(part) => Ok(PreparedFiles { taken, part }),
         Err(fault) => Err(fault),
     }
 }

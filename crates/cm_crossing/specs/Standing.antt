@@ -12,7 +12,7 @@ use Rattle.cm_slots.specs.declared.ticket.Ticket.{Ticket}
 -- what contracts see of the messages of a run of chips:
 -- those at each chip, in order of arrival, for how many more there are places,
 -- and whether those of each chip are known to stand side by side, so that they can be read as one slice
-pub record UnderWay : Type 0 where
+pub record InFlight : Type 0 where
   pub buffers : List (List Message)
   pub free : ℕ
   pub gathered : Bool

@@ -74,9 +74,9 @@ pub struct Crossing {
 
 impl Model for Crossing {
     ghost use Rattle.std.specs.Prelude.{◌-◌, vec_len};
-    ghost use Rattle.cm_crossing.specs.Standing.{UnderWay, all_standing, IsCrossing};
+    ghost use Rattle.cm_crossing.specs.Standing.{InFlight, all_standing, IsCrossing};
 
-    ghost Value = { UnderWay };
+    ghost Value = { InFlight };
 
     ghost view = { λ crossing. record {
       buffers = all_standing crossing.row.items crossing.slots;

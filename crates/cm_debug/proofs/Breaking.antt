@@ -8,7 +8,7 @@ use Rattle.cm_model.specs.Machine.{Machine}
 use Rattle.cm_session.specs.declared.fault.SessionFault.{SessionFault}
 use Rattle.cm_session.specs.declared.fault.SessionFault.TheVariants.{Read, Write, TooMuch, Memory, NoThread}
 use Rattle.cm_session.specs.Session.{Session, Answered, preceded_by, opening, after_line, after_lines}
-use Rattle.cm_session.specs.Ends.{ended_lines, open_line, IsBeforeOrAmid, IsOnTheWay, IsStopped, IsAborted}
+use Rattle.cm_session.specs.Ends.{ended_lines, open_line, IsBeforeOrAmid, IsInFlight, IsStopped, IsAborted}
 use Rattle.cm_session.proofs.Lines.{ended_lines-end}
 use Rattle.cm_debug.specs.BufferedOutput.{IsCutOff, AbortsBetween}
 use Rattle.cm_debug.specs.Talk.{Talk, Setting, after_all, IsTold, AbortsAmong}
@@ -106,7 +106,7 @@ stopped_in : (n cap : ℕ) (first : Setting) (done : List (List ℕ)) (line : Li
     → sent + length kept ≡ length (after_all n cap first done).answer
     → IsCutOff sent (kept ++ (next n cap first done line).answer) holds on count
     → (machine ≡ (next n cap first done line).session.machine)
-    ⊎ IsOnTheWay n cap first.acts (after_all n cap first done).session (next n cap first done line).session machine
+    ⊎ IsInFlight n cap first.acts (after_all n cap first done).session (next n cap first done line).session machine
     → IsStopped n cap first.acts first.machine first.out (done ++ line ∷ []) machine on count
 stopped_in n cap first done line sent kept holds on machine count wrote long cut came = by came where
   front : List ℕ
@@ -138,7 +138,7 @@ stopped_in n cap first done line sent kept holds on machine count wrote long cut
       (front_written first.out holds on kept front one.answer [] sent cut.part wrote long cut.within cut.written)
 
   by : (machine ≡ one.session.machine)
-      ⊎ IsOnTheWay n cap first.acts (after_all n cap first done).session one.session machine
+      ⊎ IsInFlight n cap first.acts (after_all n cap first done).session one.session machine
       → IsStopped n cap first.acts first.machine first.out (done ++ line ∷ []) machine on count
   by (inl there) = stopped_behind n cap first (done ++ line ∷ []) machine on count within part
       (there ∙ sym (ap (λ (a : Answered). a.session.machine) whole))
@@ -155,7 +155,7 @@ stopped_in n cap first done line sent kept holds on machine count wrote long cut
 given_up_in : (n cap : ℕ) (first : Setting) (done : List (List ℕ)) (line kept : List ℕ) (holds on : Option (List ℕ))
     (machine : Machine) → Appends first.out (append_known holds kept) (after_all n cap first done).answer
     → Appends holds on kept
-    → IsOnTheWay n cap first.acts (after_all n cap first done).session (next n cap first done line).session machine
+    → IsInFlight n cap first.acts (after_all n cap first done).session (next n cap first done line).session machine
     → IsAborted n cap first.acts first.machine first.out (done ++ line ∷ []) machine on
 given_up_in n cap first done line kept holds on machine wrote rest way = record {
   done = done;

@@ -12,7 +12,7 @@ use Rattle.cm_model.proofs.Runs.{run_of-append}
 use Rattle.cm_session.specs.Session.{Session, Answered, answered_with, preceded_by, answer_of_act, going, has_acts, lacks_room, one_on}
 use Rattle.cm_session.specs.Answer.{at_line, end_line, refused_line, CLOCK}
 use Rattle.cm_session.specs.Stretches.{IsStretch, acts_on, arrived}
-use Rattle.cm_session.specs.Ends.{IsOnTheWay}
+use Rattle.cm_session.specs.Ends.{IsInFlight}
 use Rattle.cm_session.proofs.Stretching.{going-stretch, going-rises, arrived-rises}
 use Rattle.cm_debug.specs.declared.out_of.OutOf.{OutOf}
 use Rattle.cm_debug.specs.declared.debugger.Stops.{Stops}
@@ -104,7 +104,7 @@ comes n cap acts before from to on machine after rises further (inr came) is =
 -- wherever it has come, it is on the way
 pub on_the_way : (n cap : ℕ) (acts : List Act) (before after : Session) (to : ℕ) (machine : Machine)
     → before.position ≤ to → to ≤ after.position
-    → HasCome n cap acts before.machine before.position to machine → IsOnTheWay n cap acts before after machine
+    → HasCome n cap acts before.machine before.position to machine → IsInFlight n cap acts before after machine
 on_the_way n cap acts before after to machine rises within (inl stays) = inl stays.1
 on_the_way n cap acts before after to machine rises within (inr came) =
     inr (record { count = to - before.position; within = omega arith; machine_is = came })
@@ -273,7 +273,7 @@ pub gone_left : {n cap : ℕ} {stops : Stops} {before now : DebuggerView} (after
     → Goes n cap (gone n cap stops before) before after result
 gone_left {n} {cap} {stops} {before} {now} after result want is gone' stays lacked = left_by n cap
     (gone n cap stops before) before after result want is (record {
-      machine = subst (IsOnTheWay n cap before.acts before.session (gone n cap stops before).session) (sym stays)
+      machine = subst (IsInFlight n cap before.acts before.session (gone n cap stops before).session) (sym stays)
           (on_the_way n cap before.acts before.session (gone n cap stops before).session now.session.position
           now.session.machine gone'.rises
           (omega (
@@ -293,7 +293,7 @@ pub stop_left : {n cap : ℕ} {stops : Stops} {before now after : DebuggerView} 
     → Goes n cap (gone n cap stops before) before last result
 stop_left {n} {cap} {stops} {before} {now} {after} last result want is gone' run stays lacked =
     left_by n cap (gone n cap stops before) before last result want is (record {
-      machine = subst (IsOnTheWay n cap before.acts before.session (gone n cap stops before).session) (sym stays)
+      machine = subst (IsInFlight n cap before.acts before.session (gone n cap stops before).session) (sym stays)
           (on_the_way n cap before.acts before.session (gone n cap stops before).session after.session.position
           after.session.machine (omega (arith, gone'.rises, run.further))
           (omega (

@@ -5,7 +5,7 @@ use Rattle.cm_model.specs.Machine.{Machine}
 use Rattle.cm_array.specs.Faults.{lacked_after}
 use Rattle.cm_session.specs.Session.{Session, Answered, everywhere, at_breaks, going}
 use Rattle.cm_session.specs.Stretches.{arrived}
-use Rattle.cm_session.specs.Ends.{IsOnTheWay}
+use Rattle.cm_session.specs.Ends.{IsInFlight}
 use Rattle.cm_debug.specs.declared.debugger.Debugger.{Debugger}
 use Rattle.cm_debug.specs.declared.debugger.Stops.{Stops}
 use Rattle.cm_debug.specs.declared.debugger.Stops.TheVariants.{Everywhere, AtBreaks}
@@ -61,7 +61,7 @@ pub record IsDone (one : Answered) (before after : DebuggerView) : Type 0 where
 
 -- it is given up: the machine is as it was, or on the way
 pub record IsLeft (n cap : ℕ) (one : Answered) (before after : DebuggerView) (want : OutOf) : Type 0 where
-  pub machine : IsOnTheWay n cap before.acts before.session one.session after.session.machine
+  pub machine : IsInFlight n cap before.acts before.session one.session after.session.machine
   pub lacked : after.lacked ≡ lacked_after (is_thread want) before.lacked
 
 -- how a debugger goes on that is to do and answer this

@@ -12,7 +12,7 @@ use Rattle.cm_language.specs.declared.fault.AsmKind.TheVariants as kind
 use Rattle.cm_language.specs.Program.{Reading, IsOwnFault}
 use Rattle.cm_session.specs.Answer.{refused_line}
 use Rattle.cm_session.specs.Session.{Session}
-use Rattle.cm_session.specs.Ends.{IsOnTheWay}
+use Rattle.cm_session.specs.Ends.{IsInFlight}
 use Rattle.cm_front.specs.Asked.{is_of_program, question_of, kind_number}
 use Rattle.cm_front.specs.ForAll.{is_for_all, asked_of}
 use Rattle.cm_front.specs.Front.{Front, front_of, without_acts, read_more, said, for_all, asked, front_after_line, acts_line}
@@ -125,7 +125,7 @@ none_left k p acts none = ap (λ (xs : List Act). take k (drop p xs)) none ∙ a
 
 -- without acts a session that breaks off leaves the machine as it was
 pub still : (n cap : ℕ) (acts : List Act) (before after : Session) (machine : Machine) → acts ≡ []
-    → IsMachine n cap before.machine → IsOnTheWay n cap acts before after machine → machine ≡ before.machine
+    → IsMachine n cap before.machine → IsInFlight n cap acts before after machine → machine ≡ before.machine
 still n cap acts before after machine none whole (inl is) = is
 still n cap acts before after machine none whole (inr amid) =
     amid.machine_is ∙ ap (run_of n cap before.machine) (none_left amid.count before.position acts none)

@@ -52,14 +52,14 @@ pub record IsAmid (n cap : ℕ) (acts : List Act) (before after : Session) (mach
   pub machine_is : machine ≡ run_of n cap before.machine (take count (drop before.position acts))
 
 -- what was to lead from one to the other has changed nothing, or has come so far
-abbrev pub IsOnTheWay : ℕ → ℕ → List Act → Session → Session → Machine → Type 0
-IsOnTheWay n cap acts before after machine = (machine ≡ before.machine) ⊎ IsAmid n cap acts before after machine
+abbrev pub IsInFlight : ℕ → ℕ → List Act → Session → Session → Machine → Type 0
+IsInFlight n cap acts before after machine = (machine ≡ before.machine) ⊎ IsAmid n cap acts before after machine
 
 -- the machine before the first of these lines, or in the midst of it
 abbrev pub IsBeforeOrAmid : ℕ → ℕ → List Act → Session → List (List ℕ) → Machine → Type 0
 IsBeforeOrAmid n cap acts before [] machine = machine ≡ before.machine
 IsBeforeOrAmid n cap acts before (line ∷ lines) machine =
-    IsOnTheWay n cap acts before (after_line n cap acts before line).session machine
+    IsInFlight n cap acts before (after_line n cap acts before line).session machine
 
 -- so many bytes of the answers to these lines are written; some lines are done, and perhaps some acts of the next;
 -- the first byte that is not written answers one of those that are done, or the next

@@ -18,7 +18,7 @@ use Rattle.cm_steps.specs.declared.fault.WeaveFault.TheVariants.{Read, Write, To
 use Rattle.cm_steps.specs.Session.{world_answers, world_left}
 use Rattle.cm_steps.specs.Ends.{STEPS_LIMIT, processed_step_lines, closing, told_text, finished_line, unfinished_line, is_finished}
 use Rattle.cm_steps.specs.Ends.{last_line, IsCutBy, EndsBy, EndsByForSome, EndsFinished, EndsFinishedForSome}
-use Rattle.cm_steps.specs.Hearing.{Hearing, heard, at_start, TextAborts, HasHeard, IsHeard, IsHeardForSome}
+use Rattle.cm_steps.specs.Hearing.{Hearing, processed, at_start, TextAborts, HasHeard, IsHeard, IsHeardForSome}
 use Rattle.cm_steps.proofs.Lines.{heard_first, heard_whole, closing_whole, told_on, lines_closed, lines_at_last}
 use Rattle.cm_steps.proofs.Pieces.{heard_piece, heard_so_far, so_far}
 use Rattle.cm_steps.proofs.Going.{cut_text}
@@ -28,7 +28,7 @@ pub record IsMidway (exchange : Exchange) (start : World) (held before : Option 
     (world : World) (line : List ℕ) (holds now : Option (List ℕ)) (sent taken : ℕ) : Type 0 where
   pub said : List ℕ
   pub consumed : Consumes before now text
-  pub heard_is : record { world = world; line = line; answers = said } ≡ heard exchange (at_start start) text
+  pub heard_is : record { world = world; line = line; answers = said } ≡ processed exchange (at_start start) text
   pub written : Appends held holds said
   pub sent_is : sent ≡ length said
   pub taken_is : taken ≡ length text
@@ -38,7 +38,7 @@ pub record IsMidway (exchange : Exchange) (start : World) (held before : Option 
 -- nothing of it
 pub at_first_byte : (exchange : Exchange) (start : World) (held before : Option (List ℕ)) (line : List ℕ) → line ≡ []
     → IsMidway exchange start held before [] start line held before 0 0
-unfolding heard
+unfolding processed
 at_first_byte exchange start held before line none = record {
   said = [];
   consumed = Consumes-nil before;
@@ -101,10 +101,10 @@ module _ (exchange : Exchange) (start : World) (held before : Option (List ℕ))
 
   module _ (piece : List ℕ) where
     abbrev at : Hearing
-    at = heard exchange (record { world = world; line = line; answers = [] }) piece
+    at = processed exchange (record { world = world; line = line; answers = [] }) piece
 
     both : record { world = at.world; line = at.line; answers = mid.said ++ at.answers }
-        ≡ heard exchange (at_start start) (text ++ piece)
+        ≡ processed exchange (at_start start) (text ++ piece)
     both = sym (heard_piece exchange start world text piece line mid.said mid.heard_is)
 
     both_are : mid.said ++ at.answers ≡ world_answers exchange start (ended_lines (text ++ piece))
@@ -169,7 +169,7 @@ module _ (exchange : Exchange) (start : World) (held before : Option (List ℕ))
   -- the first bytes that it gave broke off
   module _ (buf : List ℕ) (count room : ℕ) (on : Option (List ℕ)) (fault : WeaveFault)
       (is : room ≡ min count (STEPS_LIMIT - taken))
-      (breaks : TextAborts (heard exchange (record { world = world; line = line; answers = [] }) (take room buf)).answers
+      (breaks : TextAborts (processed exchange (record { world = world; line = line; answers = [] }) (take room buf)).answers
       sent holds on fault) where
     in_read : (beyond : Option (List ℕ)) (rest : List ℕ)
         → EndsBy exchange ((text ++ take count buf) ++ rest) beyond start held on fault
@@ -264,7 +264,7 @@ module _ (exchange : Exchange) (start : World) (held before : Option (List ℕ))
 
   -- and the line that is open breaks off
   cut_last : (beyond : Option (List ℕ)) (on : Option (List ℕ)) (fault : WeaveFault) → 0 < length line
-      → TextAborts (heard exchange (record { world = world; line = line; answers = [] }) (10 ∷ [])).answers
+      → TextAborts (processed exchange (record { world = world; line = line; answers = [] }) (10 ∷ [])).answers
       sent holds on fault
       → EndsBy exchange text beyond start held on fault
   cut_last beyond on fault some breaks =
@@ -288,7 +288,7 @@ module _ (exchange : Exchange) (start : World) (held before : Option (List ℕ))
   some_last new kept on more some has = record { text = text; is = answered_last new kept on more some has }
 
   pub some_cut_last : (on : Option (List ℕ)) (fault : WeaveFault) → 0 < length line
-      → TextAborts (heard exchange (record { world = world; line = line; answers = [] }) (10 ∷ [])).answers
+      → TextAborts (processed exchange (record { world = world; line = line; answers = [] }) (10 ∷ [])).answers
       sent holds on fault
       → EndsByForSome exchange start held on fault
   some_cut_last on fault some breaks = record { text = text; ends = cut_last (Some []) on fault some breaks }
@@ -314,7 +314,7 @@ module _ (exchange : Exchange) (start : World) (held before : Option (List ℕ))
         (answered_last new kept on more some has)
 
     pub ends_last : (on : Option (List ℕ)) (fault : WeaveFault) → 0 < length line
-        → TextAborts (heard exchange (record { world = world; line = line; answers = [] }) (10 ∷ [])).answers
+        → TextAborts (processed exchange (record { world = world; line = line; answers = [] }) (10 ∷ [])).answers
         sent holds on fault
         → IfSome before (λ text. EndsBy exchange text after start held on fault)
     ends_last on fault some breaks =

@@ -10,7 +10,7 @@ use Rattle.cm_exchange.specs.Lanes.{Exchange}
 use Rattle.cm_exchange.specs.Worlds.{World}
 use Rattle.cm_weave.specs.Woven.{Woven}
 use Rattle.cm_steps.specs.Session.{world_answered_with, world_preceded_by, world_after_line, world_after_lines, world_answers, world_left}
-use Rattle.cm_steps.specs.Hearing.{Hearing, heard, with_byte, with_line_ended, at_start, exchange_in, IsOfRun}
+use Rattle.cm_steps.specs.Hearing.{Hearing, processed, with_byte, with_line_ended, at_start, exchange_in, IsOfRun}
 use Rattle.cm_steps.proofs.Lines.{world_after_lines-append}
 
 -- a world of the same run has the same exchange
@@ -24,45 +24,45 @@ exchange_kept n cap old new same =
       parts = new.parts;
     }))
 
-pub heard-append : (exchange : Exchange) (at : Hearing) (bytes more : List ℕ)
-    → heard exchange at (bytes ++ more) ≡ heard exchange (heard exchange at bytes) more
-unfolding heard
-heard-append exchange at [] more = refl
-heard-append exchange at (byte ∷ bytes) more = heard-append exchange (with_byte exchange at byte) bytes more
+pub processed-append : (exchange : Exchange) (at : Hearing) (bytes more : List ℕ)
+    → processed exchange at (bytes ++ more) ≡ processed exchange (processed exchange at bytes) more
+unfolding processed
+processed-append exchange at [] more = refl
+processed-append exchange at (byte ∷ bytes) more = processed-append exchange (with_byte exchange at byte) bytes more
 
 -- ---- a line
 
 -- its bytes are kept
-pub heard-unended : (exchange : Exchange) (world : World) (line said part : List ℕ) → IsUnended part
-    → heard exchange (record { world = world; line = line; answers = said }) part
+pub processed-unended : (exchange : Exchange) (world : World) (line said part : List ℕ) → IsUnended part
+    → processed exchange (record { world = world; line = line; answers = said }) part
     ≡ record { world = world; line = line ++ part; answers = said }
-unfolding heard
-heard-unended exchange world line said [] free =
+unfolding processed
+processed-unended exchange world line said [] free =
     ap (λ (l : List ℕ). record { world = world; line = l; answers = said }) (sym (append-nil line))
-heard-unended exchange world line said (byte ∷ part) free =
-    ap (λ (b : Bool). heard exchange (cond b (with_line_ended exchange
+processed-unended exchange world line said (byte ∷ part) free =
+    ap (λ (b : Bool). processed exchange (cond b (with_line_ended exchange
     (record { world = world; line = line; answers = said }))
     (record { world = world; line = line ++ byte ∷ []; answers = said })) part) (free 0 (omega arith))
-    ∙ heard-unended exchange world (line ++ byte ∷ []) said part (λ k inside. free (suc k) (omega (arith, inside)))
+    ∙ processed-unended exchange world (line ++ byte ∷ []) said part (λ k inside. free (suc k) (omega (arith, inside)))
     ∙ ap (λ (l : List ℕ). record { world = world; line = l; answers = said }) (append_assoc line (byte ∷ []) part)
 
 -- it ends
-heard-end : (exchange : Exchange) (at : Hearing) → heard exchange at (10 ∷ []) ≡ with_line_ended exchange at
-unfolding heard
-heard-end exchange at = refl
+processed-end : (exchange : Exchange) (at : Hearing) → processed exchange at (10 ∷ []) ≡ with_line_ended exchange at
+unfolding processed
+processed-end exchange at = refl
 
 -- the rest of a piece
 pub heard_rest : (exchange : Exchange) (first : Hearing) (world : World) (line said piece rest part grown : List ℕ)
     (done len : ℕ) → rest ≡ take (length piece - done) (drop done piece) → part ≡ take len rest → len ≡ length rest
     → IsUnended (take len rest) → grown ≡ line ++ part
-    → record { world = world; line = line; answers = said } ≡ heard exchange first (take done piece)
-    → record { world = world; line = grown; answers = said } ≡ heard exchange first piece
+    → record { world = world; line = line; answers = said } ≡ processed exchange first (take done piece)
+    → record { world = world; line = grown; answers = said } ≡ processed exchange first piece
 heard_rest exchange first world line said piece rest part grown done len is front long free grows told' =
     ap (λ (l : List ℕ). record { world = world; line = l; answers = said }) grows
-    ∙ sym (heard-unended exchange world line said part (subst IsUnended (sym front) free))
-    ∙ ap (λ (at : Hearing). heard exchange at part) told'
-    ∙ sym (heard-append exchange first (take done piece) part)
-    ∙ ap (heard exchange first) (whole done len piece rest part is front long) where
+    ∙ sym (processed-unended exchange world line said part (subst IsUnended (sym front) free))
+    ∙ ap (λ (at : Hearing). processed exchange at part) told'
+    ∙ sym (processed-append exchange first (take done piece) part)
+    ∙ ap (processed exchange first) (whole done len piece rest part is front long) where
       whole : (done len : ℕ) (piece rest part : List ℕ) → rest ≡ take (length piece - done) (drop done piece)
           → part ≡ take len rest → len ≡ length rest → take done piece ++ part ≡ piece
       whole done len piece rest part is front long = grind (arith, common_steps)
@@ -72,18 +72,18 @@ pub heard_line : (exchange : Exchange) (first at : Hearing) (world : World)
     (line said piece rest part grown : List ℕ) (done len : ℕ)
     → rest ≡ take (length piece - done) (drop done piece) → part ≡ take len rest → len < length rest
     → get_or rest len 0 ≡ 10 → IsUnended (take len rest) → grown ≡ line ++ part
-    → record { world = world; line = line; answers = said } ≡ heard exchange first (take done piece)
+    → record { world = world; line = line; answers = said } ≡ processed exchange first (take done piece)
     → at ≡ with_line_ended exchange (record { world = world; line = grown; answers = said })
-    → at ≡ heard exchange first (take (done + (len + 1)) piece)
+    → at ≡ processed exchange first (take (done + (len + 1)) piece)
 heard_line exchange first at world line said piece rest part grown done len is front inside ends free grows told' ended =
     ended
     ∙ ap (λ (l : List ℕ). with_line_ended exchange (record { world = world; line = l; answers = said })) grows
-    ∙ ap (with_line_ended exchange) (sym (heard-unended exchange world line said part (subst IsUnended (sym front) free))
-    ∙ ap (λ (at : Hearing). heard exchange at part) told'
-    ∙ sym (heard-append exchange first (take done piece) part))
-    ∙ sym (heard-end exchange (heard exchange first (take done piece ++ part)))
-    ∙ sym (heard-append exchange first (take done piece ++ part) (10 ∷ []))
-    ∙ ap (heard exchange first) (whole done len piece rest part is front inside ends) where
+    ∙ ap (with_line_ended exchange) (sym (processed-unended exchange world line said part (subst IsUnended (sym front) free))
+    ∙ ap (λ (at : Hearing). processed exchange at part) told'
+    ∙ sym (processed-append exchange first (take done piece) part))
+    ∙ sym (processed-end exchange (processed exchange first (take done piece ++ part)))
+    ∙ sym (processed-append exchange first (take done piece ++ part) (10 ∷ []))
+    ∙ ap (processed exchange first) (whole done len piece rest part is front inside ends) where
       whole : (done len : ℕ) (piece rest part : List ℕ) → rest ≡ take (length piece - done) (drop done piece)
           → part ≡ take len rest → len < length rest → get_or rest len 0 ≡ 10
           → (take done piece ++ part) ++ 10 ∷ [] ≡ take (done + (len + 1)) piece
@@ -164,13 +164,13 @@ so_far-byte exchange start text byte = by (is_line_end byte) refl where
   by true h = ap (λ (c : ℕ). so_far exchange start (text ++ c ∷ [])) (is_ten byte h) ∙ so_far-end exchange start text
   by false h = so_far-more exchange start text byte h
 
-heard-so_far : (exchange : Exchange) (start : World) (text more : List ℕ)
-    → heard exchange (so_far exchange start text) more ≡ so_far exchange start (text ++ more)
-unfolding heard
-heard-so_far exchange start text [] = ap (so_far exchange start) (sym (append-nil text))
-heard-so_far exchange start text (byte ∷ more) =
-    ap (λ (at : Hearing). heard exchange at more) (sym (so_far-byte exchange start text byte))
-    ∙ heard-so_far exchange start (text ++ byte ∷ []) more
+processed-so_far : (exchange : Exchange) (start : World) (text more : List ℕ)
+    → processed exchange (so_far exchange start text) more ≡ so_far exchange start (text ++ more)
+unfolding processed
+processed-so_far exchange start text [] = ap (so_far exchange start) (sym (append-nil text))
+processed-so_far exchange start text (byte ∷ more) =
+    ap (λ (at : Hearing). processed exchange at more) (sym (so_far-byte exchange start text byte))
+    ∙ processed-so_far exchange start (text ++ byte ∷ []) more
     ∙ ap (so_far exchange start) (append_assoc text (byte ∷ []) more)
 
 nothing_heard : (exchange : Exchange) (start : World) → at_start start ≡ so_far exchange start []
@@ -178,9 +178,9 @@ unfolding world_after_lines ended_lines open_line
 nothing_heard exchange start = refl
 
 pub heard_so_far : (exchange : Exchange) (start : World) (text : List ℕ)
-    → heard exchange (at_start start) text ≡ so_far exchange start text
+    → processed exchange (at_start start) text ≡ so_far exchange start text
 heard_so_far exchange start text =
-    ap (λ (at : Hearing). heard exchange at text) (nothing_heard exchange start) ∙ heard-so_far exchange start [] text
+    ap (λ (at : Hearing). processed exchange at text) (nothing_heard exchange start) ∙ processed-so_far exchange start [] text
 
 -- ---- a piece
 
@@ -199,24 +199,24 @@ with_byte-behind exchange said at byte = by (is_line_end byte) where
       (append_assoc said at.answers (world_after_line exchange at.world at.line).answer)
   by false = refl
 
-heard-behind : (exchange : Exchange) (said : List ℕ) (at : Hearing) (piece : List ℕ)
-    → heard exchange (behind said at) piece ≡ behind said (heard exchange at piece)
-unfolding heard
-heard-behind exchange said at [] = refl
-heard-behind exchange said at (byte ∷ piece) =
-    ap (λ (z : Hearing). heard exchange z piece) (with_byte-behind exchange said at byte)
-    ∙ heard-behind exchange said (with_byte exchange at byte) piece
+processed-behind : (exchange : Exchange) (said : List ℕ) (at : Hearing) (piece : List ℕ)
+    → processed exchange (behind said at) piece ≡ behind said (processed exchange at piece)
+unfolding processed
+processed-behind exchange said at [] = refl
+processed-behind exchange said at (byte ∷ piece) =
+    ap (λ (z : Hearing). processed exchange z piece) (with_byte-behind exchange said at byte)
+    ∙ processed-behind exchange said (with_byte exchange at byte) piece
 
 -- of a text and a piece behind it: the answers to the piece come behind those to the text
 pub heard_piece : (exchange : Exchange) (start world : World) (text piece line said : List ℕ)
-    → record { world = world; line = line; answers = said } ≡ heard exchange (at_start start) text
-    → heard exchange (at_start start) (text ++ piece)
-    ≡ behind said (heard exchange (record { world = world; line = line; answers = [] }) piece)
+    → record { world = world; line = line; answers = said } ≡ processed exchange (at_start start) text
+    → processed exchange (at_start start) (text ++ piece)
+    ≡ behind said (processed exchange (record { world = world; line = line; answers = [] }) piece)
 heard_piece exchange start world text piece line said is =
-    heard-append exchange (at_start start) text piece
-    ∙ ap (λ (at : Hearing). heard exchange at piece) (sym is
+    processed-append exchange (at_start start) text piece
+    ∙ ap (λ (at : Hearing). processed exchange at piece) (sym is
     ∙ ap (λ (xs : List ℕ). record { world = world; line = line; answers = xs }) (sym (append-nil said)))
-    ∙ heard-behind exchange said (record { world = world; line = line; answers = [] }) piece
+    ∙ processed-behind exchange said (record { world = world; line = line; answers = [] }) piece
 
 -- ---- runs
 

@@ -44,9 +44,9 @@ with_byte exchange at byte =
     if is_line_end byte then with_line_ended exchange at else record at { line = at.line ++ byte ∷ [] }
 
 -- so many bytes more, one after another
-unfoldable pub heard : Exchange → Hearing → List ℕ → Hearing
-heard exchange at [] = at
-heard exchange at (byte ∷ bytes) = heard exchange (with_byte exchange at byte) bytes
+unfoldable pub processed : Exchange → Hearing → List ℕ → Hearing
+processed exchange at [] = at
+processed exchange at (byte ∷ bytes) = processed exchange (with_byte exchange at byte) bytes
 
 -- before the first
 abbrev pub at_start : World → Hearing
@@ -55,11 +55,11 @@ at_start world = record { world = world; line = []; answers = [] }
 -- these bytes were heard, and their answers written behind so many bytes
 pub record HasHeard (exchange : Exchange) (old new : World) (line kept piece : List ℕ) (sent : ℕ)
     (held holds : Option (List ℕ)) (now : ℕ) : Type 0 where
-  pub world_is : new ≡ (heard exchange (record { world = old; line = line; answers = [] }) piece).world
-  pub line_is : kept ≡ (heard exchange (record { world = old; line = line; answers = [] }) piece).line
-  pub written : Appends held holds (heard exchange (record { world = old; line = line; answers = [] }) piece).answers
+  pub world_is : new ≡ (processed exchange (record { world = old; line = line; answers = [] }) piece).world
+  pub line_is : kept ≡ (processed exchange (record { world = old; line = line; answers = [] }) piece).line
+  pub written : Appends held holds (processed exchange (record { world = old; line = line; answers = [] }) piece).answers
   pub count_is : now
-      ≡ sent + length (heard exchange (record { world = old; line = line; answers = [] }) piece).answers
+      ≡ sent + length (processed exchange (record { world = old; line = line; answers = [] }) piece).answers
 
 -- ---- text as it goes
 

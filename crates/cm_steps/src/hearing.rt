@@ -3,7 +3,7 @@
 ghost use Rattle.std.specs.Prelude.{◌≡◌, ◌≤◌, ◌<◌, ◌∷◌, [], length, take, slice_index, OnOk};
 ghost use Rattle.cm_session.specs.Answer.{refusal_number, refused_line};
 ghost use Rattle.cm_bits.specs.Text.{IsUnended};
-ghost use Rattle.cm_steps.specs.Hearing.{exchange_in, heard, with_line_ended, IsOfRun};
+ghost use Rattle.cm_steps.specs.Hearing.{exchange_in, processed, with_line_ended, IsOfRun};
 ghost use Rattle.cm_steps.specs.Session.{world_after_line};
 
 use crate::reader::read_step;
@@ -22,7 +22,7 @@ pub fn hear<const N: usize, const CAP: usize>(
 ) -> Result<(), AllocError>
     ensures run { IsOfRun world.old world.new }
     ensures ok { OnOk result (record { world = world.new.world; line = line.new.items; answers = answers.new.items }
-        ≡ heard (exchange_in N CAP world.old)
+        ≡ processed (exchange_in N CAP world.old)
         (record { world = world.old.world; line = line.old.items; answers = answers.old.items }) piece.now) }
 {
     let mut done = 0;

@@ -4,7 +4,8 @@ ghost use Rattle.std.specs.Prelude.{◌≡◌, ◌↔◌, ◌+◌, ◌<◌, ◌^
 ghost use Rattle.std.specs.Prelude.{MatchResult};
 ghost use Rattle.cm_model.specs.Machine.{run_of};
 ghost use Rattle.cm_steps.specs.Ends.{is_weave_write, EndsBy, EndsByForSome, EndsFinished, EndsFinishedForSome};
-ghost use Rattle.cm_steps.specs.Hearing.{exchange_in, heard, TextAborts, HasHeard, IsHeard, IsHeardForSome, IsOfRun};
+ghost use Rattle.cm_steps.specs.Hearing.{exchange_in, processed, TextAborts, HasHeard, IsHeard, IsHeardForSome};
+ghost use Rattle.cm_steps.specs.Hearing.{IsOfRun};
 
 use crate::fault::WeaveFault;
 use crate::hearing::hear;
@@ -130,7 +131,7 @@ fn tell<const N: usize, const CAP: usize, O: Sink>(
     ensures ok { IfOk result (HasHeard (exchange_in N CAP world.old) world.old.world world.new.world line.old.items
         line.new.items piece.now sent (O.contents out.old) (O.contents out.new)) }
     ensures few { IfOk result (λ now. now < sent + 2 ^ 64) }
-    ensures err { IfErr result (TextAborts (heard (exchange_in N CAP world.old)
+    ensures err { IfErr result (TextAborts (processed (exchange_in N CAP world.old)
         (record { world = world.old.world; line = line.old.items; answers = [] }) piece.now).answers sent
         (O.contents out.old) (O.contents out.new)) }
     ensures write { O.has_failed out.new ≡ is_weave_write result }

@@ -35,8 +35,8 @@ use Rattle.cm_exchange.specs.declared.stand.Stand.{Stand}
 use Rattle.cm_exchange.specs.Lanes.{exchange_of, kind_count}
 use Rattle.cm_exchange.specs.Worlds.{at_first, unused_lane, first_world}
 use Rattle.cm_weave.specs.declared.lane.Lane.{Lane}
-use Rattle.cm_weave.specs.declared.first.Begun.{Begun}
-use Rattle.cm_weave.specs.First.{IsFirstBlock, HasBegun, AreBeginning, AreUnused, IsBegun}
+use Rattle.cm_weave.specs.declared.first.Prepared.{Prepared}
+use Rattle.cm_weave.specs.First.{IsFirstBlock, HasBegun, AreBeginning, AreUnused, IsPrepared}
 use Rattle.cm_weave.specs.Parts.{part_at_stand}
 use Rattle.cm_weave.specs.Woven.{lane_seen, world_seen, StandsThere, AreWoven}
 use Rattle.cm_weave.proofs.Clocks.{clock_after_all}
@@ -259,11 +259,11 @@ module _ (n cap k : ℕ) (machine : Machine) (acts : List Act) (rounds_kept : Li
     blank = λ i d l test. (all_blank.each i d l).parcel;
   }
 
-pub is_begun : (n cap k : ℕ) (machine : Machine) (acts : List Act) (begun : Begun) → n ≤ 12 → length acts ≤ 4096
+pub is_begun : (n cap k : ℕ) (machine : Machine) (acts : List Act) (begun : Prepared) → n ≤ 12 → length acts ≤ 4096
     → k ≤ n - n / 2 → begun.acts.items ≡ acts → begun.rounds.items ≡ rounds_of n k acts
     → AreBeginning n cap k machine acts (2 ^ k) begun.blocks.items
     → begun.stands.items ≡ replicate (2 ^ k) at_first
-    → AreUnused n k (kind_count k * 2 ^ k) begun.lanes.items → IsBegun n cap k machine acts begun
+    → AreUnused n k (kind_count k * 2 ^ k) begun.lanes.items → IsPrepared n cap k machine acts begun
 is_begun n cap k machine acts begun few acts_few within acts_are rounds_are blocks_are stands_are lanes_are = record {
   acts_are = acts_are;
   woven =

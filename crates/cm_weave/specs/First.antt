@@ -13,7 +13,7 @@ use Rattle.cm_subcube.specs.Laws.{all_blocks}
 use Rattle.cm_subcube.specs.Local.{local_after}
 use Rattle.cm_exchange.specs.Lanes.{exchange_of}
 use Rattle.cm_exchange.specs.Worlds.{first_world}
-use Rattle.cm_weave.specs.declared.first.Begun.{Begun}
+use Rattle.cm_weave.specs.declared.first.Prepared.{Prepared}
 use Rattle.cm_weave.specs.declared.lane.Lane.{Lane}
 use Rattle.cm_weave.specs.Woven.{Woven, world_seen, blank_of, AreWoven}
 
@@ -53,7 +53,7 @@ pub record AreUnused (n k count : ℕ) (lanes : List Lane) : Type 0 where
   pub each : (i : ℕ) (d : Lane) → i < length lanes → IsUnused n k i (get_or lanes i d)
 
 -- what a world of a run begins with
-pub record IsBegun (n cap k : ℕ) (machine : Machine) (acts : List Act) (begun : Begun) : Type 0 where
+pub record IsPrepared (n cap k : ℕ) (machine : Machine) (acts : List Act) (begun : Prepared) : Type 0 where
   pub acts_are : begun.acts.items ≡ acts
   pub woven : AreWoven n cap k machine begun.acts.items begun.rounds.items begun.blocks.items begun.stands.items
       begun.lanes.items

@@ -6,7 +6,7 @@ ghost use Rattle.cm_array.specs.Acts.{cycles_in};
 ghost use Rattle.cm_exchange.specs.Lanes.{kind_count};
 ghost use Rattle.cm_exchange.specs.Worlds.{at_first};
 ghost use Rattle.cm_weave.specs.Faults.{world_fault};
-ghost use Rattle.cm_weave.specs.First.{AreBeginning, AreUnused, IsBegun};
+ghost use Rattle.cm_weave.specs.First.{AreBeginning, AreUnused, IsPrepared};
 
 use crate::kinds::{block_count, kind_numbered};
 use crate::lane::Lane;
@@ -53,7 +53,7 @@ pub struct Refused<const N: usize, const CAP: usize> {
 
 /// What a world has beside its machine.
 #[derive(Drop)]
-pub(crate) struct Begun {
+pub(crate) struct Prepared {
     pub(crate) acts: Vec<Act>,
     pub(crate) rounds: Vec<Round>,
     pub(crate) blocks: Vec<Block>,
@@ -67,15 +67,15 @@ pub(crate) fn begin<const N: usize, const CAP: usize>(
     machine: &Machine<N, CAP>,
     acts: &[Act],
     k: u8,
-) -> Result<Begun, WorldFault>
-    ensures value { IfOk result (IsBegun N CAP k machine.now.machine acts.now) }
+) -> Result<Prepared, WorldFault>
+    ensures value { IfOk result (IsPrepared N CAP k machine.now.machine acts.now) }
     ensures ok { IsOk result → world_fault N k machine.now.machine.clock acts.now ≡ None }
     ensures fault { IfErr result (λ fault. fault
         ≡ unwrap_or (world_fault N k machine.now.machine.clock acts.now) WorldFault.Memory) }
 {
     let cycles = look_at(machine, acts, k)?;
     let dims = machine.dims();
-    Ok(Begun {
+    Ok(Prepared {
         acts: copied(alloc, acts)?,
         rounds: rounds(alloc, dims, acts, k)?,
         blocks: first_blocks(alloc, machine, acts, k, cycles)?,

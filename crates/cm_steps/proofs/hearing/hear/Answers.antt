@@ -1,11 +1,11 @@
 use Rattle.std.proofs.Common.{◌∙◌, refl, ap, arith}
 use Rattle.cm_exchange.specs.Lanes.{Exchange}
-use Rattle.cm_steps.specs.Hearing.{exchange_in, heard, with_line_ended}
+use Rattle.cm_steps.specs.Hearing.{exchange_in, processed, with_line_ended}
 use Rattle.cm_steps.proofs.Pieces.{exchange_kept, own_run, same_run, heard_rest, heard_line}
 use Rattle.cm_steps.proofs.hearing.hear.Goals as goal
 
 pub loop-done-init : goal.loop-done-init
-unfolding heard
+unfolding processed
 loop-done-init g c = record { run = own_run c.args.world.now; within = omega arith; heard = refl }
 
 pub returns-then-len-rest-clause-ok : goal.returns-then-len-rest-clause-ok

@@ -1,5 +1,5 @@
 use Rattle.std.proofs.Common.{◌≡◌, ◌≤◌, ◌-◌, length, take}
-use Rattle.cm_steps.specs.Hearing.{exchange_in, heard, IsOfRun}
+use Rattle.cm_steps.specs.Hearing.{exchange_in, processed, IsOfRun}
 use Rattle.cm_steps.proofs.hearing.hear.Given as goal
 
 abbrev pub invariant-loop-done : goal.invariant-loop-done
@@ -7,7 +7,7 @@ invariant-loop-done g l = record {
   run : IsOfRun l.fn.world l.world;
   within : l.done ≤ length l.piece;
   heard : record { world = l.world.world; line = l.line.items; answers = l.answers.items }
-      ≡ heard (exchange_in g.row.N g.row.CAP l.fn.world)
+      ≡ processed (exchange_in g.row.N g.row.CAP l.fn.world)
       (record { world = l.fn.world.world; line = l.fn.line.items; answers = l.fn.answers.items })
       (take l.done l.piece);
 }

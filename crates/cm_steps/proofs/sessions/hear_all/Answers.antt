@@ -1,7 +1,7 @@
 use Rattle.std.proofs.Common.{◌≡◌, ◌∷◌, [], ◌++◌, take, ℕ, ◌∙◌, subst, arith}
 use Rattle.std.specs.Io.KnownBytes.{Consumes}
 use Rattle.cm_exchange.specs.Lanes.{Exchange}
-use Rattle.cm_steps.specs.Hearing.{exchange_in, heard, TextAborts, HasHeard}
+use Rattle.cm_steps.specs.Hearing.{exchange_in, processed, TextAborts, HasHeard}
 use Rattle.cm_steps.proofs.Pieces.{exchange_kept, own_run, same_run}
 use Rattle.cm_steps.proofs.Ending.{at_first_byte, midway_on, ends_read, ends_in_read, ends_over, heard_closed}
 use Rattle.cm_steps.proofs.Ending.{heard_last, ends_last, is_none, has_some, taken_whole}
@@ -37,7 +37,7 @@ returns-in-Err-tell-clause-err g c =
     ends_in_read (exchange_in g.row.N g.row.CAP c.args.world.now) c.args.world.now.world _ _ so.text _ _ _ _ _ _
     so.midway c.read.new.buf c.in-Ok.count c.min-room.result (g.O.Sink.contents c.tell.new.out) c.in-Err-tell.fault
     c.min-room.ensures
-    (subst (λ (e : Exchange). TextAborts (heard e (record {
+    (subst (λ (e : Exchange). TextAborts (processed e (record {
       world = c.loop-count.world.world;
       line = c.loop-count.line.items;
       answers = [];
@@ -53,7 +53,7 @@ returns-in-Err-tell-clause-heard g c =
     some_in_read (exchange_in g.row.N g.row.CAP c.args.world.now) c.args.world.now.world _ _ so.text _ _ _ _ _ _
     so.midway c.read.new.buf c.in-Ok.count c.min-room.result (g.O.Sink.contents c.tell.new.out) c.in-Err-tell.fault
     c.min-room.ensures
-    (subst (λ (e : Exchange). TextAborts (heard e (record {
+    (subst (λ (e : Exchange). TextAborts (processed e (record {
       world = c.loop-count.world.world;
       line = c.loop-count.line.items;
       answers = [];
@@ -165,7 +165,7 @@ returns-clause-err g c =
     c.in-Err-tell-2.fault
     (has_some c.loop-count.line.items c.loop-count.line.len c.is_empty.result (omega (arith, c.loop-count.line.ok.0))
     c.is_empty.ensures c.if-is_empty.false)
-    (subst (λ (e : Exchange). TextAborts (heard e (record {
+    (subst (λ (e : Exchange). TextAborts (processed e (record {
       world = c.loop-count.world.world;
       line = c.loop-count.line.items;
       answers = [];
@@ -181,7 +181,7 @@ returns-clause-heard g c =
     so.midway (g.O.Sink.contents c.tell-2.new.out) c.in-Err-tell-2.fault
     (has_some c.loop-count.line.items c.loop-count.line.len c.is_empty.result (omega (arith, c.loop-count.line.ok.0))
     c.is_empty.ensures c.if-is_empty.false)
-    (subst (λ (e : Exchange). TextAborts (heard e (record {
+    (subst (λ (e : Exchange). TextAborts (processed e (record {
       world = c.loop-count.world.world;
       line = c.loop-count.line.items;
       answers = [];

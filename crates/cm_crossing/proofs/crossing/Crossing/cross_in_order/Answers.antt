@@ -4,7 +4,7 @@ use Rattle.std.proofs.lemmas.Bool.{cases_lt}
 use Rattle.std.proofs.lemmas.List.{length-map}
 use Rattle.std.proofs.lemmas.Nat.{pow_below}
 use Rattle.cm_router.specs.Routes.{routing_of}
-use Rattle.cm_crossing.specs.Standing.{UnderWay, standing}
+use Rattle.cm_crossing.specs.Standing.{InFlight, standing}
 use Rattle.cm_crossing.proofs.Carrying.{as_many}
 use Rattle.cm_crossing.proofs.Leaving.{whole_crossed, whole_crossed_long, whole_crossed_kept, whole_crossed_within}
 use Rattle.cm_crossing.proofs.crossing.Crossing.cross_in_order.Goals as goal
@@ -24,7 +24,7 @@ cross-requires-clause-within c =
 pub invariant_of-self : goal.invariant_of-self
 invariant_of-self c =
     let was = c.self.invariant in
-    let are = ap (λ (crossing : UnderWay). crossing.buffers) c.self.view_is in
+    let are = ap (λ (crossing : InFlight). crossing.buffers) c.self.view_is in
     let long = whole_crossed_long c.deref.result.now c.self.inside.row.items c.deref.ensures.value
     (routing_of c.args.routing.now) c.args.sizes.room c.args.dim c.args.span c.args.first c.self.inside.slots
     c.cross.new.slots c.args.self.now.buffers are c.cross.ensures.value in
@@ -46,7 +46,7 @@ invariant_of-self c =
 
 pub returns : goal.returns
 returns c =
-    let are = ap (λ (crossing : UnderWay). crossing.buffers) c.self.view_is in
+    let are = ap (λ (crossing : InFlight). crossing.buffers) c.self.view_is in
     record {
       value = whole_crossed c.deref.result.now c.self.inside.row.items c.deref.ensures.value
           (routing_of c.args.routing.now) c.args.sizes.room c.args.dim c.args.span c.args.first c.self.inside.slots

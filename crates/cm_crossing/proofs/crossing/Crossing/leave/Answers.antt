@@ -2,7 +2,7 @@ use Rattle.std.proofs.Common.{◌≤◌, ◌∙◌, ap, map, arith}
 use Rattle.std.specs.Option.{option_map}
 use Rattle.std.specs.Vec.{with_items}
 use Rattle.cm_router.specs.Routes.{routing_of}
-use Rattle.cm_crossing.specs.Standing.{UnderWay, message_of_ticket}
+use Rattle.cm_crossing.specs.Standing.{InFlight, message_of_ticket}
 use Rattle.cm_crossing.proofs.Carrying.{as_many}
 use Rattle.cm_crossing.proofs.Leaving.{whole_left, whole_left_long, whole_left_kept, whole_gone, whole_gone_kept}
 use Rattle.cm_crossing.proofs.Leaving.{whole_left_within, whole_left_space}
@@ -15,7 +15,7 @@ leave-requires-clause-within c =
 
 pub read_off-requires-clause-kept : goal.read_off-requires-clause-kept
 read_off-requires-clause-kept c =
-    let are = ap (λ (crossing : UnderWay). crossing.buffers) c.self.view_is in
+    let are = ap (λ (crossing : InFlight). crossing.buffers) c.self.view_is in
     rw (c.deref-2.ensures.value, ← c.deref.ensures.value) (whole_gone_kept c.deref.result.now c.self.inside.row.items c.deref.ensures.value
     (routing_of c.args.routing.now) c.args.sizes.room c.args.dim c.args.first c.self.inside.slots
     c.leave.new.slots c.args.self.now.buffers are c.leave.ensures.value c.leave.new.leavers c.leave.ensures.going
@@ -24,7 +24,7 @@ read_off-requires-clause-kept c =
 pub invariant_of-self : goal.invariant_of-self
 invariant_of-self c =
     let was = c.self.invariant in
-    let are = ap (λ (crossing : UnderWay). crossing.buffers) c.self.view_is in
+    let are = ap (λ (crossing : InFlight). crossing.buffers) c.self.view_is in
     let long = whole_left_long c.deref.result.now c.self.inside.row.items c.deref.ensures.value
     (routing_of c.args.routing.now) c.args.sizes.room c.args.dim c.args.first c.self.inside.slots
     c.leave.new.slots c.args.self.now.buffers are c.leave.ensures.value in
@@ -45,7 +45,7 @@ invariant_of-self c =
 
 pub returns : goal.returns
 returns c =
-    let are = ap (λ (crossing : UnderWay). crossing.buffers) c.self.view_is in
+    let are = ap (λ (crossing : InFlight). crossing.buffers) c.self.view_is in
     record {
       value = whole_left c.deref.result.now c.self.inside.row.items c.deref.ensures.value
           (routing_of c.args.routing.now) c.args.sizes.room c.args.dim c.args.first c.self.inside.slots

@@ -1,6 +1,6 @@
 use Rattle.std.proofs.Common.{◌≡◌, length, map, ap, ◌∙◌, arith}
 use Rattle.std.proofs.lemmas.List.{length-map}
-use Rattle.cm_crossing.specs.Standing.{UnderWay}
+use Rattle.cm_crossing.specs.Standing.{InFlight}
 use Rattle.cm_crossing.specs.Ranking.{moved_ticket, HaveMoved}
 use Rattle.cm_crossing.proofs.Rising.{none_rising, all_kept_moved, all_standing_moved}
 use Rattle.cm_crossing.proofs.crossing.Crossing.rank_anew.Goals as goal
@@ -35,5 +35,5 @@ returns-then-rearrange c =
     rw (c.deref-then-rearrange.ensures.value, ← c.deref-2.ensures.value) (c.rearrange.ensures.value c.if-rearrange.true) in
     record {
       value = rw (c.swap.ensures.x_after, c.renumber.ensures.value) (all_standing_moved have queues c.self.invariant.kept)
-          ∙ ap (λ (crossing : UnderWay). crossing.buffers) c.self.view_is;
+          ∙ ap (λ (crossing : InFlight). crossing.buffers) c.self.view_is;
     }
