@@ -24,11 +24,11 @@ use Rattle.cm_subcube.proofs.Joining.{joined-blocks, AreWhole-blocks}
 use Rattle.cm_workers.specs.Dealing.{hand, AreDealt, AreShares}
 use Rattle.cm_workers.specs.Runs.{AreAfter}
 use Rattle.cm_resident.specs.declared.worker.Worker.{Worker}
-use Rattle.cm_resident.specs.declared.running.Ready.{Ready}
+use Rattle.cm_resident.specs.declared.running.PendingWorker.{PendingWorker}
 use Rattle.cm_resident.specs.Lanes.{Run, before, rounds_in}
 use Rattle.cm_resident.specs.Teams.{IsOfTeam, IsOfSome, IsTeam, HasWorked, HaveWorked}
 use Rattle.cm_resident.specs.Laws.{LeaveTheirMachine, TeamsLeaveTheirMachine}
-use Rattle.cm_resident.specs.Lineups.{AreLinedUp}
+use Rattle.cm_resident.specs.TeamSetups.{AreLinedUp}
 
 -- ---- the blocks of all workers
 
@@ -131,25 +131,25 @@ teams_leave_their_machine run count team shares some is_machine is have =
     }
 
 -- what threads promise that were handed a team
-pub have_worked : (team : List Worker) (readies : List Ready) (shares : List (Vec KeptBlock Global))
+pub have_worked : (team : List Worker) (readies : List PendingWorker) (shares : List (Vec KeptBlock Global))
     → length readies ≡ length team → length shares ≡ length readies
-    → ((w : ℕ) (d : Ready) (e : Worker) → w < length team → (get_or readies w d).worker ≡ get_or team w e)
-    → ((w : ℕ) (d : Ready) (e : Vec KeptBlock Global) → w < length readies
+    → ((w : ℕ) (d : PendingWorker) (e : Worker) → w < length team → (get_or readies w d).worker ≡ get_or team w e)
+    → ((w : ℕ) (d : PendingWorker) (e : Vec KeptBlock Global) → w < length readies
     → HasWorked (get_or readies w d).worker (get_or shares w e).items)
     → HaveWorked team shares
 have_worked team readies shares ready_count share_count ready have = record {
   len = share_count ∙ ready_count;
   each = λ w d e l.
       let there : w < length readies = omega (arith, l, ready_count) in
-      let r : Ready = first_of readies (omega (arith, there)) in
+      let r : PendingWorker = first_of readies (omega (arith, there)) in
       subst (λ (x : Worker). HasWorked x (hand shares e w)) (ready w r d l) (have w r e there);
 }
 
 -- a team that was lined up and has worked leaves its machine
-pub lined_up_leave : (run : Run) (count : ℕ) (readies : List Ready) (shares : List (Vec KeptBlock Global))
+pub lined_up_leave : (run : Run) (count : ℕ) (readies : List PendingWorker) (shares : List (Vec KeptBlock Global))
     → 0 < length readies → IsMachine run.n run.room run.machine → AreLinedUp run count readies
     → length shares ≡ length readies
-    → ((w : ℕ) (d : Ready) (e : Vec KeptBlock Global) → w < length readies
+    → ((w : ℕ) (d : PendingWorker) (e : Vec KeptBlock Global) → w < length readies
     → HasWorked (get_or readies w d).worker (get_or shares w e).items)
     → LeaveTheirMachine run shares
 lined_up_leave run count readies shares some is_machine lined share_count have =
@@ -158,8 +158,8 @@ lined_up_leave run count readies shares some is_machine lined share_count have =
     (have_worked lined.team readies shares lined.len share_count lined.each have)
 
 -- who waits for a start word is of some team
-pub lined_up_of_some : (run : Run) (count : ℕ) (readies : List Ready) → AreLinedUp run count readies
-    → (w : ℕ) (d : Ready) → w < length readies → IsOfSome (get_or readies w d).worker
+pub lined_up_of_some : (run : Run) (count : ℕ) (readies : List PendingWorker) → AreLinedUp run count readies
+    → (w : ℕ) (d : PendingWorker) → w < length readies → IsOfSome (get_or readies w d).worker
 lined_up_of_some run count readies lined w d below =
     let there : w < length lined.team = (let f = lined.len in omega (arith, below, f)) in
     let e : Worker = first_of lined.team (omega (arith, there)) in
@@ -168,7 +168,7 @@ lined_up_of_some run count readies lined w d below =
     (record { run = run; count = count; of = lined.is.each w e one })
 
 -- who waits for a start word has the number of its place
-pub lined_up_id : (run : Run) (count w : ℕ) (readies : List Ready) (d : Ready) → AreLinedUp run count readies
+pub lined_up_id : (run : Run) (count w : ℕ) (readies : List PendingWorker) (d : PendingWorker) → AreLinedUp run count readies
     → w < count → (get_or readies w d).worker.id ≡ w
 lined_up_id run count w readies d lined below =
     let there : w < length lined.team = (let f = lined.is.len in omega (arith, below, f)) in

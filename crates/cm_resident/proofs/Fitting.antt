@@ -18,11 +18,11 @@ use Rattle.cm_subcube.specs.Laws.{all_blocks}
 use Rattle.cm_subcube.proofs.Joining.{clock-block}
 use Rattle.cm_board.specs.Courses.{Course}
 use Rattle.cm_workers.specs.Dealing.{hand, AreDealt}
-use Rattle.cm_resident.specs.declared.outfit.Outfit.{Outfit}
+use Rattle.cm_resident.specs.declared.worker_parts.WorkerParts.{WorkerParts}
 use Rattle.cm_resident.specs.Lanes.{Run, ends_each, course, own, givers}
 use Rattle.cm_resident.specs.Standing.{block_number, IsRunBlock, AreEndsBefore, IsUnused}
 use Rattle.cm_resident.specs.Gathering.{AreAll, AreFrom}
-use Rattle.cm_resident.specs.Teams.{HasEnds, IsOutfit, HasOutfits}
+use Rattle.cm_resident.specs.Teams.{HasEnds, IsWorkerParts, HasWorkerParts}
 use Rattle.cm_resident.proofs.Places.{place_below}
 use Rattle.cm_resident.proofs.Numbered.{none_yet, one_more}
 
@@ -103,14 +103,15 @@ none_of_them run count w = record {
 }
 
 -- one more of them
-pub one_more_of_them : (run : Run) (count w m : ℕ) (outfits : List Outfit) (one : Outfit) (blocks blocks_now : List KeptBlock)
-    (sends sends_now gets gets_now : List (Course Parcel)) → HasOutfits run count w outfits → m < length outfits
-    → one ≡ get_or outfits m one → HasFirst run count w m blocks sends gets
+pub one_more_of_them : (run : Run) (count w m : ℕ) (worker_parts : List WorkerParts) (one : WorkerParts)
+    (blocks blocks_now : List KeptBlock)
+    (sends sends_now gets gets_now : List (Course Parcel)) → HasWorkerParts run count w worker_parts → m < length worker_parts
+    → one ≡ get_or worker_parts m one → HasFirst run count w m blocks sends gets
     → blocks_now ≡ blocks ++ one.block ∷ [] → sends_now ≡ sends ++ one.sends.items → gets_now ≡ gets ++ one.gets.items
     → HasFirst run count w (m + 1) blocks_now sends_now gets_now
-one_more_of_them run count w m outfits one blocks blocks_now sends sends_now gets gets_now has below is first b s g =
-    let it : IsOutfit run (block_number count w m) one =
-    subst (λ (x : Outfit). IsOutfit run (block_number count w m) x) (sym is) (has.each m one below) in record {
+one_more_of_them run count w m worker_parts one blocks blocks_now sends sends_now gets gets_now has below is first b s g =
+    let it : IsWorkerParts run (block_number count w m) one =
+    subst (λ (x : WorkerParts). IsWorkerParts run (block_number count w m) x) (sym is) (has.each m one below) in record {
       blocks_are = one_more (λ i. IsRunBlock run (block_number count w i)) m blocks blocks_now one.block first.blocks_are b it.cut;
       sends_are = subst (λ (ends : List (Course Parcel)). AreEndsBefore run own 0 count w (m + 1) ends) (sym s)
           (ends_more run own count w m sends one.sends.items first.sends_are it.sends_are);
@@ -119,13 +120,13 @@ one_more_of_them run count w m outfits one blocks blocks_now sends sends_now get
     }
 
 -- all of them
-pub has_all : (run : Run) (count w : ℕ) (outfits : List Outfit) (blocks : List KeptBlock) (sends gets : List (Course Parcel))
-    → run.k ≤ run.n - run.n / 2 → w < count → w < 2 ^ run.k → HasOutfits run count w outfits
-    → HasFirst run count w (length outfits) blocks sends gets
+pub has_all : (run : Run) (count w : ℕ) (worker_parts : List WorkerParts) (blocks : List KeptBlock) (sends gets : List (Course Parcel))
+    → run.k ≤ run.n - run.n / 2 → w < count → w < 2 ^ run.k → HasWorkerParts run count w worker_parts
+    → HasFirst run count w (length worker_parts) blocks sends gets
     → IsUnused run count w blocks sends gets
-has_all run count w outfits blocks sends gets within one_of there has first =
-    let many : length blocks ≡ length outfits = first.blocks_are.len in
-    let some : 0 < length outfits = (has.share 0).1 (let at : block_number count w 0 ≡ w = omega arith in omega (arith, at, there)) in
+has_all run count w worker_parts blocks sends gets within one_of there has first =
+    let many : length blocks ≡ length worker_parts = first.blocks_are.len in
+    let some : 0 < length worker_parts = (has.share 0).1 (let at : block_number count w 0 ≡ w = omega arith in omega (arith, at, there)) in
     record {
       within = within;
       one_of = one_of;
@@ -138,20 +139,20 @@ has_all run count w outfits blocks sends gets within one_of there has first =
 
 -- ---- outfits that were dealt out
 
-pub are_hands : (run : Run) (count : ℕ) (outfits : List Outfit) (hands : List (Vec Outfit Global))
-    → AreAll (IsOutfit run) (2 ^ run.k) outfits → AreDealt count outfits hands
-    → AreFrom (λ w hand. HasOutfits run count w hand.items) 0 count hands
-are_hands run count outfits hands are dealt = record {
+pub are_hands : (run : Run) (count : ℕ) (worker_parts : List WorkerParts) (hands : List (Vec WorkerParts Global))
+    → AreAll (IsWorkerParts run) (2 ^ run.k) worker_parts → AreDealt count worker_parts hands
+    → AreFrom (λ w hand. HasWorkerParts run count w hand.items) 0 count hands
+are_hands run count worker_parts hands are dealt = record {
   len = (let f = dealt.len in omega (arith, f));
   each = λ w e l.
       let at : w ≡ 0 + w = omega arith in
       let one_of : w < count = omega (arith, l) in
-      subst (λ (v : ℕ). HasOutfits run count v (hand hands e w)) at (record {
+      subst (λ (v : ℕ). HasWorkerParts run count v (hand hands e w)) at (record {
         share = λ i. subst (λ (m : ℕ). (i < length (hand hands e w)) ↔ (block_number count w i < m)) are.len
             (dealt.shares w i e one_of);
         each = λ i d k.
-            let there : block_number count w i < length outfits = (dealt.shares w i e one_of).0 k in
-            subst (λ (x : Outfit). IsOutfit run (block_number count w i) x) (sym (dealt.each w i e d one_of there))
+            let there : block_number count w i < length worker_parts = (dealt.shares w i e one_of).0 k in
+            subst (λ (x : WorkerParts). IsWorkerParts run (block_number count w i) x) (sym (dealt.each w i e d one_of there))
             (are.each (block_number count w i) d (let f = are.len in omega (arith, f, there)));
       });
 }

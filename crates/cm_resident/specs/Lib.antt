@@ -5,4 +5,4 @@ pub mod Teams
 pub mod Starting
 pub mod Gathering
 pub mod Laws
-pub mod Lineups
+pub mod TeamSetups

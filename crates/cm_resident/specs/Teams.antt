@@ -9,7 +9,7 @@ use Rattle.cm_subcube.specs.Blocks.{KeptBlock}
 use Rattle.cm_board.specs.Courses.{Course}
 use Rattle.cm_workers.specs.Dealing.{hand}
 use Rattle.cm_workers.specs.Gates.{HasSeen}
-use Rattle.cm_resident.specs.declared.outfit.Outfit.{Outfit}
+use Rattle.cm_resident.specs.declared.worker_parts.WorkerParts.{WorkerParts}
 use Rattle.cm_resident.specs.declared.worker.Worker.{Worker}
 use Rattle.cm_resident.specs.Lanes.{Run, before, rounds_in, ends_each, course, own, givers}
 use Rattle.cm_resident.specs.Standing.{block_number, IsRunBlock, IsWorkerBefore, IsUnused}
@@ -60,15 +60,15 @@ abbrev pub HasEnds : Run → (Run → ℕ → ℕ → ℕ) → ℕ → List (Cou
 HasEnds run whose b ends = AreAll (λ j. IsEnd run whose j b) (ends_each run.k) ends
 
 -- block b as it was cut out, and its ends
-pub record IsOutfit (run : Run) (b : ℕ) (one : Outfit) : Type 0 where
+pub record IsWorkerParts (run : Run) (b : ℕ) (one : WorkerParts) : Type 0 where
   pub cut : IsRunBlock run b one.block
   pub sends_are : HasEnds run own b one.sends.items
   pub gets_are : HasEnds run givers b one.gets.items
 
 -- worker w of so many has those of its blocks
-pub record HasOutfits (run : Run) (count w : ℕ) (outfits : List Outfit) : Type 0 where
-  pub share : (i : ℕ) → (i < length outfits) ↔ (block_number count w i < 2 ^ run.k)
-  pub each : (i : ℕ) (d : Outfit) → i < length outfits → IsOutfit run (block_number count w i) (get_or outfits i d)
+pub record HasWorkerParts (run : Run) (count w : ℕ) (worker_parts : List WorkerParts) : Type 0 where
+  pub share : (i : ℕ) → (i < length worker_parts) ↔ (block_number count w i < 2 ^ run.k)
+  pub each : (i : ℕ) (d : WorkerParts) → i < length worker_parts → IsWorkerParts run (block_number count w i) (get_or worker_parts i d)
 
 -- all workers of a team for a run, in order of their numbers
 pub record IsTeam (run : Run) (count : ℕ) (team : List Worker) : Type 0 where

@@ -10,7 +10,7 @@ ghost use Rattle.cm_array.specs.Faults.{CountsLacks, is_no_thread};
 ghost use Rattle.cm_workers.specs.Forks.{fork_fault};
 
 use crate::resident::{Share, fault_of, run, share_of, told};
-use crate::worth::is_soon_done;
+use crate::short_lists::is_soon_done;
 use cm_array::{Machine, Part, Plain, RunFault, Runner, check_stretch};
 use cm_bits::NoMemory;
 use cm_model::Act;

@@ -7,15 +7,15 @@ mod gathering;
 mod held;
 mod lanes;
 mod laws;
-mod outfit;
 mod resident;
 mod running;
+mod short_lists;
 mod start;
 mod teams;
 mod together;
 mod turn;
 mod worker;
-mod worth;
+mod worker_parts;
 
 pub use chooser::Chooser;
 pub use gathering::in_order;

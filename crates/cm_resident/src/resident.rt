@@ -12,10 +12,10 @@ ghost use Rattle.cm_array.specs.Acts.{cycles_in, is_late, is_long};
 ghost use Rattle.cm_array.specs.Faults.{CountsLacks, is_no_thread};
 ghost use Rattle.cm_workers.specs.Forks.{fork_fault, most_blocks, most_workers, of_want};
 ghost use Rattle.cm_resident.specs.Gathering.{AreEmpty, HaveRoom};
-ghost use Rattle.cm_resident.specs.Lineups.{AreLinedUp, AreLinedUpForSome};
+ghost use Rattle.cm_resident.specs.TeamSetups.{AreLinedUp, AreLinedUpForSome};
 
 use crate::gathering::{in_order, room_for};
-use crate::running::{Lineup, line_up, work_all};
+use crate::running::{TeamSetup, line_up, work_all};
 use crate::teams::team_in;
 use crate::together::Together;
 use cm_array::{Machine, Part, RunFault, Runner, check_stretch};
@@ -249,7 +249,7 @@ fn share_out<const N: usize, const CAP: usize, R: Threads + Wait + Sync>(
 #[derive(Drop)]
 struct Prepared {
     k: u8,
-    all: Lineup,
+    all: TeamSetup,
     places: Vec<Block>,
 }
 

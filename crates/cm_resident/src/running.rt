@@ -36,40 +36,40 @@ impl Promise<Option<Vec<Block>>> for WillWork {
 
 /// A worker, and the word at which it waits to be let begin.
 #[derive(Drop)]
-pub(crate) struct Ready {
+pub(crate) struct PendingWorker {
     pub(crate) worker: Held,
     pub(crate) waiter: Waiter,
 }
 
 /// What a worker leaves: its blocks if it was let begin, and the word that it saw.
 #[derive(Drop)]
-struct Left {
+struct WorkerExit {
     blocks: Option<Vec<Block>>,
     waiter: Waiter,
 }
 
-impl Ready {
+impl PendingWorker {
     /// Waits, and then works if it is let begin.
-    fn go<R: Wait>(self, admission: Admission, rt: &R, passage: &Passage) -> Left
+    fn go<R: Wait>(self, admission: Admission, rt: &R, passage: &Passage) -> WorkerExit
         requires team { IsOfSome self.worker }
         requires admitted { admission.worker ≡ self.worker.id }
         ensures told { result.waiter ≢ 0 }
         ensures begun { IsSome result.blocks ↔ (result.waiter ≡ begin) }
         ensures value { IfSome result.blocks (λ blocks. HasWorked self.worker blocks.items) }
     {
-        let Ready { worker, mut waiter } = self;
+        let PendingWorker { worker, mut waiter } = self;
         let blocks = match waiter.await_release(rt) {
             Some(begun) => Some(worker.work(admission, begun, rt, passage)),
             None => None,
         };
-        Left { blocks, waiter }
+        WorkerExit { blocks, waiter }
     }
 }
 
 /// All that a team needs before the first of its threads is started.
 #[derive(Drop)]
-pub(crate) struct Lineup {
-    pub(crate) readies: Vec<Ready>,
+pub(crate) struct TeamSetup {
+    pub(crate) readies: Vec<PendingWorker>,
     pub(crate) starters: Vec<Starter>,
     pub(crate) handles: Vec<PromisedHandle<Option<Vec<Block>>, WillWork>>,
     pub(crate) left: Vec<Option<Vec<Block>>>,
@@ -77,7 +77,7 @@ pub(crate) struct Lineup {
 }
 
 /// Gives each worker of a team its start word, and makes room for what its thread leaves.
-pub(crate) fn line_up(alloc: Global, team: Vec<Worker>) -> Result<Lineup, NoMemory>
+pub(crate) fn line_up(alloc: Global, team: Vec<Worker>) -> Result<TeamSetup, NoMemory>
     ensures count { IfOk result (λ all. length all.readies.items ≡ length team.items) }
     ensures starters { IfOk result (λ all. length all.starters.items ≡ length team.items) }
     ensures untold { IfOk result (λ all. All (λ word. word ≡ 0) all.starters.items) }
@@ -95,10 +95,10 @@ pub(crate) fn line_up(alloc: Global, team: Vec<Worker>) -> Result<Lineup, NoMemo
         let worker = team.remove(0);
         let (starter, waiter) = start_word(alloc)?;
         let worker = Held::new(worker);
-        readies.push_reserved(Ready { worker, waiter });
+        readies.push_reserved(PendingWorker { worker, waiter });
         starters.push_reserved(starter);
     }
-    Ok(Lineup {
+    Ok(TeamSetup {
         readies,
         starters,
         handles: Vec::with_capacity(alloc, count)?,
@@ -112,7 +112,7 @@ fn start<'s, E, R: Wait + Sync>(
     scope: &Scope<'s, E>,
     rt: &'s R,
     passage: &'s Passage,
-    ready: Ready,
+    ready: PendingWorker,
 ) -> Result<PromisedHandle<Option<Vec<Block>>, WillWork>, NoThread>
     requires team { IsOfSome ready.worker }
     ensures ok { IfOk result (λ handle. handle.promise.was.value ≡ ready.worker) }
@@ -127,7 +127,7 @@ fn start<'s, E, R: Wait + Sync>(
             requires { IsOfSome ready.worker × (admission.worker ≡ ready.worker.id) }
             ensures { IfSome result (λ blocks. HasWorked ready.worker blocks.items) }
         {
-            let Left { blocks, waiter: _ } = ready.go(admission, rt, passage);
+            let WorkerExit { blocks, waiter: _ } = ready.go(admission, rt, passage);
             blocks
         },
     );
@@ -143,7 +143,7 @@ fn start_all<'s, E, R: Wait + Sync>(
     scope: &Scope<'s, E>,
     rt: &'s R,
     passage: &'s Passage,
-    readies: Vec<Ready>,
+    readies: Vec<PendingWorker>,
     handles: &mut Vec<PromisedHandle<Option<Vec<Block>>, WillWork>>,
 ) -> Result<(), NoThread>
     requires team { (w : ℕ) (d : _) → w < length readies.items → IsOfSome (get_or readies.items w d).worker }
@@ -185,7 +185,7 @@ fn start_team<'s, E, R: Wait + Sync>(
     scope: &Scope<'s, E>,
     rt: &'s R,
     passage: &'s Passage,
-    readies: Vec<Ready>,
+    readies: Vec<PendingWorker>,
     starters: &mut Vec<Starter>,
     handles: &mut Vec<PromisedHandle<Option<Vec<Block>>, WillWork>>,
 ) -> Result<(), NoThread>
@@ -254,7 +254,7 @@ fn start_and_join<'s, E, R: Threads + Wait + Sync>(
     scope: &Scope<'s, E>,
     rt: &'s R,
     passage: &'s Passage,
-    all: Lineup,
+    all: TeamSetup,
 ) -> Result<Vec<Vec<Block>>, NoThread>
     requires team { (w : ℕ) (d : _) → w < length all.readies.items → IsOfSome (get_or all.readies.items w d).worker }
     requires none { AreEmpty all.handles.items all.left.items all.shares.items }
@@ -268,7 +268,7 @@ fn start_and_join<'s, E, R: Threads + Wait + Sync>(
         → (w : ℕ) (d : _) → w < length all.readies.items
         → admits (gate.vtable, gate.value) (get_or all.readies.items w d).worker.id) }
 {
-    let Lineup {
+    let TeamSetup {
         readies,
         mut starters,
         mut handles,
@@ -287,7 +287,7 @@ fn start_and_join<'s, E, R: Threads + Wait + Sync>(
 pub(crate) fn work_all<R: Threads + Wait + Sync>(
     rt: &R,
     passage: &Passage,
-    all: Lineup,
+    all: TeamSetup,
 ) -> Result<Vec<Vec<Block>>, NoThread>
     requires team { (w : ℕ) (d : _) → w < length all.readies.items → IsOfSome (get_or all.readies.items w d).worker }
     requires none { AreEmpty all.handles.items all.left.items all.shares.items }

@@ -3,10 +3,10 @@
 ghost use Rattle.std.specs.Prelude.{◌≡◌, ℕ, ◌-◌, ◌/◌, ◌<◌, ◌≤◌, ◌^◌, IfOk, IsFalse, length, get_or};
 ghost use Rattle.cm_array.specs.Acts.{is_late, is_long};
 ghost use Rattle.cm_resident.specs.Lanes.{Run, rounds_in};
-ghost use Rattle.cm_resident.specs.Teams.{HasOutfits, IsOfTeam};
+ghost use Rattle.cm_resident.specs.Teams.{HasWorkerParts, IsOfTeam};
 
-use crate::outfit::{Outfit, outfits};
 use crate::worker::Worker;
+use crate::worker_parts::{WorkerParts, worker_parts};
 use cm_array::{Machine, Part, check_stretch};
 use cm_bits::NoMemory;
 use cm_model::Act;
@@ -19,26 +19,26 @@ fn worker_of(
     alloc: Global,
     id: u16,
     k: u8,
-    outfits: Vec<Outfit>,
+    worker_parts: Vec<WorkerParts>,
     acts: Vec<Act>,
     rounds: Vec<Round>,
 ) -> Result<Worker, NoMemory>
     ensures id { IfOk result (λ worker. worker.id ≡ id) }
     ensures worker { IfOk result (λ worker. (run : Run) (count : ℕ) → run.k ≡ k → run.k ≤ run.n - run.n / 2
         → acts.items ≡ run.acts → rounds.items ≡ rounds_in run → id < count → id < 2 ^ run.k
-        → HasOutfits run count id outfits.items → IsOfTeam run count worker) }
+        → HasWorkerParts run count id worker_parts.items → IsOfTeam run count worker) }
 {
-    let mut outfits = outfits;
-    let count = outfits.len();
+    let mut worker_parts = worker_parts;
+    let count = worker_parts.len();
     let mut blocks = Vec::with_capacity(alloc, count)?;
     let mut sends = Vec::new(alloc);
     let mut gets = Vec::new(alloc);
     for _i in 0..count {
-        let Outfit {
+        let WorkerParts {
             block,
             sends: mut froms,
             gets: mut tos,
-        } = outfits.remove(0);
+        } = worker_parts.remove(0);
         blocks.push_reserved(block);
         sends.append(&mut froms)?;
         gets.append(&mut tos)?;
@@ -104,8 +104,8 @@ pub(crate) fn team_in<const N: usize, const CAP: usize>(
         unreachable!()
     };
     let rounds = rounds(alloc, dims, acts, k)?;
-    let outfits = outfits(alloc, machine, acts, k, cycles, used)?;
-    let mut hands = deal(alloc, outfits, usize::from(workers))?;
+    let worker_parts = worker_parts(alloc, machine, acts, k, cycles, used)?;
+    let mut hands = deal(alloc, worker_parts, usize::from(workers))?;
     let mut team = Vec::with_capacity(alloc, usize::from(workers))?;
     for w in 0..workers {
         let own = hands.remove(0);

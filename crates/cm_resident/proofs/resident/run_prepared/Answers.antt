@@ -3,7 +3,7 @@ use Rattle.std.proofs.lemmas.Nat.{one_shl}
 use Rattle.cm_workers.specs.Dealing.{AreShares}
 use Rattle.cm_resident.specs.Lanes.{Run}
 use Rattle.cm_resident.specs.Laws.{LeaveTheirMachine}
-use Rattle.cm_resident.specs.declared.running.Ready.{Ready}
+use Rattle.cm_resident.specs.declared.running.PendingWorker.{PendingWorker}
 use Rattle.cm_resident.specs.Teams.{IsOfSome}
 use Rattle.cm_resident.proofs.Ending.{lined_up_leave, lined_up_of_some}
 use Rattle.cm_resident.proofs.resident.run_prepared.Goals as goal
@@ -13,7 +13,7 @@ work_all-requires-clause-team g c =
     let of = c.requires.team in let readies = c.args.prepared.all.readies.items in
     let run : Run =
     record { n = g.row.N; k = c.args.prepared.k; room = g.row.CAP; machine = c.args.machine.now.machine; acts = of.acts } in
-    let of_some : (w : ℕ) (d : Ready) → w < length readies → IsOfSome (get_or readies w d).worker =
+    let of_some : (w : ℕ) (d : PendingWorker) → w < length readies → IsOfSome (get_or readies w d).worker =
     lined_up_of_some run of.count readies of.of in
     search (rules, of_some)
 

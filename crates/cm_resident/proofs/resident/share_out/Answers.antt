@@ -1,7 +1,7 @@
 use Rattle.std.proofs.Common.{rules, ◌≡◌, ◌<◌, ◌≤◌, ◌-◌, ◌/◌, ℕ, length, subst, arith, ◌∙◌}
-use Rattle.cm_resident.specs.declared.running.Ready.{Ready}
+use Rattle.cm_resident.specs.declared.running.PendingWorker.{PendingWorker}
 use Rattle.cm_resident.specs.Lanes.{Run}
-use Rattle.cm_resident.specs.Lineups.{AreLinedUpForSome}
+use Rattle.cm_resident.specs.TeamSetups.{AreLinedUpForSome}
 use Rattle.cm_resident.proofs.Ending.{account_after, first_of, lined_up_id}
 use Rattle.cm_resident.proofs.resident.share_out.Goals as goal
 
@@ -34,7 +34,7 @@ returns-clause-admitted g c gate is w below =
     record { n = g.row.N; k = k; room = g.row.CAP; machine = c.args.machine.now.machine; acts = c.args.acts.now } in
     let count : length readies ≡ c.args.workers = lined.len ∙ lined.is.len in
     let there : w < length readies = omega (arith, count, below) in
-    let d : Ready = first_of readies (omega (arith, there)) in
+    let d : PendingWorker = first_of readies (omega (arith, there)) in
     subst (λ (v : ℕ). (goal.Gate-dyn g (gate.vtable, gate.value)).admits gate.value v)
     (lined_up_id run c.args.workers w readies d lined below)
     (c.in_ok-run_prepared.ensures.admitted gate is w d there)

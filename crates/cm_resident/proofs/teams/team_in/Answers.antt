@@ -4,14 +4,14 @@ use Rattle.cm_workers.specs.Dealing.{AreDealt}
 use Rattle.cm_resident.specs.declared.worker.Worker.{Worker}
 use Rattle.cm_resident.specs.Lanes.{Run}
 use Rattle.cm_resident.specs.Gathering.{AreAll}
-use Rattle.cm_resident.specs.Teams.{HasOutfits, IsOfTeam}
+use Rattle.cm_resident.specs.Teams.{HasWorkerParts, IsOfTeam}
 use Rattle.cm_resident.proofs.Fitting.{are_hands}
 use Rattle.cm_resident.proofs.Numbered.{none_yet, one_more, first_is, rest_are}
 use Rattle.cm_resident.proofs.Opening.{few_rounds, in_time}
 use Rattle.cm_resident.proofs.teams.team_in.Goals as goal
 
-pub outfits-requires : goal.outfits-requires
-outfits-requires g c = (
+pub worker_parts-requires : goal.worker_parts-requires
+worker_parts-requires g c = (
   lit< tt,
   (
     c.requires.within,
@@ -30,9 +30,9 @@ loop-w-init g c =
     let run : Run = record { n = g.row.N; k = c.args.k; room = g.row.CAP; machine = c.args.machine.now.machine; acts = c.args.acts.now } in
     record {
       room = search rules;
-      left = are_hands run c.args.workers c.in_ok-outfits.outfits.items c.in_ok-hands.hands.items
-          c.in_ok-outfits.ensures.value
-          (subst (λ (m : ℕ). AreDealt m c.in_ok-outfits.outfits.items c.in_ok-hands.hands.items) c.from.ensures
+      left = are_hands run c.args.workers c.in_ok-worker_parts.worker_parts.items c.in_ok-hands.hands.items
+          c.in_ok-worker_parts.ensures.value
+          (subst (λ (m : ℕ). AreDealt m c.in_ok-worker_parts.worker_parts.items c.in_ok-hands.hands.items) c.from.ensures
           c.in_ok-hands.ensures.value);
       team_is = subst (λ (xs : _). AreAll (λ w worker. (worker.id ≡ w) × IsOfTeam run c.args.workers worker) 0 xs)
           (sym c.in_ok-team.ensures.items)
@@ -48,15 +48,15 @@ loop-w-preserved g c =
     let acts_are = c.in_ok-own_acts.ensures.value in
     let rounds_are = c.in_ok-own_rounds.ensures.value ∙ c.deref.ensures.value ∙ c.in_ok-rounds.ensures.value
     ∙ ap (λ (d : ℕ). rounds_of d c.args.k c.args.acts.now) c.dims-dims.ensures.value in
-    let own : HasOutfits run c.args.workers w c.remove-own.result.items =
-    first_is (λ v hand. HasOutfits run c.args.workers v hand.items) w c.args.workers c.loop-w.hands.items
+    let own : HasWorkerParts run c.args.workers w c.remove-own.result.items =
+    first_is (λ v hand. HasWorkerParts run c.args.workers v hand.items) w c.args.workers c.loop-w.hands.items
     c.remove-own.result inv.left below c.remove-own.ensures.value in
     let one : IsOfTeam run c.args.workers c.in_ok-worker_of.field-0 =
     c.in_ok-worker_of.ensures.worker run c.args.workers refl c.requires.within acts_are rounds_are below
     (omega (arith, below, c.requires.few)) own in
     record {
       room = search rules;
-      left = rest_are (λ v hand. HasOutfits run c.args.workers v hand.items) w c.args.workers c.loop-w.hands.items
+      left = rest_are (λ v hand. HasWorkerParts run c.args.workers v hand.items) w c.args.workers c.loop-w.hands.items
           c.remove-own.new.self.items inv.left below c.remove-own.ensures.by_index.2;
       team_is = one_more (λ (v : ℕ) (worker : Worker). (worker.id ≡ v) × IsOfTeam run c.args.workers worker) w
           c.loop-w.team.items _ _ inv.team_is c.push_reserved.ensures.items (c.in_ok-worker_of.ensures.id, one);

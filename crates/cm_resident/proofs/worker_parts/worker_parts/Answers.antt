@@ -1,12 +1,12 @@
 use Rattle.std.proofs.Common.{rules, ◌≡◌, ◌<◌, ◌^◌, List, length, refl, subst, sym, arith}
-use Rattle.cm_resident.specs.declared.outfit.Outfit.{Outfit}
+use Rattle.cm_resident.specs.declared.worker_parts.WorkerParts.{WorkerParts}
 use Rattle.cm_resident.specs.Lanes.{Run, ends_each, own, givers}
 use Rattle.cm_resident.specs.Standing.{IsRunBlock}
 use Rattle.cm_resident.specs.Gathering.{AreAll}
-use Rattle.cm_resident.specs.Teams.{IsOutfit}
+use Rattle.cm_resident.specs.Teams.{IsWorkerParts}
 use Rattle.cm_resident.proofs.Numbered.{none_yet, one_more, first_is, rest_are}
 use Rattle.cm_resident.proofs.Opening.{block_ends, ends_left}
-use Rattle.cm_resident.proofs.outfit.outfits.Goals as goal
+use Rattle.cm_resident.proofs.worker_parts.worker_parts.Goals as goal
 
 pub loop-b-init : goal.loop-b-init
 loop-b-init g c =
@@ -16,8 +16,8 @@ loop-b-init g c =
       blocks_left = c.in_ok-blocks.ensures.value c.args.acts.now (sym c.requires.cycles);
       sends_left = c.in_ok-sends.ensures.sends;
       gets_left = c.in_ok-sends.ensures.gets;
-      outfits_are = subst (λ (xs : List Outfit). AreAll (IsOutfit run) 0 xs) (sym c.in_ok-outfits.ensures.items)
-          (none_yet (IsOutfit run));
+      outfits_are = subst (λ (xs : List WorkerParts). AreAll (IsWorkerParts run) 0 xs) (sym c.in_ok-worker_parts.ensures.items)
+          (none_yet (IsWorkerParts run));
     }
 
 pub loop-b-preserved : goal.loop-b-preserved
@@ -35,7 +35,7 @@ loop-b-preserved g c =
       sends_left = ends_left run own b each c.loop-b.sends.items c.take_firsts.new.hands.items inv.sends_left below _ from;
       gets_left = ends_left run givers b each c.loop-b.gets.items c.take_firsts-in-loop-b.new.hands.items inv.gets_left
           below _ to;
-      outfits_are = one_more (IsOutfit run) b c.loop-b.outfits.items _ _ inv.outfits_are c.push_reserved.ensures.items
+      outfits_are = one_more (IsWorkerParts run) b c.loop-b.worker_parts.items _ _ inv.outfits_are c.push_reserved.ensures.items
           (record {
             cut = first_is (IsRunBlock run) b (2 ^ run.k) c.loop-b.blocks.items c.remove-block.result inv.blocks_left below
                 c.remove-block.ensures.value;

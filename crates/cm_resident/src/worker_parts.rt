@@ -7,7 +7,7 @@ ghost use Rattle.cm_subcube.specs.Rounds.{rounds_of};
 ghost use Rattle.cm_resident.specs.Lanes.{Run};
 ghost use Rattle.cm_resident.specs.Standing.{IsRunBlock};
 ghost use Rattle.cm_resident.specs.Gathering.{AreAll, AreFrom};
-ghost use Rattle.cm_resident.specs.Teams.{IsOutfit};
+ghost use Rattle.cm_resident.specs.Teams.{IsWorkerParts};
 
 use crate::gathering::take_firsts;
 use crate::lanes::{Ends, open_all};
@@ -20,7 +20,7 @@ use std::alloc::Global;
 
 /// A block, and its ends by place: those over which it sends, and those over which it gets.
 #[derive(Drop)]
-pub(crate) struct Outfit {
+pub(crate) struct WorkerParts {
     pub(crate) block: Block,
     pub(crate) sends: Vec<FromEnd<Parcel>>,
     pub(crate) gets: Vec<ToEnd<Parcel>>,
@@ -28,20 +28,21 @@ pub(crate) struct Outfit {
 
 /// The blocks of a machine that is cut into 2^`k`, in their order, with the ends of their lanes for these acts, which
 /// have so many petit cycles. Parts that are not needed any more give room.
-pub(crate) fn outfits<const N: usize, const CAP: usize>(
+pub(crate) fn worker_parts<const N: usize, const CAP: usize>(
     alloc: Global,
     machine: &Machine<N, CAP>,
     acts: &[Act],
     k: u8,
     cycles: usize,
     used: &mut Vec<Part>,
-) -> Result<Vec<Outfit>, NoMemory>
+) -> Result<Vec<WorkerParts>, NoMemory>
     requires within { k ≤ N - N / 2 }
     requires few { length (rounds_of N k acts.now) ≤ 4416 }
     requires cycles { cycles ≡ cycles_in acts.now }
     requires clock { machine.now.machine.clock + cycles < 2 ^ 63 }
-    ensures value { IfOk result (λ outfits. AreAll (IsOutfit
-        (record { n = N; k = k; room = CAP; machine = machine.now.machine; acts = acts.now })) (2 ^ k) outfits.items) }
+    ensures value { IfOk result (λ worker_parts. AreAll (IsWorkerParts
+        (record { n = N; k = k; room = CAP; machine = machine.now.machine; acts = acts.now }))
+        (2 ^ k) worker_parts.items) }
 {
     let mut blocks = cut_up(alloc, machine, k, cycles, used)?;
     let Ends {
@@ -49,16 +50,16 @@ pub(crate) fn outfits<const N: usize, const CAP: usize>(
         mut gets,
     } = open_all(alloc, machine, acts, k)?;
     let count = blocks.len();
-    let mut outfits = Vec::with_capacity(alloc, count)?;
+    let mut worker_parts = Vec::with_capacity(alloc, count)?;
     for _b in 0..count {
         let block = blocks.remove(0);
-        outfits.push_reserved(Outfit {
+        worker_parts.push_reserved(WorkerParts {
             block,
             sends: take_firsts(alloc, &mut sends)?,
             gets: take_firsts(alloc, &mut gets)?,
         });
     }
-    Ok(outfits)
+    Ok(worker_parts)
 }
 
 /// The blocks of a machine, with room in their logs for so many petit cycles.
