@@ -36,7 +36,7 @@ use Rattle.cm_router.specs.Logs.{Log, log_room, log_rooms_of}
 use Rattle.cm_router.specs.Rows.{events_of_chip, with_row}
 use Rattle.cm_router.proofs.Telling.{length-with_row, with_row_at}
 use Rattle.cm_petit.specs.Routers.{events_of}
-use Rattle.cm_array.specs.Behind.{unlogged, behind, TakeIn}
+use Rattle.cm_array.specs.SavedLogs.{unlogged, logs_appended, TakeIn}
 use Rattle.cm_array.proofs.Laying.{log_left, log_here}
 
 -- ---- no step reads a log
@@ -53,30 +53,30 @@ told_behind n earlier logs news =
     ∙ append_assoc (list_at earlier c) (list_at logs c) (news c)
     ∙ sym (ap (λ z. list_at earlier c ++ z) (get_or-each_below (2 ^ n) (λ b. list_at logs b ++ news b) c [] l)))
 
-behind-step : (n cap : ℕ) (earlier : List (List Event)) (machine : Machine) (step : Step)
-    → after_step n cap (behind n earlier machine) step ≡ behind n earlier (after_step n cap machine step)
+logs_appended-step : (n cap : ℕ) (earlier : List (List Event)) (machine : Machine) (step : Step)
+    → after_step n cap (logs_appended n earlier machine) step ≡ logs_appended n earlier (after_step n cap machine step)
 unfolding machine_after_injection machine_after_dimension machine_after_delivery
-behind-step n cap earlier machine (Instruct nano) = refl
-behind-step n cap earlier machine Look = refl
-behind-step n cap earlier machine Inject = λ i. record (machine_after_injection n cap machine) {
+logs_appended-step n cap earlier machine (Instruct nano) = refl
+logs_appended-step n cap earlier machine Look = refl
+logs_appended-step n cap earlier machine Inject = λ i. record (machine_after_injection n cap machine) {
   logs = told_behind n earlier machine.logs (λ c. map Injected (sent_in n cap machine c)) i;
 }
-behind-step n cap earlier machine (Cross d) = refl
-behind-step n cap earlier machine Deliver = λ i. record (machine_after_delivery n machine) {
+logs_appended-step n cap earlier machine (Cross d) = refl
+logs_appended-step n cap earlier machine Deliver = λ i. record (machine_after_delivery n machine) {
   logs = told_behind n earlier machine.logs (λ c. map (λ m. Delivered c m) (delivered_in machine c)) i;
 }
 
-behind-steps : (n cap : ℕ) (earlier : List (List Event)) (machine : Machine) (steps : List Step)
-    → after_steps n cap (behind n earlier machine) steps ≡ behind n earlier (after_steps n cap machine steps)
-behind-steps n cap earlier machine [] = refl
-behind-steps n cap earlier machine (step ∷ steps) =
-    ap (λ (m : Machine). after_steps n cap m steps) (behind-step n cap earlier machine step)
-    ∙ behind-steps n cap earlier (after_step n cap machine step) steps
+logs_appended-steps : (n cap : ℕ) (earlier : List (List Event)) (machine : Machine) (steps : List Step)
+    → after_steps n cap (logs_appended n earlier machine) steps ≡ logs_appended n earlier (after_steps n cap machine steps)
+logs_appended-steps n cap earlier machine [] = refl
+logs_appended-steps n cap earlier machine (step ∷ steps) =
+    ap (λ (m : Machine). after_steps n cap m steps) (logs_appended-step n cap earlier machine step)
+    ∙ logs_appended-steps n cap earlier (after_step n cap machine step) steps
 
 -- a machine is itself without its events, behind these
-pub behind-unlogged : (n : ℕ) (machine : Machine) → length machine.logs ≡ 2 ^ n
-    → behind n machine.logs (unlogged n machine) ≡ machine
-behind-unlogged n machine long =
+pub logs_appended-unlogged : (n : ℕ) (machine : Machine) → length machine.logs ≡ 2 ^ n
+    → logs_appended n machine.logs (unlogged n machine) ≡ machine
+logs_appended-unlogged n machine long =
     let same : machine.logs
     ≡ each_from 0 (2 ^ n) (λ c. list_at machine.logs c ++ list_at (each_from 0 (2 ^ n) (λ b. [])) c) =
     is_each [] (2 ^ n) (λ c. list_at machine.logs c ++ list_at (each_from 0 (2 ^ n) (λ b. [])) c) machine.logs long
@@ -89,12 +89,12 @@ run_of-steps : (n cap : ℕ) (machine : Machine) (acts : List Act) → length ma
 run_of-steps n cap machine acts long = run_of-acted n cap machine acts long ∙ after_acts-steps n cap machine acts
 
 pub logs_are_never_read : (n cap : ℕ) (machine : Machine) (acts : List Act) → IsMachine n cap machine
-    → run_of n cap machine acts ≡ behind n machine.logs (run_of n cap (unlogged n machine) acts)
+    → run_of n cap machine acts ≡ logs_appended n machine.logs (run_of n cap (unlogged n machine) acts)
 logs_are_never_read n cap machine acts is =
     run_of-steps n cap machine acts is.buffer_count
-    ∙ ap (λ (m : Machine). after_steps n cap m (all_steps n acts)) (sym (behind-unlogged n machine is.log_count))
-    ∙ behind-steps n cap machine.logs (unlogged n machine) (all_steps n acts)
-    ∙ ap (behind n machine.logs) (sym (run_of-steps n cap (unlogged n machine) acts is.buffer_count))
+    ∙ ap (λ (m : Machine). after_steps n cap m (all_steps n acts)) (sym (logs_appended-unlogged n machine is.log_count))
+    ∙ logs_appended-steps n cap machine.logs (unlogged n machine) (all_steps n acts)
+    ∙ ap (logs_appended n machine.logs) (sym (run_of-steps n cap (unlogged n machine) acts is.buffer_count))
 
 -- ---- without its events a machine is a machine
 

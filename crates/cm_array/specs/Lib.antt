@@ -7,7 +7,7 @@ pub mod Pokes
 pub mod Building
 pub mod Tags
 pub mod PokeLaws
-pub mod Behind
+pub mod SavedLogs
 pub mod Rooms
 pub mod Rows
 pub mod Finding

@@ -2,7 +2,6 @@
 #![tactic(auto)]
 
 mod builder;
-mod earlier;
 mod finding;
 mod instructions;
 mod log_laws;
@@ -16,11 +15,11 @@ mod room;
 mod routing;
 mod row;
 mod runner;
+mod saved_logs;
 mod stepping;
 mod tags;
 
 pub use builder::{BuildFault, Builder};
-pub use earlier::{Earlier, InTurn, PutBehind, append};
 pub use log_laws::{few_events_are_told, logs_are_never_read};
 pub use log_view::Log;
 pub use machine::{Machine, MachineFault};
@@ -28,4 +27,5 @@ pub use part::Part;
 pub use poke_laws::{flag_pokes_keep_machines, pokes_keep_machines};
 pub use put::IntoPart;
 pub use runner::{Plain, RunFault, Runner, check_stretch, wants_change_their_count};
+pub use saved_logs::{InTurn, LogAppender, SavedLogs, append};
 pub use stepping::step;

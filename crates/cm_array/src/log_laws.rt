@@ -1,6 +1,6 @@
 //! Laws of logs: what each function is named for holds, of every machine.
 
-ghost use Rattle.cm_array.specs.Behind.{LogsAreNeverRead, FewEventsAreTold};
+ghost use Rattle.cm_array.specs.SavedLogs.{LogsAreNeverRead, FewEventsAreTold};
 
 /// A machine does the same without its events: what a run tells stands behind them.
 pub fn logs_are_never_read()

@@ -16,13 +16,12 @@ ghost use Rattle.cm_array.specs.Acts.{cycles_in};
 ghost use Rattle.cm_router.specs.Logs.{HaveLogRoom};
 ghost use Rattle.cm_router.specs.Routes.{routing_of};
 ghost use Rattle.cm_array.specs.Cuts.{joined, AreWhole};
-ghost use Rattle.cm_array.specs.Behind.{unlogged, behind, TakeIn};
+ghost use Rattle.cm_array.specs.SavedLogs.{unlogged, logs_appended, TakeIn};
 ghost use Rattle.cm_array.specs.Faults.{size_fault};
 ghost use Rattle.cm_array.specs.Parts.{kept_of, AreParts, LacksLogRoom};
 ghost use Rattle.cm_array.specs.Rooms.{IsRoomFor};
 ghost use Rattle.cm_array.specs.Pokes.{machine_with_memory_bit, machine_with_flag};
 
-use crate::earlier::{Earlier, InTurn, PutBehind};
 use crate::finding::{delivered_to, router_of, told_in};
 use crate::log_view::Log;
 use crate::part::{Part, lay_all_buffers, lay_chips};
@@ -32,6 +31,7 @@ use crate::parts::{
 use crate::put::{IntoPart, keep, put_one};
 use crate::room::Room;
 use crate::row::{deal_out, has_events, lay_told};
+use crate::saved_logs::{InTurn, LogAppender, SavedLogs};
 use cm_bits::{Addr, FlagNo, NoMemory, Plane, Proc};
 use cm_crossing::{Crossing, Sizes};
 use cm_element::{ChipView, Run, ZeroFlag};
@@ -294,7 +294,7 @@ impl<const N: usize, const CAP: usize> Machine<N, CAP> {
     }
 
     /// Sets its logs aside, each with room for so many petit cycles, and stands there without events.
-    pub fn set_logs_aside(&mut self, alloc: Global, cycles: usize) -> Result<Earlier, NoMemory>
+    pub fn set_logs_aside(&mut self, alloc: Global, cycles: usize) -> Result<SavedLogs, NoMemory>
         ensures ok { OnOk result (self.new.machine ≡ unlogged N self.old.machine) }
         ensures logs { IfOk result (λ earlier. earlier.logs ≡ self.old.machine.logs) }
         ensures log_room { IfOk result (λ earlier. HaveLogRoom (cycles * (4 + CAP)) earlier.log_rooms) }
@@ -304,32 +304,37 @@ impl<const N: usize, const CAP: usize> Machine<N, CAP> {
         deal_out(&mut parts.logs, &mut parts.row)?;
         let none = blank_logs(alloc, parts.run.chips())?;
         reserve(&mut parts.logs, cycles.saturating_mul(MOST_INJECTED + CAP))?;
-        Ok(Earlier {
+        Ok(SavedLogs {
             logs: mem::replace(&mut parts.logs, none),
         })
     }
 
     /// Puts logs that were set aside back before its own, whose events stand behind them. No memory is taken.
-    pub fn put_logs_back(&mut self, earlier: Earlier)
-        requires whole { IsMachine N CAP (behind N earlier.logs self.old.machine) }
+    pub fn put_logs_back(&mut self, earlier: SavedLogs)
+        requires whole { IsMachine N CAP (logs_appended N earlier.logs self.old.machine) }
         requires count { length earlier.logs ≡ 2 ^ N }
         requires room { TakeIn earlier.log_rooms self.old.machine.logs }
-        ensures value { self.new.machine ≡ behind N earlier.logs self.old.machine }
+        ensures value { self.new.machine ≡ logs_appended N earlier.logs self.old.machine }
     {
         let mut none = Vec::new(*self.parts.logs.allocator());
         self.put_logs_back_by(&InTurn, earlier, &mut none);
     }
 
     /// The same by somebody who does it. The logs that it had go into parts that are not needed any more.
-    pub fn put_logs_back_by<B: PutBehind>(&mut self, by: &B, earlier: Earlier, used: &mut Vec<Part>)
+    pub fn put_logs_back_by<B: LogAppender>(
+        &mut self,
+        by: &B,
+        earlier: SavedLogs,
+        used: &mut Vec<Part>,
+    )
         requires ready { B.ready }
-        requires whole { IsMachine N CAP (behind N earlier.logs self.old.machine) }
+        requires whole { IsMachine N CAP (logs_appended N earlier.logs self.old.machine) }
         requires count { length earlier.logs ≡ 2 ^ N }
         requires room { TakeIn earlier.log_rooms self.old.machine.logs }
-        ensures value { self.new.machine ≡ behind N earlier.logs self.old.machine }
+        ensures value { self.new.machine ≡ logs_appended N earlier.logs self.old.machine }
     {
         let mut logs = earlier.logs;
-        by.put_behind(&mut logs, &self.parts.logs);
+        by.append_logs(&mut logs, &self.parts.logs);
         let mut told = mem::replace(&mut self.parts.logs, logs);
         for i in 0..used.len() {
             used[i].exchange_logs(&mut told);

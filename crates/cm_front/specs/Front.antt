@@ -7,7 +7,7 @@ use Rattle.cm_model.specs.Array.{wire}
 use Rattle.cm_model.specs.Place.{chip_columns}
 use Rattle.cm_model.specs.Machine.{Machine, run_of}
 use Rattle.cm_array.specs.Acts.{is_late, is_long}
-use Rattle.cm_array.specs.Behind.{unlogged}
+use Rattle.cm_array.specs.SavedLogs.{unlogged}
 use Rattle.cm_image_format.specs.Whole.{text_of}
 use Rattle.cm_language.specs.declared.fault.AsmKind.{AsmKind}
 use Rattle.cm_language.specs.Lines.{◌>>=◌}

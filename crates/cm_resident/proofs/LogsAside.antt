@@ -14,8 +14,8 @@ use Rattle.cm_model.proofs.Each.{get_or-each_below}
 use Rattle.cm_model.proofs.Keeping.{IsMachine-run_of}
 use Rattle.cm_router.specs.Logs.{HaveLogRoom}
 use Rattle.cm_array.specs.Acts.{cycles_in}
-use Rattle.cm_array.specs.Behind.{unlogged, behind, TakeIn}
-use Rattle.cm_array.proofs.Behind.{logs_are_never_read, few_events_are_told, behind-unlogged, IsMachine-unlogged}
+use Rattle.cm_array.specs.SavedLogs.{unlogged, logs_appended, TakeIn}
+use Rattle.cm_array.proofs.Behind.{logs_are_never_read, few_events_are_told, logs_appended-unlogged, IsMachine-unlogged}
 use Rattle.cm_resident.proofs.Ending.{account_after}
 
 -- no log of a machine without its events has one
@@ -26,36 +26,36 @@ none_told n c machine l = ap length (get_or-each_below {X = List Event} (2 ^ n) 
 module _ (n cap : ℕ) (old left now : Machine) (earlier : List (List Event)) (acts : List Act) (is : IsMachine n cap old)
     (unlogs : left ≡ unlogged n old) (were : earlier ≡ old.logs) where
   -- it went through a run
-  after_run : now ≡ run_of n cap left acts → behind n earlier now ≡ run_of n cap old acts
+  after_run : now ≡ run_of n cap left acts → logs_appended n earlier now ≡ run_of n cap old acts
   after_run same =
-      (λ i. behind n (were i) (same i))
-      ∙ ap (λ (m : Machine). behind n old.logs (run_of n cap m acts)) unlogs
+      (λ i. logs_appended n (were i) (same i))
+      ∙ ap (λ (m : Machine). logs_appended n old.logs (run_of n cap m acts)) unlogs
       ∙ sym (logs_are_never_read n cap old acts is)
 
   -- or it stayed
-  after_none : now ≡ left → behind n earlier now ≡ old
+  after_none : now ≡ left → logs_appended n earlier now ≡ old
   after_none same =
-      (λ i. behind n (were i) (same i)) ∙ ap (behind n old.logs) unlogs ∙ behind-unlogged n old is.log_count
+      (λ i. logs_appended n (were i) (same i)) ∙ ap (logs_appended n old.logs) unlogs ∙ logs_appended-unlogged n old is.log_count
 
   pub whole_again : {A E : Type 0} (result : Result A E) → OnOk result (now ≡ run_of n cap left acts)
-      → OnErr result (now ≡ left) → IsMachine n cap (behind n earlier now)
+      → OnErr result (now ≡ left) → IsMachine n cap (logs_appended n earlier now)
   whole_again (Ok x) went stayed =
       subst (λ (m : Machine). IsMachine n cap m) (sym (after_run went)) (IsMachine-run_of n cap old acts is)
   whole_again (Err e) went stayed = subst (λ (m : Machine). IsMachine n cap m) (sym (after_none stayed)) is
 
-  pub ran_again : {A E : Type 0} (result : Result A E) (after : Machine) → after ≡ behind n earlier now
+  pub ran_again : {A E : Type 0} (result : Result A E) (after : Machine) → after ≡ logs_appended n earlier now
       → OnOk result (now ≡ run_of n cap left acts)
       → OnOk result (after ≡ run_of n cap old acts)
   ran_again (Ok x) after back went = back ∙ after_run went
   ran_again (Err e) after back went = tt
 
-  pub account_again : {A E : Type 0} (result : Result A E) (after : Machine) → after ≡ behind n earlier now
+  pub account_again : {A E : Type 0} (result : Result A E) (after : Machine) → after ≡ logs_appended n earlier now
       → OnOk result (now ≡ run_of n cap left acts)
       → OnOk result (SameLines (account n after) (account n old ++ newly_injected n old after))
   account_again (Ok x) after back went = account_after n cap old after acts (back ∙ after_run went)
   account_again (Err e) after back went = tt
 
-  pub none_again : {A E : Type 0} (result : Result A E) (after : Machine) → after ≡ behind n earlier now
+  pub none_again : {A E : Type 0} (result : Result A E) (after : Machine) → after ≡ logs_appended n earlier now
       → OnErr result (now ≡ left) → OnErr result (after ≡ old)
   none_again (Ok x) after back stayed = tt
   none_again (Err e) after back stayed = back ∙ after_none stayed

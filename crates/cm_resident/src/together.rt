@@ -6,9 +6,9 @@ ghost use Rattle.cm_model.specs.Each.{each_from};
 ghost use Rattle.cm_model.specs.Array.{list_at};
 ghost use Rattle.cm_router.specs.Logs.{log_room, log_rooms_of};
 ghost use Rattle.cm_petit.specs.Routers.{events_of};
-ghost use Rattle.cm_array.specs.Behind.{TakeIn};
+ghost use Rattle.cm_array.specs.SavedLogs.{TakeIn};
 
-use cm_array::{InTurn, PutBehind, append};
+use cm_array::{InTurn, LogAppender, append};
 use cm_message::Event;
 use std::thread;
 use std::thread::Threads;
@@ -25,10 +25,10 @@ pub(crate) struct Together<'a, R> {
     ghost few: { threads ≤ 64 },
 }
 
-impl<'a, R: Threads + Sync> PutBehind for Together<'a, R> {
+impl<'a, R: Threads + Sync> LogAppender for Together<'a, R> {
     ghost ready = { IsSync R.row };
 
-    fn put_behind(&self, logs: &mut [Vec<Event>], more: &[Vec<Event>])
+    fn append_logs(&self, logs: &mut [Vec<Event>], more: &[Vec<Event>])
         requires one { IsSync R.row }
         requires count { length more.now ≡ length logs.old }
         requires room { TakeIn (log_rooms_of logs.old) (events_of more.now) }
@@ -36,9 +36,9 @@ impl<'a, R: Threads + Sync> PutBehind for Together<'a, R> {
             (λ c. list_at (events_of logs.old) c ++ list_at (events_of more.now) c) }
     {
         if are_many(more) {
-            put_behind(self.rt, self.threads, logs, more);
+            append_logs(self.rt, self.threads, logs, more);
         } else {
-            InTurn.put_behind(logs, more);
+            InTurn.append_logs(logs, more);
         }
     }
 }
@@ -53,7 +53,7 @@ fn are_many(logs: &[Vec<Event>]) -> bool {
 }
 
 /// Puts events behind those of logs, chip by chip, in so many threads.
-fn put_behind<R: Threads + Sync>(
+fn append_logs<R: Threads + Sync>(
     rt: &R,
     threads: usize,
     logs: &mut [Vec<Event>],

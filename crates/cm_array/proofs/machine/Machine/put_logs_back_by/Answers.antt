@@ -7,7 +7,7 @@ use Rattle.cm_array.specs.declared.parts.Parts.{Parts}
 use Rattle.cm_router.specs.Logs.{Log, log_rooms_of}
 use Rattle.cm_router.specs.Routes.{routing_of}
 use Rattle.cm_petit.specs.Routers.{events_of}
-use Rattle.cm_array.specs.Behind.{Aside, behind, TakeIn}
+use Rattle.cm_array.specs.SavedLogs.{Aside, logs_appended, TakeIn}
 use Rattle.cm_array.specs.Parts.{Kept, machine_of}
 use Rattle.cm_array.proofs.Behind.{logs_behind, row_behind, take_in_dealt}
 use Rattle.cm_array.proofs.Lists.{items-lent}
@@ -23,15 +23,15 @@ long_earlier g c =
     sym (length-map earlier.items (λ (log : Log). log.items))
     ∙ ap (λ (aside : Aside). length aside.logs) c.earlier.view_is ∙ c.requires.count
 
-pub put_behind-requires-clause-count : goal.put_behind-requires-clause-count
-put_behind-requires-clause-count g c =
+pub append_logs-requires-clause-count : goal.append_logs-requires-clause-count
+append_logs-requires-clause-count g c =
     let parts = c.self.inside.parts in
     ap length c.deref.ensures.value
     ∙ length-logs g.row.N g.row.CAP parts (AreUnderWay-parts g.row.N g.row.CAP parts c.self.invariant)
     ∙ sym (long_earlier g c) ∙ ap length (sym c.deref_mut.ensures.value)
 
-pub put_behind-requires-clause-room : goal.put_behind-requires-clause-room
-put_behind-requires-clause-room g c =
+pub append_logs-requires-clause-room : goal.append_logs-requires-clause-room
+append_logs-requires-clause-room g c =
     let parts = c.self.inside.parts in
     let earlier = c.earlier.inside.logs.items in
     let all : TakeIn (log_rooms_of earlier) (machine_of parts).logs =
@@ -45,7 +45,7 @@ put_back : (n : ℕ) (parts : Parts) (now : Vec Log) (earlier : List Log) (aside
     → events_of earlier ≡ aside.logs → machine_of parts ≡ kept.machine → length (events_of parts.logs.items) ≡ 2 ^ n
     → events_of now.items
     ≡ each_from 0 (2 ^ n) (λ c. list_at (events_of earlier) c ++ list_at (events_of parts.logs.items) c)
-    → machine_of (record parts { logs = now }) ≡ behind n aside.logs kept.machine
+    → machine_of (record parts { logs = now }) ≡ logs_appended n aside.logs kept.machine
 put_back n parts now earlier aside kept same_logs same long is =
     let told = row_behind n (events_of earlier) (events_of parts.logs.items) (events_of now.items) parts.row.items long is
     in
@@ -55,7 +55,7 @@ put_back n parts now earlier aside kept same_logs same long is =
       logs = told i;
       clock = parts.clock;
       routing = routing_of parts.routing;
-    }) ∙ (λ i. behind n (same_logs i) (same i))
+    }) ∙ (λ i. logs_appended n (same_logs i) (same i))
 
 pub invariant_of-self : goal.invariant_of-self
 invariant_of-self g c =
@@ -63,12 +63,12 @@ invariant_of-self g c =
     let earlier = c.earlier.inside.logs in
     let before = ap (λ (aside : Aside). aside.logs) c.earlier.view_is in
     let under = AreUnderWay-parts g.row.N g.row.CAP parts c.self.invariant in
-    let lent = items-lent earlier c.put_behind.new.logs (c.put_behind.auto.logs ∙ ap length c.deref_mut.ensures.value) in
+    let lent = items-lent earlier c.append_logs.new.logs (c.append_logs.auto.logs ∙ ap length c.deref_mut.ensures.value) in
     let long = sym (length-map earlier.items (λ (log : Log). log.items)) ∙ ap length before ∙ c.requires.count in
     let logs = ap (λ v. events_of v.items) c.replace-told.ensures.after ∙ ap events_of lent
-    ∙ logs_behind g.row.N earlier.items parts.logs.items c.put_behind.new.logs c.deref_mut.result.now
-    c.deref.result.now long c.deref_mut.ensures.value c.deref.ensures.value c.put_behind.ensures.value in
-    AreParts-put g.row.N g.row.CAP parts _ (behind g.row.N c.args.earlier.logs c.args.self.now.machine) c.self.invariant
+    ∙ logs_behind g.row.N earlier.items parts.logs.items c.append_logs.new.logs c.deref_mut.result.now
+    c.deref.result.now long c.deref_mut.ensures.value c.deref.ensures.value c.append_logs.ensures.value in
+    AreParts-put g.row.N g.row.CAP parts _ (logs_appended g.row.N c.args.earlier.logs c.args.self.now.machine) c.self.invariant
     c.requires.whole
     (put_back g.row.N parts c.replace-told.new.dest earlier.items c.args.earlier c.args.self.now before
     (ap (λ (kept : Kept). kept.machine) c.self.view_is) (length-events g.row.N g.row.CAP parts under) logs)
@@ -80,11 +80,11 @@ returns g c =
     let earlier = c.earlier.inside.logs in
     let before = ap (λ (aside : Aside). aside.logs) c.earlier.view_is in
     let under = AreUnderWay-parts g.row.N g.row.CAP parts c.self.invariant in
-    let lent = items-lent earlier c.put_behind.new.logs (c.put_behind.auto.logs ∙ ap length c.deref_mut.ensures.value) in
+    let lent = items-lent earlier c.append_logs.new.logs (c.append_logs.auto.logs ∙ ap length c.deref_mut.ensures.value) in
     let long = sym (length-map earlier.items (λ (log : Log). log.items)) ∙ ap length before ∙ c.requires.count in
     let logs = ap (λ v. events_of v.items) c.replace-told.ensures.after ∙ ap events_of lent
-    ∙ logs_behind g.row.N earlier.items parts.logs.items c.put_behind.new.logs c.deref_mut.result.now
-    c.deref.result.now long c.deref_mut.ensures.value c.deref.ensures.value c.put_behind.ensures.value in
+    ∙ logs_behind g.row.N earlier.items parts.logs.items c.append_logs.new.logs c.deref_mut.result.now
+    c.deref.result.now long c.deref_mut.ensures.value c.deref.ensures.value c.append_logs.ensures.value in
     record {
       value = put_back g.row.N parts c.replace-told.new.dest earlier.items c.args.earlier c.args.self.now before
           (ap (λ (kept : Kept). kept.machine) c.self.view_is) (length-events g.row.N g.row.CAP parts under) logs;

@@ -8,7 +8,7 @@ use Rattle.cm_router.specs.Logs.{Log}
 use Rattle.cm_router.specs.Rows.{with_row}
 use Rattle.cm_router.proofs.Telling.{with_row-nil}
 use Rattle.cm_petit.specs.Routers.{events_of}
-use Rattle.cm_array.specs.Behind.{unlogged}
+use Rattle.cm_array.specs.SavedLogs.{unlogged}
 use Rattle.cm_array.specs.Parts.{Kept, machine_of}
 use Rattle.cm_array.proofs.Lists.{items-lent}
 use Rattle.cm_array.proofs.Behind.{IsMachine-unlogged}

@@ -2,7 +2,7 @@ use Rattle.std.proofs.Common.{◌≡◌, ℕ, ◌<◌, ◌≤◌, ◌++◌, leng
 use Rattle.cm_model.specs.Array.{list_at}
 use Rattle.cm_router.specs.Logs.{Log}
 use Rattle.cm_petit.specs.Routers.{events_of}
-use Rattle.cm_array.proofs.earlier.put_behind.Given as goal
+use Rattle.cm_array.proofs.saved_logs.append_logs.Given as goal
 
 abbrev pub invariant-loop-c : goal.invariant-loop-c
 invariant-loop-c l = record {

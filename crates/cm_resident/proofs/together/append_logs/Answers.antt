@@ -1,7 +1,7 @@
 use Rattle.std.proofs.Common.{rules, ℕ, ◌<◌, ◌≤◌, length, get_or, refl, arith}
 use Rattle.cm_router.specs.Logs.{Log, log_room}
 use Rattle.cm_array.proofs.Behind.{room_behind, all_behind}
-use Rattle.cm_resident.proofs.together.put_behind.Goals as goal
+use Rattle.cm_resident.proofs.together.append_logs.Goals as goal
 
 pub each_behind-requires-clause-room : goal.each_behind-requires-clause-room
 each_behind-requires-clause-room g c =

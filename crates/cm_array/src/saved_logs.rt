@@ -5,7 +5,7 @@ ghost use Rattle.cm_model.specs.Each.{each_from};
 ghost use Rattle.cm_model.specs.Array.{list_at};
 ghost use Rattle.cm_router.specs.Logs.{log_room, log_rooms_of};
 ghost use Rattle.cm_petit.specs.Routers.{events_of};
-ghost use Rattle.cm_array.specs.Behind.{TakeIn};
+ghost use Rattle.cm_array.specs.SavedLogs.{TakeIn};
 
 use cm_message::Event;
 use std::marker::Model;
@@ -14,14 +14,14 @@ use std::marker::Model;
 ///
 /// Contracts see the logs by chip, and how many events more each takes before it has to grow.
 #[derive(Debug, Drop)]
-pub struct Earlier {
+pub struct SavedLogs {
     pub(crate) logs: Vec<Vec<Event>>,
 }
 
-impl Model for Earlier {
+impl Model for SavedLogs {
     ghost use Rattle.cm_router.specs.Logs.{log_rooms_of};
     ghost use Rattle.cm_petit.specs.Routers.{events_of};
-    ghost use Rattle.cm_array.specs.Behind.{Aside};
+    ghost use Rattle.cm_array.specs.SavedLogs.{Aside};
 
     ghost Value = { Aside };
 
@@ -32,19 +32,19 @@ impl Model for Earlier {
 }
 
 /// Who puts events behind those of logs.
-pub trait PutBehind {
+pub trait LogAppender {
     ghost use Rattle.std.specs.Prelude.{◌≡◌, ◌++◌, length};
     ghost use Rattle.cm_model.specs.Each.{each_from};
     ghost use Rattle.cm_model.specs.Array.{list_at};
     ghost use Rattle.cm_router.specs.Logs.{log_rooms_of};
     ghost use Rattle.cm_petit.specs.Routers.{events_of};
-    ghost use Rattle.cm_array.specs.Behind.{TakeIn};
+    ghost use Rattle.cm_array.specs.SavedLogs.{TakeIn};
 
     /// What a caller of an unknown one has to know of its type; of `InTurn` it is no condition.
     ghost ready: { Type 0 };
 
     /// Puts events behind those of logs, chip by chip. No memory is taken.
-    fn put_behind(&self, logs: &mut [Vec<Event>], more: &[Vec<Event>])
+    fn append_logs(&self, logs: &mut [Vec<Event>], more: &[Vec<Event>])
         requires one { ready }
         requires count { length more.now ≡ length logs.old }
         requires room { TakeIn (log_rooms_of logs.old) (events_of more.now) }
@@ -56,20 +56,20 @@ pub trait PutBehind {
 #[derive(Clone, Copy, Debug, PartialEq, Eq)]
 pub struct InTurn;
 
-impl PutBehind for InTurn {
+impl LogAppender for InTurn {
     ghost ready = { Unit {0} };
 
-    fn put_behind(&self, logs: &mut [Vec<Event>], more: &[Vec<Event>])
+    fn append_logs(&self, logs: &mut [Vec<Event>], more: &[Vec<Event>])
         requires count { length more.now ≡ length logs.old }
         requires room { TakeIn (log_rooms_of logs.old) (events_of more.now) }
         ensures value { events_of logs.new ≡ each_from 0 (length logs.old)
             (λ c. list_at (events_of logs.old) c ++ list_at (events_of more.now) c) }
     {
-        put_behind(logs, more);
+        append_logs(logs, more);
     }
 }
 
-fn put_behind(logs: &mut [Vec<Event>], more: &[Vec<Event>])
+fn append_logs(logs: &mut [Vec<Event>], more: &[Vec<Event>])
     requires count { length more.now ≡ length logs.old }
     requires room { TakeIn (log_rooms_of logs.old) (events_of more.now) }
     ensures value { events_of logs.new ≡ each_from 0 (length logs.old)

@@ -6,7 +6,7 @@ use Rattle.cm_model.proofs.Each.{is_each}
 use Rattle.cm_router.specs.Logs.{Log}
 use Rattle.cm_petit.specs.Routers.{events_of}
 use Rattle.cm_array.proofs.Behind.{room_behind, one_more_behind}
-use Rattle.cm_array.proofs.earlier.put_behind.Goals as goal
+use Rattle.cm_array.proofs.saved_logs.append_logs.Goals as goal
 
 pub append-requires : goal.append-requires
 append-requires c =

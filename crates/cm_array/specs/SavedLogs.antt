@@ -12,8 +12,8 @@ abbrev pub unlogged : ℕ → Machine → Machine
 unlogged n machine = record machine { logs = each_chip n (λ c. []) }
 
 -- a machine whose events stand behind earlier ones, chip by chip
-abbrev pub behind : ℕ → List (List Event) → Machine → Machine
-behind n earlier machine = record machine { logs = each_chip n (λ c. list_at earlier c ++ list_at machine.logs c) }
+abbrev pub logs_appended : ℕ → List (List Event) → Machine → Machine
+logs_appended n earlier machine = record machine { logs = each_chip n (λ c. list_at earlier c ++ list_at machine.logs c) }
 
 -- what contracts see of logs that were set aside
 pub record Aside : Type 0 where
@@ -31,7 +31,7 @@ TakeIn log_rooms logs = (c : ℕ) → c < length log_rooms → length (list_at l
 -- no act reads a log: a run is the run of the machine without its events, whose new events stand behind them
 abbrev pub LogsAreNeverRead : Type 0
 LogsAreNeverRead = (n cap : ℕ) (machine : Machine) (acts : List Act) → IsMachine n cap machine
-    → run_of n cap machine acts ≡ behind n machine.logs (run_of n cap (unlogged n machine) acts)
+    → run_of n cap machine acts ≡ logs_appended n machine.logs (run_of n cap (unlogged n machine) acts)
 
 -- a run tells at most so many events of a chip in each petit cycle
 abbrev pub FewEventsAreTold : Type 0
