@@ -369,7 +369,7 @@ impl<const N: usize, const CAP: usize> Machine<N, CAP> {
 
     /// Copies so many chips, from `first` on, to the front of a run: there the planes of a chip lie nearer to
     /// each other.
-    pub fn lay_out(&self, first: u16, count: u16, to: &mut Run)
+    pub fn copy_chips(&self, first: u16, count: u16, to: &mut Run)
         requires there { first + count ≤ 2 ^ N }
         requires room { count ≤ length to.old }
         ensures value { AreLaid 0 first count self.now.machine.chips to.old to.new }

@@ -21,7 +21,7 @@ ghost use Rattle.cm_router.specs.Routes.{routing_of};
 
 use crate::ranking::{rearrange, renumber, risen_to, sort_numbers};
 use crate::routed::{cross, leave};
-use crate::row::{give_out, lay_out, read_off, read_out, stand, take_up};
+use crate::row::{collect, compact, deliver_at, read_out, stand, store_injected};
 use cm_bits::{NoMemory, Plane};
 use cm_element::{ChipView, Run};
 use cm_message::{Event, Message, Rule};
@@ -200,7 +200,7 @@ impl Crossing {
         ensures gathered { IsTrue self.new.gathered }
         ensures free { 4 ≤ self.new.free }
     {
-        lay_out(&self.row, &mut self.spare, &mut self.slots);
+        compact(&self.row, &mut self.spare, &mut self.slots);
         mem::swap(&mut self.row, &mut self.spare);
         self.gathered = true;
         self.risen = 0;
@@ -254,7 +254,7 @@ impl Crossing {
 
     /// Messages that processors of a chip send come to stand last there, where there are places. The log tells of each.
     /// Whose they are, as a plane.
-    fn take_up(
+    fn store_injected(
         &mut self,
         at: usize,
         senders: Senders,
@@ -278,7 +278,7 @@ impl Crossing {
         ensures capacity { vec_capacity log.old ≤ vec_capacity log.new }
     {
         self.gathered = false;
-        take_up(
+        store_injected(
             &mut self.row,
             &mut self.slots,
             at,
@@ -378,7 +378,7 @@ impl Crossing {
         let asking = asking(run, chip);
         let senders = Senders::first(asking, room);
         self.make_places();
-        let taken = self.take_up(at, senders, &run.view(chip), here, sizes.dims, clock, log);
+        let taken = self.store_injected(at, senders, &run.view(chip), here, sizes.dims, clock, log);
         acknowledge(run, chip, asking, taken);
     }
 
@@ -495,7 +495,7 @@ impl Crossing {
     {
         let gone = self.leavers.as_mut_slice();
         leave(&self.row, &mut self.slots, sizes, routing, first, dim, gone);
-        read_off(&self.row, gone, leavers);
+        collect(&self.row, gone, leavers);
         self.gathered = false;
     }
 
@@ -549,7 +549,7 @@ impl Crossing {
         ensures capacity { vec_capacity log.old ≤ vec_capacity log.new }
         ensures within { All (λ ms. length ms ≤ sizes.room) self.new.buffers }
     {
-        give_out(&self.row, &mut self.slots, run, deliveries, chip, here, log);
+        deliver_at(&self.row, &mut self.slots, run, deliveries, chip, here, log);
         self.gathered = false;
     }
 }

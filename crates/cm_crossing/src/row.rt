@@ -28,7 +28,7 @@ use cm_router::{
 use cm_slots::{Slots, Ticket};
 
 /// Gives each message a place in the second row, those of a chip side by side, and its ticket tells that.
-pub(crate) fn lay_out(row: &[Message], spare: &mut Vec<Message>, slots: &mut Slots)
+pub(crate) fn compact(row: &[Message], spare: &mut Vec<Message>, slots: &mut Slots)
     requires few { length slots.old ≤ 4096 }
     requires capacity { 15 * length slots.old ≤ vec_capacity spare.old }
     requires kept { All (HaveMessages (length row.now)) slots.old }
@@ -87,7 +87,7 @@ pub(crate) fn read_out<'a>(row: &'a [Message], slots: &Slots, here: usize) -> &'
 
 /// Messages that processors of a chip send get places in the row, one after another, and stand last at their chip. The
 /// log tells of each. A message goes to both as it is made: read back from one of them it would wait there.
-pub(crate) fn take_up(
+pub(crate) fn store_injected(
     row: &mut Vec<Message>,
     slots: &mut Slots,
     at: usize,
@@ -168,7 +168,7 @@ fn keep(row: &mut Vec<Message>, message: &Message) -> u16
 }
 
 /// Writes down the messages of the tickets that leave.
-pub(crate) fn read_off(row: &[Message], tickets: &[Option<Ticket>], leavers: &mut [Option<Message>])
+pub(crate) fn collect(row: &[Message], tickets: &[Option<Ticket>], leavers: &mut [Option<Message>])
     requires count { length leavers.old ≡ length tickets.now }
     requires kept { All (HasMessage (length row.now)) tickets.now }
     ensures value { leavers.new ≡ map (λ t. option_map (message_of_ticket row.now) t) tickets.now }
@@ -183,7 +183,7 @@ pub(crate) fn read_off(row: &[Message], tickets: &[Option<Ticket>], leavers: &mu
 
 /// Delivers to one chip, message by message. What is delivered is written down, and put down at its processors later:
 /// so the chip is told as it is after that.
-pub(crate) fn give_out(
+pub(crate) fn deliver_at(
     row: &[Message],
     slots: &mut Slots,
     run: &Run,

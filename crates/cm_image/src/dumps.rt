@@ -189,7 +189,7 @@ pub(crate) fn send_chips<const N: usize, const CAP: usize, O: Sink>(
     let mut first = 0;
     while first < count {
         let some = TILE.min(count - first);
-        machine.lay_out(first, some, tile);
+        machine.copy_chips(first, some, tile);
         match send_tile(
             text, sink, machine, counts, addresses, tile, first, some, piece,
         ) {

@@ -15,7 +15,7 @@ loop-first-init g c = record {
 pub loop-first-preserved : goal.loop-first-preserved
 loop-first-preserved g c = record {
   within = omega (arith, c.min-some.ensures, c.loop-first.invariant.within);
-  tile = c.lay_out.ensures.value.chips ∙ c.loop-first.invariant.tile;
+  tile = c.copy_chips.ensures.value.chips ∙ c.loop-first.invariant.tile;
   gone = goes_on (g.O.Sink.contents c.args.sink.now) (g.O.Sink.contents c.loop-first.sink)
       (g.O.Sink.contents c.send_tile.new.sink) _ _ c.send_tile.new.text.items
       (tile_waits c.args.machine.now.machine c.args.text.now.items c.loop-first.text.items

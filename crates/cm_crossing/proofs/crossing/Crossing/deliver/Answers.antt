@@ -4,8 +4,8 @@ use Rattle.std.proofs.lemmas.List.Elements.{All-set}
 use Rattle.cm_crossing.proofs.Carrying.{as_many, few_at, standing_at}
 use Rattle.cm_crossing.proofs.crossing.Crossing.deliver.Goals as goal
 
-pub give_out-requires-clause-room : goal.give_out-requires-clause-room
-give_out-requires-clause-room c =
+pub deliver_at-requires-clause-room : goal.deliver_at-requires-clause-room
+deliver_at-requires-clause-room c =
     let within = rw (← c.self.view_is) at c.requires.within in
     omega (
       arith,
@@ -14,8 +14,8 @@ give_out-requires-clause-room c =
       few_at c.args.sizes.room _ c.self.inside.slots c.args.chip within,
     )
 
-pub give_out-requires-clause-log_room : goal.give_out-requires-clause-log_room
-give_out-requires-clause-log_room c =
+pub deliver_at-requires-clause-log_room : goal.deliver_at-requires-clause-log_room
+deliver_at-requires-clause-log_room c =
     let within = rw (← c.self.view_is) at c.requires.within in
     omega (arith, c.requires.log_room, few_at c.args.sizes.room _ c.self.inside.slots c.args.chip within)
 
@@ -26,7 +26,7 @@ returns c =
     let slots = c.self.inside.slots in
     let within = rw (← c.self.view_is) at c.requires.within in
     let few = few_at room row slots c.args.chip within in
-    let given = c.give_out.ensures in
+    let given = c.deliver_at.ensures in
     let here = rw c.deref.ensures.value at given.value in
     record {
       value = rw (← c.self.view_is, given.others, map-set, standing_at, here);

@@ -13,8 +13,8 @@ leave-requires-clause-within c =
     (as_many (λ n. n ≤ c.args.sizes.room) c.self.inside.row.items c.self.inside.slots).1
     (rw (← c.self.view_is) at c.requires.within)
 
-pub read_off-requires-clause-kept : goal.read_off-requires-clause-kept
-read_off-requires-clause-kept c =
+pub collect-requires-clause-kept : goal.collect-requires-clause-kept
+collect-requires-clause-kept c =
     let are = ap (λ (crossing : InFlight). crossing.buffers) c.self.view_is in
     rw (c.deref-2.ensures.value, ← c.deref.ensures.value) (whole_gone_kept c.deref.result.now c.self.inside.row.items c.deref.ensures.value
     (routing_of c.args.routing.now) c.args.sizes.room c.args.dim c.args.first c.self.inside.slots
@@ -50,7 +50,7 @@ returns c =
       value = whole_left c.deref.result.now c.self.inside.row.items c.deref.ensures.value
           (routing_of c.args.routing.now) c.args.sizes.room c.args.dim c.args.first c.self.inside.slots
           c.leave.new.slots c.args.self.now.buffers are c.leave.ensures.value;
-      going = c.read_off.ensures.value
+      going = c.collect.ensures.value
           ∙ ((λ i. map (λ t. option_map (message_of_ticket (c.deref-2.ensures.value i)) t) c.leave.new.leavers)
           ∙ whole_gone c.deref.result.now c.self.inside.row.items c.deref.ensures.value
           (routing_of c.args.routing.now) c.args.sizes.room c.args.dim c.args.first c.self.inside.slots

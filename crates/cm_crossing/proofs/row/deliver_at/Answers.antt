@@ -16,7 +16,7 @@ use Rattle.cm_crossing.proofs.Carrying.{without_kept}
 use Rattle.cm_crossing.proofs.Keeping.{written_again, scan_taken, scan_passed, scan_to}
 use Rattle.cm_model.specs.Chip.{IsPlane}
 use Rattle.cm_model.specs.Letters.{can_receive}
-use Rattle.cm_crossing.proofs.row.give_out.Goals as goal
+use Rattle.cm_crossing.proofs.row.deliver_at.Goals as goal
 
 pub next_given-place-requires-clause-kept : goal.next_given-place-requires-clause-kept
 next_given-place-requires-clause-kept c =

@@ -1,7 +1,7 @@
 use Rattle.std.proofs.Common.{◌≡◌, ℕ, ◌*◌, ◌<◌, ◌≤◌, length, vec_len, vec_capacity}
 use Rattle.cm_model.specs.Array.{list_at}
 use Rattle.cm_crossing.specs.Standing.{AreLaidOut}
-use Rattle.cm_crossing.proofs.row.lay_out.Given as goal
+use Rattle.cm_crossing.proofs.row.compact.Given as goal
 
 abbrev pub invariant-loop-c : goal.invariant-loop-c
 invariant-loop-c l = record {

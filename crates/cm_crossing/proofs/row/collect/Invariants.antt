@@ -1,7 +1,7 @@
 use Rattle.std.proofs.Common.{◌≡◌, map, take}
 use Rattle.std.specs.Option.{option_map}
 use Rattle.cm_crossing.specs.Standing.{message_of_ticket}
-use Rattle.cm_crossing.proofs.row.read_off.Given as goal
+use Rattle.cm_crossing.proofs.row.collect.Given as goal
 
 abbrev pub invariant-loop-c : goal.invariant-loop-c
 invariant-loop-c l = record {

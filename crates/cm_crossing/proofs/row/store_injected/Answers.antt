@@ -1,7 +1,7 @@
 use Rattle.std.proofs.Common.{◌∙◌, length, length-set, refl, ap, arith, append_assoc}
 use Rattle.std.proofs.Math.Bool.{or_assoc}
 use Rattle.cm_crossing.proofs.Keeping.{written_again}
-use Rattle.cm_crossing.proofs.row.take_up.Goals as goal
+use Rattle.cm_crossing.proofs.row.store_injected.Goals as goal
 
 pub loop-proc-preserved : goal.loop-proc-preserved
 loop-proc-preserved c =

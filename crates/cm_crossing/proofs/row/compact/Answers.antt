@@ -6,7 +6,7 @@ use Rattle.cm_model.specs.Array.{list_at}
 use Rattle.cm_crossing.specs.Standing.{standing, all_standing, HaveMessages, AreTogether, AreLaidOut}
 use Rattle.cm_crossing.proofs.Carrying.{standing_at}
 use Rattle.cm_crossing.proofs.Keeping.{laid_value, laid_kept, laid_together, laid_longer}
-use Rattle.cm_crossing.proofs.row.lay_out.Goals as goal
+use Rattle.cm_crossing.proofs.row.compact.Goals as goal
 
 pub loop-c-preserved : goal.loop-c-preserved
 loop-c-preserved c =

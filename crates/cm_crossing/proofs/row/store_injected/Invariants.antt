@@ -4,7 +4,7 @@ use Rattle.cm_model.specs.declared.message.Event.TheVariants.{Injected}
 use Rattle.cm_model.specs.Array.{list_at}
 use Rattle.cm_model.specs.Letters.{messages_sent, is_among}
 use Rattle.cm_crossing.specs.Standing.{standing, HaveMessages, IsWritten}
-use Rattle.cm_crossing.proofs.row.take_up.Given as goal
+use Rattle.cm_crossing.proofs.row.store_injected.Given as goal
 
 abbrev pub decreases-loop-proc : goal.decreases-loop-proc
 decreases-loop-proc l = length l.senders

@@ -5,7 +5,7 @@ use Rattle.cm_model.specs.Letters.{can_receive}
 use Rattle.cm_router.specs.Deliveries.{run_after, AreBefore}
 use Rattle.cm_crossing.specs.Standing.{standing, HaveMessages, IsWritten}
 use Rattle.cm_model.proofs.Scan.{Scan}
-use Rattle.cm_crossing.proofs.row.give_out.Given as goal
+use Rattle.cm_crossing.proofs.row.deliver_at.Given as goal
 
 abbrev pub decreases-loop-ticket : goal.decreases-loop-ticket
 decreases-loop-ticket l = length (list_at l.slots l.chip) + (15 - l.place)
