@@ -8,10 +8,10 @@ use Rattle.cm_outside.specs.declared.program_fault.ProgramFault.{ProgramFault}
 use Rattle.cm_outside.specs.declared.program_fault.ProgramFault.TheVariants.{Memory, NoThread}
 use Rattle.cm_outside.specs.ProgramFault.{of_session}
 use Rattle.cm_sizes.specs.Sizes.{SizedMachine}
-use Rattle.cm_outside.specs.Puttings.{KeepsImage}
+use Rattle.cm_outside.specs.OutputFiles.{KeepsImage}
 use Rattle.cm_outside.specs.Streams.{Streams}
 use Rattle.cm_cli.specs.Runs.{IsSession}
-use Rattle.cm_cli.specs.Lent.{Goes}
+use Rattle.cm_cli.specs.Dispatch.{Goes}
 use Rattle.cm_cli.proofs.Sessions.{ended_well, broken_off}
 
 -- it ended well, and this was kept of the machine that it left

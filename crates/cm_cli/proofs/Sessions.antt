@@ -10,7 +10,7 @@ use Rattle.cm_outside.specs.declared.program_fault.ProgramFault.{ProgramFault}
 use Rattle.cm_outside.specs.declared.program_fault.ProgramFault.TheVariants.{Read, Write, Memory, NoThread}
 use Rattle.cm_outside.specs.ProgramFault.{of_session}
 use Rattle.cm_sizes.specs.Sizes.{SizedMachine}
-use Rattle.cm_outside.specs.Puttings.{KeepsImage}
+use Rattle.cm_outside.specs.OutputFiles.{KeepsImage}
 use Rattle.cm_cli.specs.Run.{IsToldAs}
 use Rattle.cm_outside.specs.Streams.{Streams}
 use Rattle.cm_cli.specs.Runs.{IsSession}

@@ -1,6 +1,6 @@
 pub mod Sharing
 pub mod Run
-pub mod Lent
+pub mod Dispatch
 pub mod Files
 pub mod Runs
 pub mod Lines

@@ -4,7 +4,7 @@ use Rattle.cm_line.specs.declared.line.Line.{Line}
 use Rattle.cm_line.specs.declared.line.Line.TheVariants as line
 use Rattle.cm_outside.specs.declared.program_fault.ProgramFault.{ProgramFault}
 use Rattle.cm_outside.specs.Trace.{IoEvent}
-use Rattle.cm_outside.specs.Takings.{Reads}
+use Rattle.cm_outside.specs.InputFiles.{Reads}
 use Rattle.cm_outside.specs.Streams.{Streams, IsUnread, IsUntouched}
 use Rattle.cm_tools.specs.Tools.{IsChipTrace, IsFreshTrace, IsListTrace}
 use Rattle.cm_cli.specs.Runs.{IsRunTrace}

@@ -11,7 +11,7 @@ use Rattle.cm_outside.specs.declared.program_fault.ProgramFault.{ProgramFault}
 use Rattle.cm_outside.specs.ProgramFault.{of_line, reported_number, fault_line}
 use Rattle.cm_outside.specs.Report.{HasFront, report_line, status_of}
 use Rattle.cm_outside.specs.Trace.{IoEvent, Asked}
-use Rattle.cm_outside.specs.Takings.{Reads}
+use Rattle.cm_outside.specs.InputFiles.{Reads}
 use Rattle.cm_outside.specs.Streams.{Streams, IsUntouched}
 use Rattle.cm_cli.specs.Lines.{IsLineTrace}
 

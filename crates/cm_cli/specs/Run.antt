@@ -7,7 +7,7 @@ use Rattle.cm_session.specs.declared.fault.SessionFault.{SessionFault}
 use Rattle.cm_session.specs.Ends.{Ends}
 use Rattle.cm_outside.specs.declared.program_fault.ProgramFault.{ProgramFault}
 use Rattle.cm_outside.specs.declared.program_fault.ProgramFault.TheVariants.{Memory}
-use Rattle.cm_outside.specs.Puttings.{IsImageKept}
+use Rattle.cm_outside.specs.OutputFiles.{IsImageKept}
 use Rattle.cm_outside.specs.ProgramFault.{of_session}
 use Rattle.cm_sizes.specs.Sizes.{SizedMachine}
 

@@ -10,8 +10,8 @@ use Rattle.cm_outside.specs.declared.program_fault.ProgramFault.TheVariants.{Rea
 use Rattle.cm_sizes.specs.Sizes.{SizedMachine}
 use Rattle.cm_cli.specs.Run.{HasLeft, HasLeftForSome, HasAbortedSession, HasAbortedForSome}
 use Rattle.cm_outside.specs.Trace.{IoEvent}
-use Rattle.cm_outside.specs.Takings.{Reads}
-use Rattle.cm_outside.specs.Puttings.{FinishesOutput}
+use Rattle.cm_outside.specs.InputFiles.{Reads}
+use Rattle.cm_outside.specs.OutputFiles.{FinishesOutput}
 use Rattle.cm_outside.specs.Streams.{Streams, IsUntouched}
 use Rattle.cm_cli.specs.Files.{BeginsFiles, RefusesFiles}
 

@@ -4,13 +4,13 @@ ghost use Rattle.std.specs.Prelude.{◌≡◌, ◌≤◌, false, None, IfOk, IfE
 ghost use Rattle.cm_sizes.specs.Sizes.{SizedMachine, sized};
 ghost use Rattle.cm_cli.specs.Sharing.{sharing_fault};
 ghost use Rattle.cm_outside.specs.Trace.{HasTrace};
-ghost use Rattle.cm_outside.specs.Takings.{reads_by};
-ghost use Rattle.cm_outside.specs.Puttings.{FinishesWithImage, Readies};
+ghost use Rattle.cm_outside.specs.InputFiles.{reads_by};
+ghost use Rattle.cm_outside.specs.OutputFiles.{FinishesWithImage, Readies};
 ghost use Rattle.cm_cli.specs.Files.{BeginsFiles, RefusesFiles, RefusesTaken};
 ghost use Rattle.cm_outside.specs.Streams.{streams};
 ghost use Rattle.cm_cli.specs.Runs.{IsRunTrace, RunsFrom};
 
-use crate::lent::SessionRunner;
+use crate::dispatch::SessionRunner;
 use crate::sharing::Sharing;
 use cm_asm::Program;
 use cm_bits::{Sink, Source};

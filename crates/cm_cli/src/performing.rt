@@ -3,13 +3,13 @@
 ghost use Rattle.std.specs.Prelude.{◌≡◌, false, map, string_bytes, IfOk, IfErr, IsErrOf};
 ghost use Rattle.cm_line.specs.Lines.{AsksFor, IsBadLine};
 ghost use Rattle.cm_outside.specs.Trace.{HasTrace};
-ghost use Rattle.cm_outside.specs.Takings.{reads_by};
+ghost use Rattle.cm_outside.specs.InputFiles.{reads_by};
 ghost use Rattle.cm_outside.specs.Streams.{streams};
 ghost use Rattle.cm_cli.specs.Lines.{IsLineTrace};
 ghost use Rattle.cm_cli.specs.Performed.{AsksLine, AsksNoLine, IsWordsTrace, Performs, ReportsFault, asked_words};
 
+use crate::dispatch::{Alone, Several};
 use crate::files::{RunLine, run_files};
-use crate::lent::{Alone, Several};
 use crate::sharing::Sharing;
 use cm_bits::{Sink, Source};
 use cm_line::{Line, LineFault, command};

@@ -4,7 +4,7 @@ use Rattle.std.specs.Io.KnownBytes.{Appends}
 use Rattle.cm_bits.specs.declared.ends.Failed.{Failed}
 use Rattle.cm_image.specs.Sending.{GoesOutInPart}
 use Rattle.cm_outside.specs.declared.program_fault.ProgramFault.{ProgramFault}
-use Rattle.cm_outside.specs.Puttings.{SavesAfter, flush_end}
+use Rattle.cm_outside.specs.OutputFiles.{SavesAfter, flush_end}
 
 -- the first of these bytes, so many
 pub front_out : (held holds : Option (List ℕ)) (bytes : List ℕ) (count : ℕ) → Appends held holds (take count bytes)

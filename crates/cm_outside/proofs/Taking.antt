@@ -4,10 +4,10 @@ use Rattle.std.specs.Prelude.{IfOk, IfErr}
 use Rattle.cm_language.specs.Program.{ProgramText}
 use Rattle.cm_sizes.specs.declared.any_machine.AnyMachine.{AnyMachine}
 use Rattle.cm_sizes.specs.Sizes.{SizedMachine, sized}
-use Rattle.cm_outside.specs.declared.takings.Taken.{Taken}
+use Rattle.cm_outside.specs.declared.input_files.Taken.{Taken}
 use Rattle.cm_outside.specs.declared.program_fault.ProgramFault.{ProgramFault}
 use Rattle.cm_outside.specs.Trace.{IoEvent, HasTrace}
-use Rattle.cm_outside.specs.Takings.{Reads, OpensImage, ReadsProgram, RefusesProgram, TakesBoth, RefusesBoth}
+use Rattle.cm_outside.specs.InputFiles.{Reads, OpensImage, ReadsProgram, RefusesProgram, TakesBoth, RefusesBoth}
 use Rattle.cm_outside.proofs.Leading.{did_both}
 
 pub taken_of : {F P : Type 0} {reads : Reads F} {a b x y : List ℕ} {start : SizedMachine} {program : ProgramText}

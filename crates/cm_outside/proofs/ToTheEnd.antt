@@ -3,10 +3,10 @@ use Rattle.std.proofs.Common.{◌≤◌, ℕ, Result, Ok, Err, Vec, length, refl
 use Rattle.std.specs.Prelude.{IfOk, OnOk, IsErrOf}
 use Rattle.std.specs.declared.alloc.Global.{Global}
 use Rattle.std.specs.Io.KnownBytes.{Consumes, IsAtEnd}
-use Rattle.cm_outside.specs.declared.takes.TakeFault.{TakeFault}
-use Rattle.cm_outside.specs.declared.takes.TakeFault.TheVariants.{Read, TooMuch, Memory}
-use Rattle.cm_outside.specs.Take.{ConsumesAtMost, ConsumesBeyond}
-use Rattle.cm_outside.specs.Takings.{Reads, IsTakenTo}
+use Rattle.cm_outside.specs.declared.read_all.TakeFault.{TakeFault}
+use Rattle.cm_outside.specs.declared.read_all.TakeFault.TheVariants.{Read, TooMuch, Memory}
+use Rattle.cm_outside.specs.ReadAll.{ConsumesAtMost, ConsumesBeyond}
+use Rattle.cm_outside.specs.InputFiles.{Reads, IsTakenTo}
 
 pub taken_to : {F : Type 0} (reads : Reads F) (limit : ℕ) (file after : F) (taken : Result (Vec ℕ Global) TakeFault)
     → IfOk taken (λ bytes. length bytes.items ≤ limit)

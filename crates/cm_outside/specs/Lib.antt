@@ -1,8 +1,8 @@
 pub mod Trace
-pub mod Take
-pub mod Takings
+pub mod ReadAll
+pub mod InputFiles
 pub mod Written
-pub mod Puttings
+pub mod OutputFiles
 pub mod ProgramFault
 pub mod Report
 pub mod Streams

@@ -18,8 +18,8 @@ use Rattle.cm_outside.specs.declared.system.PutFault.{PutFault}
 use Rattle.cm_outside.specs.declared.system.PutFault.TheVariants as put
 use Rattle.cm_outside.specs.declared.fault.ChipFault.{ChipFault}
 use Rattle.cm_outside.specs.declared.fault.ChipFault.TheVariants as chip
-use Rattle.cm_outside.specs.declared.takes.TakeFault.{TakeFault}
-use Rattle.cm_outside.specs.declared.takes.TakeFault.TheVariants as take
+use Rattle.cm_outside.specs.declared.read_all.TakeFault.{TakeFault}
+use Rattle.cm_outside.specs.declared.read_all.TakeFault.TheVariants as take
 use Rattle.cm_outside.specs.declared.program_fault.ProgramFault.{ProgramFault}
 use Rattle.cm_outside.specs.declared.program_fault.ProgramFault.TheVariants.{BadLine, Text, Image, Cap, Read, Write}
 use Rattle.cm_outside.specs.declared.program_fault.ProgramFault.TheVariants.{TooMuch, Memory, NoThread, Split, Workers}

@@ -2,21 +2,21 @@
 #![tactic(auto)]
 
 mod fault;
+mod input_files;
+mod output_files;
 mod program_fault;
-mod puttings;
+mod read_all;
 mod reports;
 mod system;
-mod takes;
-mod takings;
 mod written;
 
 pub use cm_language::{AsmFault, AsmKind};
 pub use cm_line::LineFault;
 pub use fault::ChipFault;
+pub use input_files::{Taken, take_both};
+pub use output_files::{abort_files, finish_files, flush_out, make_ready, put_file};
 pub use program_fault::ProgramFault;
-pub use puttings::{abort_files, finish_files, flush_out, make_ready, put_file};
+pub use read_all::{TakeFault, take};
 pub use reports::report;
 pub use system::{PutFault, System};
-pub use takes::{TakeFault, take};
-pub use takings::{Taken, take_both};
 pub use written::{Image, Written};

@@ -5,8 +5,8 @@ ghost use Rattle.cm_outside.specs.Report.{HasLine};
 ghost use Rattle.cm_outside.specs.ProgramFault.{reported_number, fault_line};
 
 use crate::fault::ChipFault;
+use crate::read_all::TakeFault;
 use crate::system::PutFault;
-use crate::takes::TakeFault;
 use cm_image::SourceFault;
 use cm_image_format::ImageFault;
 use cm_language::AsmFault;

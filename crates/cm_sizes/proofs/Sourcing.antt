@@ -14,7 +14,7 @@ use Rattle.cm_sizes.specs.declared.opening.OpenFault.TheVariants.{Image, Room}
 use Rattle.cm_sizes.specs.declared.opening.OpenSourceFault.{OpenSourceFault}
 use Rattle.cm_sizes.specs.declared.opening.OpenSourceFault.TheVariants as unopened
 use Rattle.cm_sizes.specs.Opening.{image_opened, IsUnopened}
-use Rattle.cm_sizes.specs.Sourced.{IsRefusedAs, of_open}
+use Rattle.cm_sizes.specs.ImageSources.{IsRefusedAs, of_open}
 
 consumes-more : (a b c : Option (List ℕ)) (xs ys : List ℕ) → Consumes a b xs → Consumes b c ys → Consumes a c (xs ++ ys)
 consumes-more None b c xs ys p q = tt

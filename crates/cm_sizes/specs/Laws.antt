@@ -4,7 +4,7 @@ use Rattle.cm_model.specs.Machine.{Machine}
 use Rattle.cm_image_format.specs.Whole.{text_of}
 use Rattle.cm_image_format.specs.Laws.{HasText}
 use Rattle.cm_sizes.specs.Sizes.{is_own_room}
-use Rattle.cm_sizes.specs.Sourced.{IMAGE_LIMIT}
+use Rattle.cm_sizes.specs.ImageSources.{IMAGE_LIMIT}
 
 -- the image of a machine of the programs' own is no longer than an image's file may be
 abbrev pub ImagesAreShortEnough : Type 0

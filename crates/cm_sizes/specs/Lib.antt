@@ -1,4 +1,4 @@
 pub mod Sizes
 pub mod Opening
-pub mod Sourced
+pub mod ImageSources
 pub mod Laws

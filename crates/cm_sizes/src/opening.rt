@@ -5,7 +5,7 @@ ghost use Rattle.cm_image_format.specs.Whole.{read_shape};
 ghost use Rattle.cm_image.specs.Pieces.{GivesRest};
 ghost use Rattle.cm_sizes.specs.Sizes.{sized, is_own_room};
 ghost use Rattle.cm_sizes.specs.Opening.{image_opened, IsUnopened};
-ghost use Rattle.cm_sizes.specs.Sourced.{IsRefusedAs, IsUnopenedSource};
+ghost use Rattle.cm_sizes.specs.ImageSources.{IsRefusedAs, IsUnopenedSource};
 
 use crate::any_machine::AnyMachine;
 use cm_array::Machine;
@@ -40,7 +40,7 @@ pub enum OpenSourceFault {
 
 impl From<OpenFault> for OpenSourceFault {
     ghost use Rattle.std.specs.Prelude.{◌≡◌};
-    ghost use Rattle.cm_sizes.specs.Sourced.{of_open};
+    ghost use Rattle.cm_sizes.specs.ImageSources.{of_open};
 
     ghost from_gives = { λ fault whole. whole ≡ of_open fault };
 

@@ -17,7 +17,7 @@ use Rattle.cm_steps.specs.Alone.{own_text}
 use Rattle.cm_steps.specs.Ends.{EndsBy, EndsByForSome, EndsFinished, EndsFinishedForSome, IsCutBy}
 use Rattle.cm_outside.specs.declared.program_fault.ProgramFault.{ProgramFault}
 use Rattle.cm_outside.specs.ProgramFault.{of_world}
-use Rattle.cm_outside.specs.Takings.{Reads}
+use Rattle.cm_outside.specs.InputFiles.{Reads}
 use Rattle.cm_tools.specs.Weaving.{Outgoing, ended_of, EndsByItself, HearsSteps}
 
 pub same_acts : {n cap k : ℕ} {machine : Machine} {woven : Woven} {a b : List Act} → a ≡ b

@@ -4,7 +4,7 @@ use Rattle.std.specs.Io.KnownBytes.{Appends, Consumes, Keeps}
 use Rattle.cm_language.specs.declared.fault.AsmFault.{AsmFault}
 use Rattle.cm_language.specs.Program.{ProgramText, program_of, IsFaultOf}
 use Rattle.cm_language.specs.Listing.{listing}
-use Rattle.cm_outside.specs.Takings.{PROGRAM_LIMIT}
+use Rattle.cm_outside.specs.InputFiles.{PROGRAM_LIMIT}
 use Rattle.cm_outside.specs.Report.{HasFront}
 use Rattle.cm_outside.specs.declared.program_fault.ProgramFault.{ProgramFault}
 use Rattle.cm_outside.specs.declared.program_fault.ProgramFault.TheVariants.{Text, Read, Write}

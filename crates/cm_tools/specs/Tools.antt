@@ -11,15 +11,15 @@ use Rattle.cm_outside.specs.declared.fault.ChipFault.TheVariants as chip
 use Rattle.cm_outside.specs.declared.program_fault.ProgramFault.{ProgramFault}
 use Rattle.cm_outside.specs.declared.program_fault.ProgramFault.TheVariants.{Read, Memory}
 use Rattle.cm_outside.specs.ProgramFault.{of_chip}
-use Rattle.cm_outside.specs.Take.{ConsumesAtMost}
+use Rattle.cm_outside.specs.ReadAll.{ConsumesAtMost}
 use Rattle.cm_tools.specs.Session.{CHIP_LIMIT, ChipSessionEnds, EndsForSome, has_read_all as has_heard_all}
 use Rattle.cm_tools.specs.Session.{is_chip_write}
-use Rattle.cm_outside.specs.Takings.{PROGRAM_LIMIT}
+use Rattle.cm_outside.specs.InputFiles.{PROGRAM_LIMIT}
 use Rattle.cm_tools.specs.Listed.{EndsListing, EndsListingForSome, has_read_all, is_listing_write}
 use Rattle.cm_tools.specs.Fresh.{program_fresh_fault}
 use Rattle.cm_outside.specs.Trace.{IoEvent, Opened}
-use Rattle.cm_outside.specs.Takings.{Reads}
-use Rattle.cm_outside.specs.Puttings.{Flushes, Puts}
+use Rattle.cm_outside.specs.InputFiles.{Reads}
+use Rattle.cm_outside.specs.OutputFiles.{Flushes, Puts}
 use Rattle.cm_outside.specs.Streams.{Streams}
 
 -- how the program ends where a session of one chip ended so

@@ -15,8 +15,8 @@ use Rattle.cm_outside.specs.declared.program_fault.ProgramFault.{ProgramFault}
 use Rattle.cm_outside.specs.declared.program_fault.ProgramFault.TheVariants.{Read}
 use Rattle.cm_outside.specs.ProgramFault.{of_world}
 use Rattle.cm_outside.specs.Trace.{IoEvent, Opened}
-use Rattle.cm_outside.specs.Takings.{Reads, TakesBoth, RefusesBoth}
-use Rattle.cm_outside.specs.Puttings.{FinishesOutput, Readies, IsUnready}
+use Rattle.cm_outside.specs.InputFiles.{Reads, TakesBoth, RefusesBoth}
+use Rattle.cm_outside.specs.OutputFiles.{FinishesOutput, Readies, IsUnready}
 use Rattle.cm_tools.specs.Weaving.{Outgoing, IsWoven}
 
 -- nothing was written

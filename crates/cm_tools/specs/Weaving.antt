@@ -12,8 +12,8 @@ use Rattle.cm_steps.specs.Ends.{EndsBy, EndsByForSome, EndsFinished, EndsFinishe
 use Rattle.cm_steps.specs.Hearing.{exchange_in}
 use Rattle.cm_outside.specs.declared.program_fault.ProgramFault.{ProgramFault}
 use Rattle.cm_outside.specs.ProgramFault.{of_weave}
-use Rattle.cm_outside.specs.Takings.{Reads}
-use Rattle.cm_outside.specs.Puttings.{KeepsImage}
+use Rattle.cm_outside.specs.InputFiles.{Reads}
+use Rattle.cm_outside.specs.OutputFiles.{KeepsImage}
 
 -- what standard output held and holds, and whether it has failed
 pub record Outgoing : Type 0 where

@@ -2,7 +2,7 @@
 
 ghost use Rattle.std.specs.Prelude.{◌≡◌, ◌↔◌, true, false, IfSome, IsErrOf, IsTrue, MatchResult};
 ghost use Rattle.std.specs.Io.KnownBytes.{IsAtEnd};
-ghost use Rattle.cm_outside.specs.Take.{ConsumesAtMost};
+ghost use Rattle.cm_outside.specs.ReadAll.{ConsumesAtMost};
 ghost use Rattle.cm_tools.specs.Listed.{EndsListing, EndsListingForSome, IsListingOf, HasNoListing, has_read_all};
 ghost use Rattle.cm_tools.specs.Listed.{is_listing_write};
 

@@ -2,7 +2,7 @@
 
 ghost use Rattle.std.specs.Prelude.{◌≡◌, ◌<◌, ◌^◌, ◌↔◌, true, false, length, Ok, IfSome, IsErrOf, IsTrue, MatchResult};
 ghost use Rattle.std.specs.Io.KnownBytes.{IsAtEnd};
-ghost use Rattle.cm_outside.specs.Take.{ConsumesAtMost};
+ghost use Rattle.cm_outside.specs.ReadAll.{ConsumesAtMost};
 ghost use Rattle.cm_tools.specs.Session.{ChipSessionEnds, EndsForSome, has_read_all, is_chip_write, answer_of};
 ghost use Rattle.cm_tools.specs.Session.{HasNoAnswer};
 

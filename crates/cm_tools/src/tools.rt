@@ -2,7 +2,7 @@
 
 ghost use Rattle.std.specs.Prelude.{◌≡◌, false};
 ghost use Rattle.cm_outside.specs.Trace.{HasTrace};
-ghost use Rattle.cm_outside.specs.Takings.{reads_by};
+ghost use Rattle.cm_outside.specs.InputFiles.{reads_by};
 ghost use Rattle.cm_outside.specs.Streams.{streams};
 ghost use Rattle.cm_tools.specs.Tools.{IsChipTrace, IsFreshTrace, IsListTrace};
 

@@ -6,7 +6,7 @@ ghost use Rattle.cm_steps.specs.Ends.{is_weave_write};
 ghost use Rattle.cm_steps.specs.Hearing.{exchange_in};
 ghost use Rattle.cm_sizes.specs.Sizes.{sized};
 ghost use Rattle.cm_outside.specs.Trace.{HasTrace};
-ghost use Rattle.cm_outside.specs.Takings.{reads_by};
+ghost use Rattle.cm_outside.specs.InputFiles.{reads_by};
 ghost use Rattle.cm_tools.specs.Weaving.{EndsExchange, ended_of, outgoing_of};
 ghost use Rattle.cm_tools.specs.Weaves.{IsWeaveTrace, OpensEnds, OpensSteps, RefusesEnds, RefusesSteps, WeavesAt};
 ghost use Rattle.cm_tools.specs.Weaves.{WeavesWorld};

@@ -1,5 +1,5 @@
 use Rattle.std.proofs.Common.{inl}
-use Rattle.cm_outside.specs.Takings.{reads_by}
+use Rattle.cm_outside.specs.InputFiles.{reads_by}
 use Rattle.cm_outside.proofs.Leading.{did_so}
 use Rattle.cm_outside.proofs.Taking.{taken_of, refused_of}
 use Rattle.cm_cli.proofs.Beginning.{begun_so, unbegun_so}

@@ -3,7 +3,7 @@ use Rattle.cm_sizes.specs.declared.opening.OpenFault.TheVariants.{Image}
 use Rattle.cm_sizes.specs.declared.opening.OpenSourceFault.{OpenSourceFault}
 use Rattle.cm_sizes.specs.Sizes.{sized}
 use Rattle.cm_sizes.specs.Opening.{image_opened}
-use Rattle.cm_sizes.specs.Sourced.{IsRefusedAs}
+use Rattle.cm_sizes.specs.ImageSources.{IsRefusedAs}
 use Rattle.cm_sizes.proofs.Sourcing.{held_refused, never_read, reads_so, rest_so, stopped_so}
 use Rattle.cm_sizes.proofs.opening.open_held.Goals as goal
 

@@ -2,7 +2,7 @@ use Rattle.std.proofs.Common.{◌≡◌, ◌-◌, ℕ, List, Ok, Err, take, arit
 use Rattle.std.proofs.lemmas.List.{length-take-le}
 use Rattle.cm_sizes.specs.Sizes.{sized}
 use Rattle.cm_sizes.specs.Opening.{image_opened}
-use Rattle.cm_sizes.specs.Sourced.{IMAGE_LIMIT}
+use Rattle.cm_sizes.specs.ImageSources.{IMAGE_LIMIT}
 use Rattle.cm_sizes.proofs.Sourcing.{opens_all, refuses_all, unread}
 use Rattle.cm_sizes.proofs.opening.open_image_source.Goals as goal
 
