@@ -12,7 +12,7 @@ use Rattle.cm_bits.specs.declared.plane.Dir.{Dir}
 use Rattle.cm_bits.specs.declared.plane.Dir.TheVariants.{North, East, West, South}
 use Rattle.cm_model.specs.declared.act.Nano.{Nano}
 use Rattle.cm_model.specs.declared.message.Message.{Message}
-use Rattle.cm_model.specs.Each.{each_from}
+use Rattle.cm_model.specs.Each.{tabulate}
 use Rattle.cm_model.specs.Laws.{IsPlace}
 use Rattle.cm_model.specs.Place.{chip_columns, source, opposite, predecessor, column_of, place_at}
 use Rattle.cm_model.specs.Chip.{IsPlane, chip_after, processor_at}
@@ -20,7 +20,7 @@ use Rattle.cm_model.specs.Instruction.{flag_output}
 use Rattle.cm_model.specs.Array.{Chips, chip_at, output, chain_output, incoming, after_nano}
 use Rattle.cm_model.specs.Wiring.{Routing, plain_routing}
 use Rattle.cm_model.specs.Steps.{Instruct}
-use Rattle.cm_model.proofs.Each.{length-each_from, get_or-each_from, get_or-each_below, same_each_below}
+use Rattle.cm_model.proofs.Each.{length-tabulate, get_or-tabulate, get_or-each_below, same_each_below}
 use Rattle.cm_model.proofs.Incoming.{same_chip}
 use Rattle.cm_model.proofs.Torus.{columns_some, neighbours_lead_back}
 use Rattle.cm_element.specs.Steps.{AreSent, along_chain}
@@ -44,17 +44,17 @@ from_0 c = omega arith
 
 -- a list that is made from 0 on is made from another number on, by a function that agrees there
 each-from_other : {X : Type 0} (d : X) (first count : ℕ) (f g : ℕ → X) → ((i : ℕ) → i < count → f i ≡ g (first + i))
-    → each_from 0 count f ≡ each_from first count g
+    → tabulate 0 count f ≡ tabulate first count g
 each-from_other d first count f g same =
-    ext_get_or d (each_from 0 count f) (each_from first count g)
-    (length-each_from 0 count f ∙ sym (length-each_from first count g))
-    (λ i l. let below : i < count = omega (arith, l, length-each_from 0 count f) in
-    get_or-each_below count f i d below ∙ same i below ∙ sym (get_or-each_from first count g i d below))
+    ext_get_or d (tabulate 0 count f) (tabulate first count g)
+    (length-tabulate 0 count f ∙ sym (length-tabulate first count g))
+    (λ i l. let below : i < count = omega (arith, l, length-tabulate 0 count f) in
+    get_or-each_below count f i d below ∙ same i below ∙ sym (get_or-tabulate first count g i d below))
 
 -- a band after an instruction, where each chip takes in one bit or another for each processor
 stepped : (routing : Routing) (n cap first clock : ℕ) (nano : Nano) (parcel : Parcel) (old new : Chips)
     (buffers : List (List Message)) (logs : List Log) (coming : ℕ → ℕ → Bool)
-    → new ≡ each_from 0 (length old) (λ i. chip_after nano (coming i) (chip_at old i))
+    → new ≡ tabulate 0 (length old) (λ i. chip_after nano (coming i) (chip_at old i))
     → ((i p : ℕ) → i < length old → p < 16
     → coming i p ≡ incoming_in n nano parcel (part_from_logs routing first (length old) old buffers logs clock) (first + i) p)
     → part_from_logs routing first (length old) new buffers logs clock
@@ -64,7 +64,7 @@ stepped routing n cap first clock nano parcel old new buffers logs coming is sam
     let s : Part = part_from_logs routing first (length old) old buffers logs clock in
     let own : (i : ℕ) → chip_at old i ≡ chip_in s (first + i) =
     λ i. ap (chip_at old) (let e : i ≡ first + i - first = omega arith in e) in
-    let chips : new ≡ each_from first (length old) (λ c.
+    let chips : new ≡ tabulate first (length old) (λ c.
     chip_after nano (incoming_in n nano parcel s c) (chip_in s c)) =
     is ∙ each-from_other [] first (length old) (λ i. chip_after nano (coming i) (chip_at old i))
     (λ c. chip_after nano (incoming_in n nano parcel s c) (chip_in s c))
@@ -109,7 +109,7 @@ pub stepped_over_grid : (n : ℕ) (nano : Nano) (old new : Chips) (sent planes e
     → length sent ≡ length old → AreSent nano old sent
     → ((first i : ℕ) → AreWholeRows n first → first + length sent ≤ 2 ^ n → i < length sent
     → IsPlane (get_or planes i 0) (λ p. bit_for n nano.dir first sent edge (record { chip = first + i; proc = p })))
-    → new ≡ each_from 0 (length old) (λ c. chip_after nano (bit (get_or planes c 0)) (chip_at old c))
+    → new ≡ tabulate 0 (length old) (λ c. chip_after nano (bit (get_or planes c 0)) (chip_at old c))
     → IsStepped n nano edge old new
 stepped_over_grid n nano old new sent planes edge news long are came is routing cap first clock buffers logs rows fit =
     let s : Part = part_from_logs routing first (length old) old buffers logs clock in
@@ -121,7 +121,7 @@ stepped_over_grid n nano old new sent planes edge news long are came is routing 
 
 -- and along the chains
 pub stepped_apart : (n : ℕ) (nano : Nano) (old new : Chips) (edge : List ℕ) → nano.write ≢ 10
-    → new ≡ each_from 0 (length old) (λ c. chip_after nano (along_chain nano (chip_at old c)) (chip_at old c))
+    → new ≡ tabulate 0 (length old) (λ c. chip_after nano (along_chain nano (chip_at old c)) (chip_at old c))
     → IsStepped n nano edge old new
 stepped_apart n nano old new edge apart is routing cap first clock buffers logs rows fit =
     let s : Part = part_from_logs routing first (length old) old buffers logs clock in
@@ -163,7 +163,7 @@ all_stepped n nano edge old new all is =
     let s : Part = part_from_logs plain_routing 0 (length old) old [] [] 0 in
     let parcel : Parcel = Edge (edge_bits edge) in
     ap (λ (after : Part). after.chips) (is plain_routing 0 0 0 [] [] (0, omega arith) (omega (arith, all)))
-    ∙ ap (λ (k : ℕ). each_from 0 k (λ c. chip_after nano (incoming_in n nano parcel s c) (chip_in s c))) all
+    ∙ ap (λ (k : ℕ). tabulate 0 k (λ c. chip_after nano (incoming_in n nano parcel s c) (chip_in s c))) all
     ∙ same_each_below [] (2 ^ n) (λ c. chip_after nano (incoming_in n nano parcel s c) (chip_in s c))
     (λ c. chip_after nano (incoming n nano old c) (chip_at old c))
     (λ c l. same_chip nano (incoming_in n nano parcel s c) (incoming n nano old c) (chip_in s c)
@@ -179,7 +179,7 @@ unfolding part_after
 chips_stay n nano edge old new first is rows fit =
     let s : Part = part_from_logs plain_routing first (length old) old [] [] 0 in
     ap (λ (after : Part). length after.chips) (is plain_routing 0 first 0 [] [] rows fit)
-    ∙ length-each_from first (length old)
+    ∙ length-tabulate first (length old)
     (λ c. chip_after nano (incoming_in n nano (Edge (edge_bits edge)) s c) (chip_in s c))
 
 module _ (dims room first : ℕ) (parts : Parts) (old : KeptPart) (nano : Nano) (edge : List ℕ) (run : Chips)
@@ -289,7 +289,7 @@ unfolding due
 edge_due n cap nano s planes edge vertical band chips long wide sent is fit =
     let w : ℕ = chip_columns n in
     ap Edge
-    (ap (λ (k : ℕ). each_from 0 (4 * k) (λ column. bit (get_or edge (column / 4) 0) (column % 4))) wide
+    (ap (λ (k : ℕ). tabulate 0 (4 * k) (λ column. bit (get_or edge (column / 4) 0) (column % 4))) wide
     ∙ same_each_below false (4 * w) (λ column. bit (get_or edge (column / 4) 0) (column % 4))
     (λ column. output nano (chip_in s) (place_at n (edge_row n nano.dir s) column))
     (λ column inside.

@@ -12,8 +12,8 @@ use Rattle.cm_model.specs.declared.act.Act.TheVariants as act
 use Rattle.cm_model.specs.declared.message.Message.{Message}
 use Rattle.cm_model.specs.declared.message.Event.{Event}
 use Rattle.cm_model.specs.declared.message.Event.TheVariants.{Injected, Delivered}
-use Rattle.cm_model.specs.Array.{list_at, chip_at}
-use Rattle.cm_model.specs.Each.{each_from}
+use Rattle.cm_model.specs.Array.{nth_or_nil, chip_at}
+use Rattle.cm_model.specs.Each.{tabulate}
 use Rattle.cm_model.specs.Found.{same_tag}
 use Rattle.cm_model.specs.Letters.{senders, message_sent, can_receive}
 use Rattle.cm_model.specs.OneChip.{delivered, is_accepted, arrived_for}
@@ -25,7 +25,7 @@ use Rattle.cm_model.specs.Account.{Triple, account, account_at, standing_triple,
 use Rattle.cm_model.specs.Keeping.{HasRoom, HasTagsOnce, IsEventOf, IsMachine}
 use Rattle.cm_model.proofs.Accounting.{AreSteps, AreSteps-act}
 use Rattle.cm_model.proofs.Counting.{sum_by-flat_map, sum_by-map, sum_by-same}
-use Rattle.cm_model.proofs.Each.{length-each_from, get_or-each_below, same_each_below, is_each}
+use Rattle.cm_model.proofs.Each.{length-tabulate, get_or-each_below, same_each_below, is_each}
 use Rattle.cm_model.proofs.Keeping.{IsMachine-after_act}
 use Rattle.cm_model.proofs.Parts.{after_acts-steps}
 use Rattle.cm_model.proofs.Rooms.{HasRoom-after_step}
@@ -43,15 +43,15 @@ use Rattle.cm_array.proofs.Laying.{log_left, log_here}
 
 -- behind earlier events, and then others: in either order
 told_behind : (n : ℕ) (earlier logs : List (List Event)) (news : ℕ → List Event)
-    → each_from 0 (2 ^ n) (λ c. list_at (each_from 0 (2 ^ n) (λ b. list_at earlier b ++ list_at logs b)) c ++ news c)
-    ≡ each_from 0 (2 ^ n) (λ c. list_at earlier c ++ list_at (each_from 0 (2 ^ n) (λ b. list_at logs b ++ news b)) c)
+    → tabulate 0 (2 ^ n) (λ c. nth_or_nil (tabulate 0 (2 ^ n) (λ b. nth_or_nil earlier b ++ nth_or_nil logs b)) c ++ news c)
+    ≡ tabulate 0 (2 ^ n) (λ c. nth_or_nil earlier c ++ nth_or_nil (tabulate 0 (2 ^ n) (λ b. nth_or_nil logs b ++ news b)) c)
 told_behind n earlier logs news =
     same_each_below [] (2 ^ n)
-    (λ c. list_at (each_from 0 (2 ^ n) (λ b. list_at earlier b ++ list_at logs b)) c ++ news c)
-    (λ c. list_at earlier c ++ list_at (each_from 0 (2 ^ n) (λ b. list_at logs b ++ news b)) c)
-    (λ c l. ap (λ z. z ++ news c) (get_or-each_below (2 ^ n) (λ b. list_at earlier b ++ list_at logs b) c [] l)
-    ∙ append_assoc (list_at earlier c) (list_at logs c) (news c)
-    ∙ sym (ap (λ z. list_at earlier c ++ z) (get_or-each_below (2 ^ n) (λ b. list_at logs b ++ news b) c [] l)))
+    (λ c. nth_or_nil (tabulate 0 (2 ^ n) (λ b. nth_or_nil earlier b ++ nth_or_nil logs b)) c ++ news c)
+    (λ c. nth_or_nil earlier c ++ nth_or_nil (tabulate 0 (2 ^ n) (λ b. nth_or_nil logs b ++ news b)) c)
+    (λ c l. ap (λ z. z ++ news c) (get_or-each_below (2 ^ n) (λ b. nth_or_nil earlier b ++ nth_or_nil logs b) c [] l)
+    ∙ append_assoc (nth_or_nil earlier c) (nth_or_nil logs c) (news c)
+    ∙ sym (ap (λ z. nth_or_nil earlier c ++ z) (get_or-each_below (2 ^ n) (λ b. nth_or_nil logs b ++ news b) c [] l)))
 
 logs_appended-step : (n cap : ℕ) (earlier : List (List Event)) (machine : Machine) (step : Step)
     → after_step n cap (logs_appended n earlier machine) step ≡ logs_appended n earlier (after_step n cap machine step)
@@ -78,10 +78,10 @@ pub logs_appended-unlogged : (n : ℕ) (machine : Machine) → length machine.lo
     → logs_appended n machine.logs (unlogged n machine) ≡ machine
 logs_appended-unlogged n machine long =
     let same : machine.logs
-    ≡ each_from 0 (2 ^ n) (λ c. list_at machine.logs c ++ list_at (each_from 0 (2 ^ n) (λ b. [])) c) =
-    is_each [] (2 ^ n) (λ c. list_at machine.logs c ++ list_at (each_from 0 (2 ^ n) (λ b. [])) c) machine.logs long
-    (λ c l. sym (ap (λ z. list_at machine.logs c ++ z) (get_or-each_below (2 ^ n) (λ b. []) c [] l)
-    ∙ append-nil (list_at machine.logs c))) in
+    ≡ tabulate 0 (2 ^ n) (λ c. nth_or_nil machine.logs c ++ nth_or_nil (tabulate 0 (2 ^ n) (λ b. [])) c) =
+    is_each [] (2 ^ n) (λ c. nth_or_nil machine.logs c ++ nth_or_nil (tabulate 0 (2 ^ n) (λ b. [])) c) machine.logs long
+    (λ c l. sym (ap (λ z. nth_or_nil machine.logs c ++ z) (get_or-each_below (2 ^ n) (λ b. []) c [] l)
+    ∙ append-nil (nth_or_nil machine.logs c))) in
     λ i. record machine { logs = sym same i }
 
 run_of-steps : (n cap : ℕ) (machine : Machine) (acts : List Act) → length machine.buffers ≡ 2 ^ n
@@ -114,36 +114,36 @@ tags_once : (n : ℕ) (machine : Machine) → HasTagsOnce n machine → HasTagsO
 unfolding account
 tags_once n machine once tag =
     let has : Triple → ℕ = λ triple. cond (same_tag triple.tag tag) 1 0 in
-    let told : ℕ → List Triple = λ c. filter_map delivered_triple (list_at machine.logs c) in
-    let stands : ℕ → List Triple = λ c. map (standing_triple c) (list_at machine.buffers c) in
+    let told : ℕ → List Triple = λ c. filter_map delivered_triple (nth_or_nil machine.logs c) in
+    let stands : ℕ → List Triple = λ c. map (standing_triple c) (nth_or_nil machine.buffers c) in
     let all : count_by (λ triple. same_tag triple.tag tag) (account n machine)
     ≡ sum_by (λ c. sum_by has (stands c ++ told c)) (range_with_len 0 (2 ^ n)) =
     sum_by-flat_map has (account_at machine) (range_with_len 0 (2 ^ n)) in
     let left : count_by (λ triple. same_tag triple.tag tag) (account n (unlogged n machine))
     ≡ sum_by (λ c. sum_by has (stands c)) (range_with_len 0 (2 ^ n)) =
     tags_counted n (unlogged n machine) tag refl
-    ∙ sum_by-flat_map (λ (m : Message). cond (same_tag m.tag tag) 1 0) (λ c. list_at machine.buffers c)
+    ∙ sum_by-flat_map (λ (m : Message). cond (same_tag m.tag tag) 1 0) (λ c. nth_or_nil machine.buffers c)
     (range_with_len 0 (2 ^ n))
     ∙ sym stand in
     omega (arith, once tag, all, left, some_more has stands told 0 (2 ^ n))
   where
     stand : sum_by (λ c. sum_by (λ (triple : Triple). cond (same_tag triple.tag tag) 1 0)
-        (map (standing_triple c) (list_at machine.buffers c))) (range_with_len 0 (2 ^ n))
-        ≡ sum_by (λ c. sum_by (λ (m : Message). cond (same_tag m.tag tag) 1 0) (list_at machine.buffers c))
+        (map (standing_triple c) (nth_or_nil machine.buffers c))) (range_with_len 0 (2 ^ n))
+        ≡ sum_by (λ c. sum_by (λ (m : Message). cond (same_tag m.tag tag) 1 0) (nth_or_nil machine.buffers c))
         (range_with_len 0 (2 ^ n))
     stand = sum_by-same
         (λ c. sum_by (λ (triple : Triple). cond (same_tag triple.tag tag) 1 0)
-        (map (standing_triple c) (list_at machine.buffers c)))
-        (λ c. sum_by (λ (m : Message). cond (same_tag m.tag tag) 1 0) (list_at machine.buffers c))
+        (map (standing_triple c) (nth_or_nil machine.buffers c)))
+        (λ c. sum_by (λ (m : Message). cond (same_tag m.tag tag) 1 0) (nth_or_nil machine.buffers c))
         (range_with_len 0 (2 ^ n))
         (λ c. sum_by-map (λ (triple : Triple). cond (same_tag triple.tag tag) 1 0) (standing_triple c)
-        (list_at machine.buffers c))
+        (nth_or_nil machine.buffers c))
 
 pub IsMachine-unlogged : (n cap : ℕ) (machine : Machine) → IsMachine n cap machine → IsMachine n cap (unlogged n machine)
 IsMachine-unlogged n cap machine is = record {
   chip_count = is.chip_count;
   buffer_count = is.buffer_count;
-  log_count = length-each_from 0 (2 ^ n) (λ c. []);
+  log_count = length-tabulate 0 (2 ^ n) (λ c. []);
   whole = is.whole;
   room = is.room;
   messages = is.messages;
@@ -168,21 +168,21 @@ length-delivered receives before (m ∷ ms) =
 
 -- how many events of a chip its log has
 told : Machine → ℕ → ℕ
-told machine c = length (list_at machine.logs c)
+told machine c = length (nth_or_nil machine.logs c)
 
 told_at_injection : (n cap c : ℕ) (machine : Machine) → c < 2 ^ n
     → told (machine_after_injection n cap machine) c ≤ told machine c + 4
 unfolding machine_after_injection told
 told_at_injection n cap c machine l =
     let is = ap length (get_or-each_below (2 ^ n)
-    (λ b. list_at machine.logs b ++ map Injected (sent_in n cap machine b)) c [] l) in
+    (λ b. nth_or_nil machine.logs b ++ map Injected (sent_in n cap machine b)) c [] l) in
     omega (
       arith,
       is,
-      length-append (list_at machine.logs c) (map Injected (sent_in n cap machine c)),
+      length-append (nth_or_nil machine.logs c) (map Injected (sent_in n cap machine c)),
       length-map (sent_in n cap machine c) Injected,
       length-map (taken_in cap machine c) (message_sent n machine.clock c (chip_at machine.chips c)),
-      length-take (min 4 (cap - length (list_at machine.buffers c))) (senders (chip_at machine.chips c)),
+      length-take (min 4 (cap - length (nth_or_nil machine.buffers c))) (senders (chip_at machine.chips c)),
     )
 
 told_at_delivery : (n cap c : ℕ) (machine : Machine) → c < 2 ^ n → HasRoom n cap machine
@@ -190,13 +190,13 @@ told_at_delivery : (n cap c : ℕ) (machine : Machine) → c < 2 ^ n → HasRoom
 unfolding machine_after_delivery told
 told_at_delivery n cap c machine l room =
     let is = ap length (get_or-each_below (2 ^ n)
-    (λ b. list_at machine.logs b ++ map (λ m. Delivered b m) (delivered_in machine b)) c [] l) in
+    (λ b. nth_or_nil machine.logs b ++ map (λ m. Delivered b m) (delivered_in machine b)) c [] l) in
     omega (
       arith,
       is,
-      length-append (list_at machine.logs c) (map (λ m. Delivered c m) (delivered_in machine c)),
+      length-append (nth_or_nil machine.logs c) (map (λ m. Delivered c m) (delivered_in machine c)),
       length-map (delivered_in machine c) (λ m. Delivered c m),
-      length-delivered (can_receive (chip_at machine.chips c)) [] (list_at machine.buffers c),
+      length-delivered (can_receive (chip_at machine.chips c)) [] (nth_or_nil machine.buffers c),
       room c l,
     )
 
@@ -243,16 +243,16 @@ told_in_acts n cap c machine (a ∷ acts) l is =
     omega (arith, rest, first, all)
 
 pub few_events_are_told : (n cap : ℕ) (machine : Machine) (acts : List Act) (c : ℕ) → IsMachine n cap machine → c < 2 ^ n
-    → length (list_at (run_of n cap machine acts).logs c)
-    ≤ length (list_at machine.logs c) + cycles_in acts * (4 + cap)
+    → length (nth_or_nil (run_of n cap machine acts).logs c)
+    ≤ length (nth_or_nil machine.logs c) + cycles_in acts * (4 + cap)
 unfolding told
 few_events_are_told n cap machine acts c is l =
-    subst (λ (m : Machine). length (list_at m.logs c) ≤ length (list_at machine.logs c) + cycles_in acts * (4 + cap))
+    subst (λ (m : Machine). length (nth_or_nil m.logs c) ≤ length (nth_or_nil machine.logs c) + cycles_in acts * (4 + cap))
     (sym (run_of-acted n cap machine acts is.buffer_count)) (told_in_acts n cap c machine acts l is)
 
 -- ---- events that are put behind those of logs
 
-items_at : (logs : List Log) (i : ℕ) (d : Log) → i < length logs → list_at (events_of logs) i ≡ (get_or logs i d).items
+items_at : (logs : List Log) (i : ℕ) (d : Log) → i < length logs → nth_or_nil (events_of logs) i ≡ (get_or logs i d).items
 items_at logs i d l = get_or-map (λ (x : Log). x.items) logs i d [] l
 
 -- a log that takes in the events at its place has room for them
@@ -272,13 +272,13 @@ room_behind logs was more i d e l there same takes =
 pub one_more_behind : (logs was more : List Log) (i : ℕ) (d e now : Log) → i < length logs → i < length was
     → i < length more
     → get_or logs i d ≡ get_or was i d → now.items ≡ (get_or logs i d).items ++ (get_or more i e).items
-    → ((k : ℕ) → k < i → list_at (events_of logs) k ≡ list_at (events_of was) k ++ list_at (events_of more) k)
+    → ((k : ℕ) → k < i → nth_or_nil (events_of logs) k ≡ nth_or_nil (events_of was) k ++ nth_or_nil (events_of more) k)
     → (k : ℕ) → k < i + 1
-    → list_at (events_of (set logs i now)) k ≡ list_at (events_of was) k ++ list_at (events_of more) k
+    → nth_or_nil (events_of (set logs i now)) k ≡ nth_or_nil (events_of was) k ++ nth_or_nil (events_of more) k
 one_more_behind logs was more i d e now l was_there there same is before k below =
     ⊎_elim
-    (λ (h : k ≡ i). subst (λ (j : ℕ). list_at (events_of (set logs i now)) j
-    ≡ list_at (events_of was) j ++ list_at (events_of more) j) (sym h)
+    (λ (h : k ≡ i). subst (λ (j : ℕ). nth_or_nil (events_of (set logs i now)) j
+    ≡ nth_or_nil (events_of was) j ++ nth_or_nil (events_of more) j) (sym h)
     (log_here logs i now l ∙ is
     ∙ (λ j. (ap (λ (x : Log). x.items) same ∙ sym (items_at was i d was_there)) j ++ sym (items_at more i e there) j)))
     (λ (h : k ≢ i). log_left logs i k now h ∙ before k (omega (arith, h, below)))
@@ -289,13 +289,13 @@ pub all_behind : (logs was more : List Log) → length logs ≡ length was → l
     → ((c : ℕ) (d e : Log) → c < length was
     → (get_or logs c e).items ≡ (get_or was c e).items ++ (get_or more c d).items)
     → events_of logs
-    ≡ each_from 0 (length was) (λ c. list_at (events_of was) c ++ list_at (events_of more) c)
+    ≡ tabulate 0 (length was) (λ c. nth_or_nil (events_of was) c ++ nth_or_nil (events_of more) c)
 all_behind logs [] more long there each =
-    is_each [] 0 (λ c. list_at [] c ++ list_at (events_of more) c) (events_of logs)
+    is_each [] 0 (λ c. nth_or_nil [] c ++ nth_or_nil (events_of more) c) (events_of logs)
     (length-map logs (λ (x : Log). x.items) ∙ long) (λ i h. absurd (omega (arith, h)))
 all_behind logs (x ∷ rest) more long there each =
     let was : List Log = x ∷ rest in
-    is_each [] (length was) (λ c. list_at (events_of was) c ++ list_at (events_of more) c) (events_of logs)
+    is_each [] (length was) (λ c. nth_or_nil (events_of was) c ++ nth_or_nil (events_of more) c) (events_of logs)
     (length-map logs (λ (y : Log). y.items) ∙ long)
     (λ i h. items_at logs i x (omega (arith, h, long)) ∙ each i x x h
     ∙ (λ j. sym (items_at was i x h) j ++ sym (items_at more i x (omega (arith, h, there))) j))
@@ -309,32 +309,32 @@ take_in_dealt rooms logs row takes c l =
       arith,
       takes c l,
       ap length (with_row_at logs row c here),
-      length-append (list_at logs c) (events_of_chip c row),
+      length-append (nth_or_nil logs c) (events_of_chip c row),
     ))
     (λ (past : length logs ≤ c). omega (arith, ap length (get_or_past logs c [] past)))
     (cases_lt c (length logs))
 
 -- what a row tells stands behind earlier events as it stood behind the later ones
 pub row_behind : (n : ℕ) (earlier logs now : List (List Event)) (row : List Event) → length logs ≡ 2 ^ n
-    → now ≡ each_from 0 (2 ^ n) (λ c. list_at earlier c ++ list_at logs c)
-    → with_row now row ≡ each_from 0 (2 ^ n) (λ c. list_at earlier c ++ list_at (with_row logs row) c)
+    → now ≡ tabulate 0 (2 ^ n) (λ c. nth_or_nil earlier c ++ nth_or_nil logs c)
+    → with_row now row ≡ tabulate 0 (2 ^ n) (λ c. nth_or_nil earlier c ++ nth_or_nil (with_row logs row) c)
 row_behind n earlier logs now row long is =
-    let both : ℕ → List Event = λ c. list_at earlier c ++ list_at logs c in
-    let many : length now ≡ 2 ^ n = ap length is ∙ length-each_from 0 (2 ^ n) both in
-    is_each [] (2 ^ n) (λ c. list_at earlier c ++ list_at (with_row logs row) c) (with_row now row)
+    let both : ℕ → List Event = λ c. nth_or_nil earlier c ++ nth_or_nil logs c in
+    let many : length now ≡ 2 ^ n = ap length is ∙ length-tabulate 0 (2 ^ n) both in
+    is_each [] (2 ^ n) (λ c. nth_or_nil earlier c ++ nth_or_nil (with_row logs row) c) (with_row now row)
     (length-with_row now row ∙ many)
     (λ c l. with_row_at now row c (omega (arith, l, many))
     ∙ ap (λ z. z ++ events_of_chip c row)
-    (ap (λ lists. list_at lists c) is ∙ get_or-each_below (2 ^ n) both c [] l)
-    ∙ append_assoc (list_at earlier c) (list_at logs c) (events_of_chip c row)
-    ∙ ap (λ z. list_at earlier c ++ z) (sym (with_row_at logs row c (omega (arith, l, long)))))
+    (ap (λ lists. nth_or_nil lists c) is ∙ get_or-each_below (2 ^ n) both c [] l)
+    ∙ append_assoc (nth_or_nil earlier c) (nth_or_nil logs c) (events_of_chip c row)
+    ∙ ap (λ z. nth_or_nil earlier c ++ z) (sym (with_row_at logs row c (omega (arith, l, long)))))
 
 -- the logs of a machine that were set aside, with its own behind them
 pub logs_behind : (n : ℕ) (was more now first second : List Log) → length was ≡ 2 ^ n → first ≡ was → second ≡ more
     → events_of now
-    ≡ each_from 0 (length first) (λ c. list_at (events_of first) c ++ list_at (events_of second) c)
-    → events_of now ≡ each_from 0 (2 ^ n) (λ c. list_at (events_of was) c ++ list_at (events_of more) c)
+    ≡ tabulate 0 (length first) (λ c. nth_or_nil (events_of first) c ++ nth_or_nil (events_of second) c)
+    → events_of now ≡ tabulate 0 (2 ^ n) (λ c. nth_or_nil (events_of was) c ++ nth_or_nil (events_of more) c)
 logs_behind n was more now first second long one two is =
     is
-    ∙ (λ i. each_from 0 (length (one i)) (λ c. list_at (events_of (one i)) c ++ list_at (events_of (two i)) c))
-    ∙ ap (λ (k : ℕ). each_from 0 k (λ c. list_at (events_of was) c ++ list_at (events_of more) c)) long
+    ∙ (λ i. tabulate 0 (length (one i)) (λ c. nth_or_nil (events_of (one i)) c ++ nth_or_nil (events_of (two i)) c))
+    ∙ ap (λ (k : ℕ). tabulate 0 k (λ c. nth_or_nil (events_of was) c ++ nth_or_nil (events_of more) c)) long

@@ -11,11 +11,11 @@ use Rattle.cm_model.specs.declared.message.Message.{Message}
 use Rattle.cm_model.specs.declared.message.Event.{Event}
 use Rattle.cm_model.specs.Processor.{Processor}
 use Rattle.cm_model.specs.Whole.{IsChip}
-use Rattle.cm_model.specs.Array.{Chips, chip_at, list_at}
+use Rattle.cm_model.specs.Array.{Chips, chip_at, nth_or_nil}
 use Rattle.cm_model.specs.Machine.{Machine, blank_machine}
 use Rattle.cm_model.specs.Keeping.{IsMachine, IsMessage, IsEventOf}
 use Rattle.cm_model.specs.Unlogged.{IsUnlogged, standing_messages, has_tag_twice}
-use Rattle.cm_model.proofs.Each.{length-each_from, get_or-each_below}
+use Rattle.cm_model.proofs.Each.{length-tabulate, get_or-each_below}
 use Rattle.cm_model.proofs.Unlogged.{standing-all, none_injected, HasTagsOnce-standing, BornBefore-buffers}
 use Rattle.cm_model.proofs.Blanks.{IsMachine-blank_at}
 use Rattle.cm_element.specs.Near.{with_near}
@@ -30,7 +30,7 @@ use Rattle.cm_array.proofs.Machines.{machine_of-gathered}
 
 -- ---- blank
 
-no_buffer : (n clock c : ℕ) → c < 2 ^ n → list_at (record (blank_machine n) { clock = clock }).buffers c ≡ []
+no_buffer : (n clock c : ℕ) → c < 2 ^ n → nth_or_nil (record (blank_machine n) { clock = clock }).buffers c ≡ []
 unfolding blank_machine
 no_buffer n clock c h = get_or-each_below {X = List Message} (2 ^ n) (λ b. []) c [] h
 
@@ -134,12 +134,12 @@ AreUnfinished-with_chips n cap parts run from first inside whole is h =
 
 -- with a message more that fits there
 IsUnfinished-with_message : (n cap : ℕ) (machine : Machine) (c : ℕ) (m : Message) → IsUnfinished n cap machine
-    → c < 2 ^ n → length (list_at machine.buffers c) < cap
+    → c < 2 ^ n → length (nth_or_nil machine.buffers c) < cap
     → IsMessage n m → m.tag.birth < machine.clock → IsUnfinished n cap (machine_with_message machine c m)
 IsUnfinished-with_message n cap machine c m h below room message born =
-    let more : List Message = list_at machine.buffers c ++ m ∷ [] in
-    let long : length more ≡ length (list_at machine.buffers c) + 1 =
-    length-append (list_at machine.buffers c) (m ∷ []) in
+    let more : List Message = nth_or_nil machine.buffers c ++ m ∷ [] in
+    let long : length more ≡ length (nth_or_nil machine.buffers c) + 1 =
+    length-append (nth_or_nil machine.buffers c) (m ∷ []) in
     record {
       chip_count = h.chip_count;
       buffer_count = length-set machine.buffers c more ∙ h.buffer_count;
@@ -148,11 +148,11 @@ IsUnfinished-with_message n cap machine c m h below room message born =
           (2 ^ n) h.buffer_count h.room (omega (arith, long));
       messages = each_after_set (λ (ms : List Message). All (IsMessage n) ms) machine.buffers [] c more
           (2 ^ n) h.buffer_count h.messages
-          (All-append (IsMessage n) (list_at machine.buffers c) (m ∷ []) (h.messages c below)
+          (All-append (IsMessage n) (nth_or_nil machine.buffers c) (m ∷ []) (h.messages c below)
           (All-cons (IsMessage n) m [] message (All-nil (IsMessage n))));
       born = each_after_set (λ (ms : List Message). All (λ q. q.tag.birth < machine.clock) ms) machine.buffers [] c
           more (2 ^ n) h.buffer_count h.born
-          (All-append (λ (q : Message). q.tag.birth < machine.clock) (list_at machine.buffers c) (m ∷ [])
+          (All-append (λ (q : Message). q.tag.birth < machine.clock) (nth_or_nil machine.buffers c) (m ∷ [])
           (h.born c below)
           (All-cons (λ (q : Message). q.tag.birth < machine.clock) m [] born
           (All-nil (λ (q : Message). q.tag.birth < machine.clock))));
@@ -162,7 +162,7 @@ IsUnfinished-with_message n cap machine c m h below room message born =
 
 -- the machine of the parts with such a buffer
 pub machine_of-with_message : (parts : Parts) (i : ℕ) (crossing : InFlight) (m : Message)
-    → crossing.buffers ≡ set parts.crossing.buffers i (list_at parts.crossing.buffers i ++ m ∷ [])
+    → crossing.buffers ≡ set parts.crossing.buffers i (nth_or_nil parts.crossing.buffers i ++ m ∷ [])
     → machine_of (record parts { crossing = crossing }) ≡ machine_with_message (machine_of parts) i m
 machine_of-with_message parts i crossing m is =
     λ j. record {
@@ -175,8 +175,8 @@ machine_of-with_message parts i crossing m is =
 
 pub AreUnfinished-with_message : (n cap : ℕ) (parts : Parts) (i : ℕ) (crossing : InFlight) (m : Message)
     → AreUnfinished n cap parts → i < 2 ^ n
-    → crossing.buffers ≡ set parts.crossing.buffers i (list_at parts.crossing.buffers i ++ m ∷ [])
-    → length (list_at (machine_of parts).buffers i) < cap
+    → crossing.buffers ≡ set parts.crossing.buffers i (nth_or_nil parts.crossing.buffers i ++ m ∷ [])
+    → length (nth_or_nil (machine_of parts).buffers i) < cap
     → IsMessage n m → m.tag.birth < parts.clock
     → AreUnfinished n cap (record parts { crossing = crossing })
 AreUnfinished-with_message n cap parts i crossing m h below is room message born = record {
@@ -195,12 +195,12 @@ IsMachine-finished n cap machine h apart = record {
   chip_count = h.chip_count;
   buffer_count = h.buffer_count;
   log_count = ap (λ (logs : List (List Event)). length logs) h.unlogged
-      ∙ length-each_from {X = List Event} 0 (2 ^ n) (λ c. []);
+      ∙ length-tabulate {X = List Event} 0 (2 ^ n) (λ c. []);
   whole = h.whole;
   room = h.room;
   messages = h.messages;
   events = λ c below. subst (λ (log : List Event). All (IsEventOf n c) log)
-      (sym (ap (λ (logs : List (List Event)). list_at logs c) h.unlogged
+      (sym (ap (λ (logs : List (List Event)). nth_or_nil logs c) h.unlogged
       ∙ get_or-each_below (2 ^ n) (λ b. []) c [] below)) (All-nil (IsEventOf n c));
   routing = h.routing;
   births = BornBefore-buffers n machine h.unlogged h.born;

@@ -9,9 +9,9 @@ use Rattle.std.proofs.lemmas.List.Elements.{All-from_get_or}
 use Rattle.std.specs.Prelude.{vec_len}
 use Rattle.std.specs.List.{All, list_any}
 use Rattle.cm_model.specs.declared.message.Event.{Event}
-use Rattle.cm_model.specs.Array.{list_at}
-use Rattle.cm_model.specs.Each.{each_from}
-use Rattle.cm_model.proofs.Each.{length-each_from, get_or-each_below, same_each_below, is_each}
+use Rattle.cm_model.specs.Array.{nth_or_nil}
+use Rattle.cm_model.specs.Each.{tabulate}
+use Rattle.cm_model.proofs.Each.{length-tabulate, get_or-each_below, same_each_below, is_each}
 use Rattle.cm_blocks.specs.Parts.{cut}
 use Rattle.cm_blocks.proofs.Cutting.{length-cut, read-cut_at}
 use Rattle.cm_router.specs.Logs.{Log}
@@ -33,49 +33,49 @@ told_elsewhere c e other = let no : (teller e == c) ≡ false = grind (arith, na
 pub dealt_elsewhere : (first : ℕ) (logs : List (List Event)) (e : Event)
     → ((c : ℕ) → c < length logs → teller e ≢ first + c) → logs ≡ dealt first logs (e ∷ [])
 dealt_elsewhere first logs e other =
-    is_each [] (length logs) (λ c. list_at logs c ++ events_of_chip (first + c) (e ∷ [])) logs refl
-    (λ c l. sym (ap (λ z. list_at logs c ++ z) (told_elsewhere (first + c) e (other c l))
-    ∙ append-nil (list_at logs c)))
+    is_each [] (length logs) (λ c. nth_or_nil logs c ++ events_of_chip (first + c) (e ∷ [])) logs refl
+    (λ c l. sym (ap (λ z. nth_or_nil logs c ++ z) (told_elsewhere (first + c) e (other c l))
+    ∙ append-nil (nth_or_nil logs c)))
 
 -- told by a chip whose log it is
 pub dealt_here : (first i : ℕ) (logs : List Log) (was log : Log) (e : Event) → i < length logs → teller e ≡ first + i
     → log.items ≡ (get_or logs i was).items ++ e ∷ [] → events_of (set logs i log) ≡ dealt first (events_of logs) (e ∷ [])
 dealt_here first i logs was log e inside told is =
     let long = length-map logs (λ (x : Log). x.items) in
-    is_each [] (length (events_of logs)) (λ c. list_at (events_of logs) c ++ events_of_chip (first + c) (e ∷ []))
+    is_each [] (length (events_of logs)) (λ c. nth_or_nil (events_of logs) c ++ events_of_chip (first + c) (e ∷ []))
     (events_of (set logs i log))
     (length-map (set logs i log) (λ (x : Log). x.items) ∙ length-set logs i log ∙ sym long)
     (λ c l. ⊎_elim
-    (λ (h : c ≡ i). subst (λ (k : ℕ). list_at (events_of (set logs i log)) k
-    ≡ list_at (events_of logs) k ++ events_of_chip (first + k) (e ∷ [])) (sym h)
+    (λ (h : c ≡ i). subst (λ (k : ℕ). nth_or_nil (events_of (set logs i log)) k
+    ≡ nth_or_nil (events_of logs) k ++ events_of_chip (first + k) (e ∷ [])) (sym h)
     (log_here logs i log inside ∙ is
     ∙ (λ j. sym (get_or-map (λ (x : Log). x.items) logs i was [] inside) j ++ sym (told_here (first + i) e told) j)))
     (λ (h : c ≢ i). log_left logs i c log h
-    ∙ sym (ap (λ z. list_at (events_of logs) c ++ z) (told_elsewhere (first + c) e (omega (arith, h, told)))
-    ∙ append-nil (list_at (events_of logs) c)))
+    ∙ sym (ap (λ z. nth_or_nil (events_of logs) c ++ z) (told_elsewhere (first + c) e (omega (arith, h, told)))
+    ∙ append-nil (nth_or_nil (events_of logs) c)))
     (cases_eq c i))
 
 -- ---- a row
 
 pub dealt-nil : (first : ℕ) (logs : List (List Event)) → dealt first logs [] ≡ logs
-dealt-nil first logs = sym (is_each [] (length logs) (λ c. list_at logs c ++ []) logs refl
-    (λ c l. sym (append-nil (list_at logs c))))
+dealt-nil first logs = sym (is_each [] (length logs) (λ c. nth_or_nil logs c ++ []) logs refl
+    (λ c l. sym (append-nil (nth_or_nil logs c))))
 
 pub length-dealt : (first : ℕ) (logs : List (List Event)) (row : List Event) → length (dealt first logs row) ≡ length logs
-length-dealt first logs row = length-each_from 0 (length logs) (λ c. list_at logs c ++ events_of_chip (first + c) row)
+length-dealt first logs row = length-tabulate 0 (length logs) (λ c. nth_or_nil logs c ++ events_of_chip (first + c) row)
 
 -- one behind the other
 pub dealt-append : (first : ℕ) (logs : List (List Event)) (row more : List Event)
     → dealt first (dealt first logs row) more ≡ dealt first logs (row ++ more)
 dealt-append first logs row more =
-    let told = λ (c : ℕ). list_at logs c ++ events_of_chip (first + c) row in
-    ap (λ (k : ℕ). each_from 0 k (λ c. list_at (dealt first logs row) c ++ events_of_chip (first + c) more))
+    let told = λ (c : ℕ). nth_or_nil logs c ++ events_of_chip (first + c) row in
+    ap (λ (k : ℕ). tabulate 0 k (λ c. nth_or_nil (dealt first logs row) c ++ events_of_chip (first + c) more))
     (length-dealt first logs row)
-    ∙ same_each_below [] (length logs) (λ c. list_at (dealt first logs row) c ++ events_of_chip (first + c) more)
-    (λ c. list_at logs c ++ events_of_chip (first + c) (row ++ more))
+    ∙ same_each_below [] (length logs) (λ c. nth_or_nil (dealt first logs row) c ++ events_of_chip (first + c) more)
+    (λ c. nth_or_nil logs c ++ events_of_chip (first + c) (row ++ more))
     (λ c l. ap (λ z. z ++ events_of_chip (first + c) more) (get_or-each_below (length logs) told c [] l)
-    ∙ append_assoc (list_at logs c) (events_of_chip (first + c) row) (events_of_chip (first + c) more)
-    ∙ ap (λ z. list_at logs c ++ z) (sym (events_of_chip-append (first + c) row more)))
+    ∙ append_assoc (nth_or_nil logs c) (events_of_chip (first + c) row) (events_of_chip (first + c) more)
+    ∙ ap (λ z. nth_or_nil logs c ++ z) (sym (events_of_chip-append (first + c) row more)))
 
 -- one event more of a row
 pub one_more_dealt : (first i : ℕ) (row : List Event) (e : Event) (before now new : List (List Event)) → i < length row
@@ -88,8 +88,8 @@ one_more_dealt first i row e before now new inside is was told =
 -- the logs of all chips
 pub with_row-dealt : (logs : List (List Event)) (row : List Event) → with_row logs row ≡ dealt 0 logs row
 with_row-dealt logs row =
-    same_each_below [] (length logs) (λ c. list_at logs c ++ events_of_chip c row) (λ c. list_at logs c ++ events_of_chip (0 + c) row)
-    (λ c l. ap (λ (k : ℕ). list_at logs c ++ events_of_chip k row) (sym (zero-add c)))
+    same_each_below [] (length logs) (λ c. nth_or_nil logs c ++ events_of_chip c row) (λ c. nth_or_nil logs c ++ events_of_chip (0 + c) row)
+    (λ c l. ap (λ (k : ℕ). nth_or_nil logs c ++ events_of_chip k row) (sym (zero-add c)))
 
 -- some of a row is dealt out, the rest is left in it
 pub some_dealt : (logs now : List (List Event)) (row left : List Event) (count : ℕ)
@@ -105,7 +105,7 @@ dealt-cut first count logs row fits =
     let some : List (List Event) = cut first count logs in
     let wide : length some ≡ count = length-cut first count logs fits in
     let long = length-with_row logs row in
-    sym (is_each [] (length some) (λ c. list_at some c ++ events_of_chip (first + c) row) (cut first count (with_row logs row))
+    sym (is_each [] (length some) (λ c. nth_or_nil some c ++ events_of_chip (first + c) row) (cut first count (with_row logs row))
     (length-cut first count (with_row logs row) (omega (arith, fits, long)) ∙ sym wide)
     (λ c l. let below : c < count = omega (arith, l, wide) in
     read-cut_at first count (with_row logs row) c [] below
@@ -145,7 +145,7 @@ none_where_untold c dealt row false none is =
 
 -- where no log has an event, nor the row, nobody has told any
 pub nothing_told : (logs : List (List Event)) (row : List Event) → row ≡ []
-    → ((c : ℕ) → c < length logs → list_at logs c ≡ []) → All (λ log. log ≡ []) (with_row logs row)
+    → ((c : ℕ) → c < length logs → nth_or_nil logs c ≡ []) → All (λ log. log ≡ []) (with_row logs row)
 nothing_told logs row none each =
     All-from_get_or (λ (log : List Event). log ≡ []) (with_row logs row) []
     (λ c l. let inside : c < length logs = omega (arith, l, length-with_row logs row) in

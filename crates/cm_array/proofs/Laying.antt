@@ -5,9 +5,9 @@ use Rattle.std.proofs.lemmas.Bool.{cases_eq, cases_lt}
 use Rattle.std.proofs.lemmas.List.{set-set, set-get_or, append-nil, append_assoc, take_more}
 use Rattle.std.proofs.lemmas.List.{get_or_past, get_or-map, map-set, length-map, take_all}
 use Rattle.cm_model.specs.declared.message.Event.{Event}
-use Rattle.cm_model.specs.Each.{each_from}
-use Rattle.cm_model.proofs.Each.{length-each_from, get_or-each_below}
-use Rattle.cm_model.specs.Array.{Chips, list_at}
+use Rattle.cm_model.specs.Each.{tabulate}
+use Rattle.cm_model.proofs.Each.{length-tabulate, get_or-each_below}
+use Rattle.cm_model.specs.Array.{Chips, nth_or_nil}
 use Rattle.cm_blocks.specs.Parts.{cut}
 use Rattle.cm_blocks.proofs.Cutting.{length-cut, read-cut_at}
 use Rattle.cm_element.specs.Laid.{AreLaid}
@@ -18,13 +18,13 @@ use Rattle.cm_array.specs.Cuts.{IsLaid}
 -- ---- messages that come one after another
 
 -- before the first of them
-pub none_come : {X : Type 0} (lists : List (List X)) (c : ℕ) → lists ≡ set lists c (list_at lists c ++ [])
-none_come lists c = sym (ap (set lists c) (append-nil (list_at lists c)) ∙ set-get_or lists c [])
+pub none_come : {X : Type 0} (lists : List (List X)) (c : ℕ) → lists ≡ set lists c (nth_or_nil lists c ++ [])
+none_come lists c = sym (ap (set lists c) (append-nil (nth_or_nil lists c)) ∙ set-get_or lists c [])
 
 -- one more
 pub one_comes : {X : Type 0} (lists : List (List X)) (c : ℕ) (ys rest : List X) (i : ℕ) (m : X) → c < length lists
     → i < length rest → m ≡ get_or rest i m
-    → set (set lists c (ys ++ take i rest)) c (list_at (set lists c (ys ++ take i rest)) c ++ m ∷ [])
+    → set (set lists c (ys ++ take i rest)) c (nth_or_nil (set lists c (ys ++ take i rest)) c ++ m ∷ [])
     ≡ set lists c (ys ++ take (i + 1) rest)
 one_comes lists c ys rest i m inside l is =
     ap (λ z. set (set lists c (ys ++ take i rest)) c (z ++ m ∷ []))
@@ -35,14 +35,14 @@ one_comes lists c ys rest i m inside l is =
 
 -- how many stand there then
 pub length_come : {X : Type 0} (lists : List (List X)) (c : ℕ) (ys : List X) → c < length lists
-    → length (list_at (set lists c ys) c) ≡ length ys
+    → length (nth_or_nil (set lists c ys) c) ≡ length ys
 length_come lists c ys inside = ap length (get_or-set_same lists c ys [] inside)
 
 -- ---- one list laid into another
 
 -- what a cut is laid from
 pub laid_cut : {X : Type 0} (first count i : ℕ) (xs : List (List X)) → i < count
-    → list_at (cut first count xs) i ≡ list_at xs (first + i)
+    → nth_or_nil (cut first count xs) i ≡ nth_or_nil xs (first + i)
 laid_cut first count i xs l = read-cut_at first count xs i [] l
 
 -- chips that were laid over all chips of another run
@@ -63,9 +63,9 @@ buffers_cut first count from old new long fits laid =
 -- lists that read so have a cut laid into them
 pub IsLaid-cut : {X : Type 0} (at first count : ℕ) (from old new : List (List X)) → first + count ≤ length from
     → length new ≡ length old
-    → ((k : ℕ) → k < count → list_at new (at + k) ≡ list_at from (first + k))
-    → ((k : ℕ) → k < at → list_at new k ≡ list_at old k)
-    → ((k : ℕ) → at + count ≤ k → list_at new k ≡ list_at old k)
+    → ((k : ℕ) → k < count → nth_or_nil new (at + k) ≡ nth_or_nil from (first + k))
+    → ((k : ℕ) → k < at → nth_or_nil new k ≡ nth_or_nil old k)
+    → ((k : ℕ) → at + count ≤ k → nth_or_nil new k ≡ nth_or_nil old k)
     → IsLaid at (cut first count from) old new
 IsLaid-cut at first count from old new fits same laid below above =
     let wide : length (cut first count from) ≡ count = length-cut first count from fits in
@@ -80,12 +80,12 @@ IsLaid-cut at first count from old new fits same laid below above =
 -- ---- nobody
 
 -- at chips where none stand, and at others
-pub none_stand : {X : Type 0} (count : ℕ) (lists : List (List X)) (c : ℕ) → lists ≡ each_from 0 count (λ i. [])
-    → list_at lists c ≡ []
+pub none_stand : {X : Type 0} (count : ℕ) (lists : List (List X)) (c : ℕ) → lists ≡ tabulate 0 count (λ i. [])
+    → nth_or_nil lists c ≡ []
 none_stand {X} count lists c is =
-    let long : length (each_from {X = List X} 0 count (λ i. [])) ≡ count = length-each_from 0 count (λ i. []) in
+    let long : length (tabulate {X = List X} 0 count (λ i. [])) ≡ count = length-tabulate 0 count (λ i. []) in
     ⊎_elim
-    (λ (l : c < count). ap (λ z. list_at z c) is ∙ get_or-each_below count (λ i. []) c [] l)
+    (λ (l : c < count). ap (λ z. nth_or_nil z c) is ∙ get_or-each_below count (λ i. []) c [] l)
     (λ (l : count ≤ c). get_or_past lists c [] (omega (arith, l, ap length is, long)))
     (cases_lt c count)
 
@@ -93,25 +93,25 @@ none_stand {X} count lists c is =
 
 -- another log is as it was
 pub log_left : (logs : List Log) (i k : ℕ) (log : Log) → k ≢ i
-    → list_at (events_of (set logs i log)) k ≡ list_at (events_of logs) k
+    → nth_or_nil (events_of (set logs i log)) k ≡ nth_or_nil (events_of logs) k
 log_left logs i k log other =
-    ap (λ lists. list_at lists k) (map-set (λ (x : Log). x.items) logs i log)
+    ap (λ lists. nth_or_nil lists k) (map-set (λ (x : Log). x.items) logs i log)
     ∙ get_or-set_other (events_of logs) i k log.items [] other
 
 -- and here it is the new one
 pub log_here : (logs : List Log) (i : ℕ) (log : Log) → i < length logs
-    → list_at (events_of (set logs i log)) i ≡ log.items
+    → nth_or_nil (events_of (set logs i log)) i ≡ log.items
 log_here logs i log inside =
-    ap (λ lists. list_at lists i) (map-set (λ (x : Log). x.items) logs i log)
+    ap (λ lists. nth_or_nil lists i) (map-set (λ (x : Log). x.items) logs i log)
     ∙ get_or-set_same (events_of logs) i log.items [] (omega (arith, inside, length-map logs (λ (x : Log). x.items)))
 
 -- one more that is the same as another
 pub one_log_laid : (logs : List Log) (events : List (List Event)) (i : ℕ) (log : Log) → i < length logs
-    → log.items ≡ list_at events i → ((k : ℕ) → k < i → list_at (events_of logs) k ≡ list_at events k)
-    → (k : ℕ) → k < i + 1 → list_at (events_of (set logs i log)) k ≡ list_at events k
+    → log.items ≡ nth_or_nil events i → ((k : ℕ) → k < i → nth_or_nil (events_of logs) k ≡ nth_or_nil events k)
+    → (k : ℕ) → k < i + 1 → nth_or_nil (events_of (set logs i log)) k ≡ nth_or_nil events k
 one_log_laid logs events i log inside is before k l =
     ⊎_elim
-    (λ (e : k ≡ i). subst (λ (j : ℕ). list_at (events_of (set logs i log)) j ≡ list_at events j) (sym e)
+    (λ (e : k ≡ i). subst (λ (j : ℕ). nth_or_nil (events_of (set logs i log)) j ≡ nth_or_nil events j) (sym e)
     (log_here logs i log inside ∙ is))
     (λ (e : k ≢ i). log_left logs i k log e ∙ before k (omega (arith, e, l)))
     (cases_eq k i)
@@ -120,12 +120,12 @@ one_log_laid logs events i log inside is before k l =
 pub log_laid : (at i : ℕ) (to from : List Log) (events : List (List Event)) (log other : Log) → at + i < length to
     → i < length from
     → log ≡ get_or from i other
-    → ((k : ℕ) → k < i → list_at (events_of to) (at + k) ≡ list_at events k)
-    → list_at (events_of from) i ≡ list_at events i
-    → (k : ℕ) → k < i + 1 → list_at (events_of (set to (at + i) log)) (at + k) ≡ list_at events k
+    → ((k : ℕ) → k < i → nth_or_nil (events_of to) (at + k) ≡ nth_or_nil events k)
+    → nth_or_nil (events_of from) i ≡ nth_or_nil events i
+    → (k : ℕ) → k < i + 1 → nth_or_nil (events_of (set to (at + i) log)) (at + k) ≡ nth_or_nil events k
 log_laid at i to from events log other inside there is before here k l =
     ⊎_elim
-    (λ (e : k ≡ i). subst (λ (j : ℕ). list_at (events_of (set to (at + i) log)) (at + j) ≡ list_at events j) (sym e)
+    (λ (e : k ≡ i). subst (λ (j : ℕ). nth_or_nil (events_of (set to (at + i) log)) (at + j) ≡ nth_or_nil events j) (sym e)
     (log_here to (at + i) log inside ∙ ap (λ (x : Log). x.items) is
     ∙ sym (get_or-map (λ (x : Log). x.items) from i other [] there) ∙ here))
     (λ (e : k ≢ i). log_left to (at + i) (at + k) log (omega (arith, e)) ∙ before k (omega (arith, e, l)))

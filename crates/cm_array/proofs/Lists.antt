@@ -6,7 +6,7 @@ use Rattle.std.proofs.lemmas.List.{with_items_is}
 use Rattle.std.specs.List.{range_with_len}
 use Rattle.std.specs.Vec.{with_items}
 use Rattle.std.specs.Global.{Vec}
-use Rattle.cm_model.specs.Each.{each_from}
+use Rattle.cm_model.specs.Each.{tabulate}
 
 -- what holds of each element and of the new one holds of each after the write
 pub each_after_set : {X : Type 0} (P : X → Type 0) (xs : List X) (d : X) (i : ℕ) (x : X) (count : ℕ) → length xs ≡ count
@@ -33,8 +33,8 @@ alike-after read y (x ∷ xs) first each =
 
 -- the same, from 0 on
 pub readings-alike : {X Y : Type 0} (read : X → Y) (y : Y) (xs : List X) (count : ℕ) → length xs ≡ count
-    → ((k : ℕ) (d : X) → k < length xs → read (get_or xs k d) ≡ y) → map read xs ≡ each_from 0 count (λ c. y)
-unfolding each_from
+    → ((k : ℕ) (d : X) → k < length xs → read (get_or xs k d) ≡ y) → map read xs ≡ tabulate 0 count (λ c. y)
+unfolding tabulate
 readings-alike read y xs count long each = alike-after read y xs 0 each
     ∙ ap (λ (n : ℕ). map (λ (c : ℕ). y) (range_with_len 0 n)) long
 

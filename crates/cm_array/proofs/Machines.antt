@@ -17,7 +17,7 @@ use Rattle.cm_model.specs.Processor.{Processor}
 use Rattle.cm_model.specs.Whole.{IsChip}
 use Rattle.cm_model.specs.Wiring.{plain_routing}
 use Rattle.cm_model.specs.Array.{Chips, chip_at, after_nano}
-use Rattle.cm_model.specs.Each.{each_from}
+use Rattle.cm_model.specs.Each.{tabulate}
 use Rattle.cm_model.specs.Chip.{blank_chip, with_flag}
 use Rattle.cm_model.specs.Machine.{Machine, blank_machine, run_of}
 use Rattle.cm_model.specs.Buffers.{after_act}
@@ -208,19 +208,19 @@ AreOf-parts n cap parts machine h view = record {
 -- ---- blank parts
 
 -- blank parts are the blank machine, at whatever count of petit cycles
-pub machine_of-blank : (n count : ℕ) (parts : Parts) → count ≡ 2 ^ n → parts.run ≡ each_from 0 count (λ c. blank_chip)
-    → parts.crossing.buffers ≡ each_from 0 count (λ c. []) → events_of parts.logs.items ≡ each_from 0 count (λ c. [])
+pub machine_of-blank : (n count : ℕ) (parts : Parts) → count ≡ 2 ^ n → parts.run ≡ tabulate 0 count (λ c. blank_chip)
+    → parts.crossing.buffers ≡ tabulate 0 count (λ c. []) → events_of parts.logs.items ≡ tabulate 0 count (λ c. [])
     → parts.row.items ≡ [] → routing_of parts.routing ≡ plain_routing → machine_of parts ≡ record (blank_machine n) { clock = parts.clock }
 unfolding blank_machine
 machine_of-blank n count parts all chips buffers logs row plain =
-    let all_chips : parts.run ≡ each_from 0 (2 ^ n) (λ c. blank_chip) = chips
-    ∙ ap (λ (k : ℕ). each_from 0 k (λ c. blank_chip)) all in
-    let all_buffers : parts.crossing.buffers ≡ each_from 0 (2 ^ n) (λ c. []) = buffers
-    ∙ ap (λ (k : ℕ). each_from 0 k (λ c. [])) all in
+    let all_chips : parts.run ≡ tabulate 0 (2 ^ n) (λ c. blank_chip) = chips
+    ∙ ap (λ (k : ℕ). tabulate 0 k (λ c. blank_chip)) all in
+    let all_buffers : parts.crossing.buffers ≡ tabulate 0 (2 ^ n) (λ c. []) = buffers
+    ∙ ap (λ (k : ℕ). tabulate 0 k (λ c. [])) all in
     let events : List (List Event) = events_of parts.logs.items in
-    let all_logs : with_row events parts.row.items ≡ each_from 0 (2 ^ n) (λ c. []) =
+    let all_logs : with_row events parts.row.items ≡ tabulate 0 (2 ^ n) (λ c. []) =
     ap (with_row events) row ∙ with_row-nil events ∙ logs
-    ∙ ap (λ (k : ℕ). each_from 0 k (λ c. [])) all in
+    ∙ ap (λ (k : ℕ). tabulate 0 k (λ c. [])) all in
     λ i. record {
       chips = all_chips i;
       buffers = all_buffers i;
@@ -231,8 +231,8 @@ machine_of-blank n count parts all chips buffers logs row plain =
 
 -- they are the parts of a machine
 pub AreParts-blank : (n cap count : ℕ) (parts : Parts) → AreSizes n cap → count ≡ 2 ^ n
-    → parts.run ≡ each_from 0 count (λ c. blank_chip)
-    → parts.crossing.buffers ≡ each_from 0 count (λ c. []) → events_of parts.logs.items ≡ each_from 0 count (λ c. [])
+    → parts.run ≡ tabulate 0 count (λ c. blank_chip)
+    → parts.crossing.buffers ≡ tabulate 0 count (λ c. []) → events_of parts.logs.items ≡ tabulate 0 count (λ c. [])
     → parts.row.items ≡ [] → length parts.sent.items ≡ count → length parts.incoming.items ≡ count → IsTrue parts.crossing.gathered
     → parts.clock < 2 ^ 63 → parts.routing.cuts.dims ≡ n → routing_of parts.routing ≡ plain_routing → AreParts n cap parts
 AreParts-blank n cap count parts sizes all chips buffers logs row same_sent same_incoming gathered clock cube plain = record {

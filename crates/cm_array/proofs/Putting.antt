@@ -8,7 +8,7 @@ use Rattle.std.proofs.lemmas.List.Concat.{get_or-flat_map}
 use Rattle.std.proofs.lemmas.List.Folds.{length-flat_map-take}
 use Rattle.std.proofs.lemmas.Grind.{flat_map-append}
 use Rattle.std.specs.List.{flat_map}
-use Rattle.cm_model.specs.Array.{list_at}
+use Rattle.cm_model.specs.Array.{nth_or_nil}
 use Rattle.std.specs.Prelude.{IsTrue}
 use Rattle.cm_model.specs.Machine.{Machine}
 use Rattle.cm_model.specs.Keeping.{AreSizes, IsMachine}
@@ -29,7 +29,7 @@ use Rattle.std.proofs.lemmas.Nat.{pow_pos}
 pub record IsPut {A X : Type 0} (lists_of : A → List (List X)) (pieces : List A) (j at : ℕ) (now : List (List X))
     : Type 0 where
   pub end : at ≡ length (flat_map lists_of (take j pieces))
-  pub each : (c : ℕ) → c < at → list_at now c ≡ list_at (flat_map lists_of pieces) c
+  pub each : (c : ℕ) → c < at → nth_or_nil now c ≡ nth_or_nil (flat_map lists_of pieces) c
 
 pub none_put : {A X : Type 0} (lists_of : A → List (List X)) (pieces : List A) (now : List (List X))
     → IsPut lists_of pieces 0 0 now
@@ -52,10 +52,10 @@ next_put {A} {X} lists_of pieces j at s now new next end l is after there put la
     ap (flat_map lists_of) (take_more pieces j s l ∙ ap (λ (x : A). take j pieces ++ x ∷ []) (sym is))
     ∙ flat_map-append lists_of (take j pieces) (s ∷ []) in
     let here : (i : ℕ) → i < length (lists_of s)
-    → list_at (flat_map lists_of pieces) (at + i) ≡ list_at (lists_of s) i =
-    λ i h. ap (λ (k : ℕ). list_at (flat_map lists_of pieces) (k + i)) put.end
+    → nth_or_nil (flat_map lists_of pieces) (at + i) ≡ nth_or_nil (lists_of s) i =
+    λ i h. ap (λ (k : ℕ). nth_or_nil (flat_map lists_of pieces) (k + i)) put.end
     ∙ get_or-flat_map lists_of pieces j i s [] l (omega (arith, h, ap (λ x. length (lists_of x)) is))
-    ∙ ap (λ (x : A). list_at (lists_of x) i) (sym is) in
+    ∙ ap (λ (x : A). nth_or_nil (lists_of x) i) (sym is) in
     record {
       end = let long : length (flat_map lists_of (take (j + 1) pieces)) ≡ at + length (lists_of s) =
           ap length more ∙ length-append (flat_map lists_of (take j pieces)) (lists_of s ++ [])
@@ -66,7 +66,7 @@ next_put {A} {X} lists_of pieces j at s now new next end l is after there put la
           (λ (from : at ≤ c).
           let place : at + (c - at) ≡ c = omega arith in
           let inside : c - at < length (lists_of s) = omega (arith, h, from, there) in
-          subst (λ (k : ℕ). list_at new k ≡ list_at (flat_map lists_of pieces) k) place
+          subst (λ (k : ℕ). nth_or_nil new k ≡ nth_or_nil (flat_map lists_of pieces) k) place
           (laid.laid (c - at) inside ∙ sym (here (c - at) inside)))
           (cases_lt c at);
     }
@@ -105,7 +105,7 @@ pub record ArePut (n : ℕ) (pieces : List Part) (j at : ℕ) (now : Parts) : Ty
   pub buffers : IsPut (λ s. s.buffers) pieces j at now.crossing.buffers
   pub logs : IsPut (λ s. s.logs) pieces j at (events_of now.logs.items)
   pub row : now.row.items ≡ []
-  pub empty : (c : ℕ) → at ≤ c → list_at now.crossing.buffers c ≡ []
+  pub empty : (c : ℕ) → at ≤ c → nth_or_nil now.crossing.buffers c ≡ []
   pub chip_count : length now.run ≡ 2 ^ n
   pub buffer_count : length now.crossing.buffers ≡ 2 ^ n
   pub log_count : length now.logs.items ≡ 2 ^ n

@@ -16,7 +16,7 @@ use Rattle.cm_model.specs.declared.message.Message.{Message}
 use Rattle.cm_model.specs.declared.message.Event.{Event}
 use Rattle.cm_model.specs.declared.message.Event.TheVariants.{Injected, Delivered}
 use Rattle.cm_model.specs.Account.{Triple, account, account_at, standing_triple, delivered_triple}
-use Rattle.cm_model.specs.Array.{list_at}
+use Rattle.cm_model.specs.Array.{nth_or_nil}
 use Rattle.cm_model.specs.Keeping.{HasTagsOnce}
 use Rattle.cm_model.specs.Machine.{Machine}
 use Rattle.cm_model.specs.Found.{same_tag, router_of, delivery_place, delivery_places, found_from, found_in}
@@ -45,15 +45,15 @@ find_next t c count l e = ap (find t) (range-next c count l) ∙ rw e refl
 -- ---- what stands at a chip, and what its log tells
 
 -- the events of a log that was read
-pub list_at-events_of : (logs : List Log) (c : ℕ) (log : Log) → c < length logs → log ≡ get_or logs c log
-    → list_at (events_of logs) c ≡ log.items
-list_at-events_of logs c log l e = get_or-map (λ (v : Log). v.items) logs c log [] l ∙ ap (λ (v : Log). v.items) (sym e)
+pub nth_or_nil-events_of : (logs : List Log) (c : ℕ) (log : Log) → c < length logs → log ≡ get_or logs c log
+    → nth_or_nil (events_of logs) c ≡ log.items
+nth_or_nil-events_of logs c log l e = get_or-map (λ (v : Log). v.items) logs c log [] l ∙ ap (λ (v : Log). v.items) (sym e)
 
 -- ---- where the message of a tag is
 
 -- the test whether a message of the tag stands at a chip
 abbrev stands : Tag → List (List Message) → ℕ → Bool
-stands tag buffers c = list_any (λ m. same_tag m.tag tag) (list_at buffers c)
+stands tag buffers c = list_any (λ m. same_tag m.tag tag) (nth_or_nil buffers c)
 
 -- these messages and logs, and this row, are those of a machine
 pub record AreOf (n : ℕ) (machine : Machine) (messages : List (List Message)) (logs : List Log) (row : List Event)
@@ -114,15 +114,15 @@ one_place : (n : ℕ) (machine : Machine) (tag : Tag) → HasTagsOnce n machine 
 unfolding account
 one_place n machine tag once =
     let has : Triple → ℕ = λ triple. cond (same_tag triple.tag tag) 1 0 in
-    let told : ℕ → List Triple = λ c. filter_map delivered_triple (list_at machine.logs c) in
-    let stands_at : ℕ → List Triple = λ c. map (standing_triple c) (list_at machine.buffers c) in
+    let told : ℕ → List Triple = λ c. filter_map delivered_triple (nth_or_nil machine.logs c) in
+    let stands_at : ℕ → List Triple = λ c. map (standing_triple c) (nth_or_nil machine.buffers c) in
     let all : count_by (λ triple. same_tag triple.tag tag) (account n machine)
     ≡ sum_by (λ c. sum_by has (stands_at c ++ told c)) (range_with_len 0 (2 ^ n)) =
     sum_by-flat_map has (account_at machine) (range_with_len 0 (2 ^ n)) in
-    let here : ℕ → List Place = λ c. filter_map (delivery_place tag) (list_at machine.logs c) in
+    let here : ℕ → List Place = λ c. filter_map (delivery_place tag) (nth_or_nil machine.logs c) in
     let counted = length-flat_map here (range_with_len 0 (2 ^ n)) in
     let each = sum_by-same (λ c. length (here c)) (λ c. sum_by has (told c)) (range_with_len 0 (2 ^ n))
-    (λ c. told_once tag (list_at machine.logs c)) in
+    (λ c. told_once tag (nth_or_nil machine.logs c)) in
     omega (arith, once tag, all, counted, each, some_behind has stands_at told 0 (2 ^ n))
 
 -- ---- a place that is told is the first
@@ -233,11 +233,11 @@ none_in_range f a (suc k) none =
 module _ (n : ℕ) (machine : Machine) (tag : Tag) (buffers : List (List Message)) (logs : List Log) (row : List Event)
     (are : AreOf n machine buffers logs row) where
   here : ℕ → List Place
-  here c = filter_map (delivery_place tag) (list_at machine.logs c)
+  here c = filter_map (delivery_place tag) (nth_or_nil machine.logs c)
 
-  log_is : (c : ℕ) → c < 2 ^ n → list_at machine.logs c ≡ list_at (events_of logs) c ++ events_of_chip c row
+  log_is : (c : ℕ) → c < 2 ^ n → nth_or_nil machine.logs c ≡ nth_or_nil (events_of logs) c ++ events_of_chip c row
   log_is c l =
-      ap (λ lists. list_at lists c) (sym are.events)
+      ap (λ lists. nth_or_nil lists c) (sym are.events)
       ∙ with_row_at (events_of logs) row c (omega (arith, l, are.log_count, length-map logs (λ (x : Log). x.items)))
 
   stands_in : find (stands tag buffers) (range_with_len 0 (length buffers)) ≡ router_of n machine tag
@@ -252,7 +252,7 @@ module _ (n : ℕ) (machine : Machine) (tag : Tag) (buffers : List (List Message
   found_in-router c is =
       ap (λ (o : Option ℕ). found_from o (delivery_places n machine tag)) (is ∙ stands_in)
 
-  delivered_at : (c : ℕ) (place : Place) → c < 2 ^ n → TellOf tag place (list_at machine.logs c)
+  delivered_at : (c : ℕ) (place : Place) → c < 2 ^ n → TellOf tag place (nth_or_nil machine.logs c)
       → None ≡ find (stands tag buffers) (range_with_len 0 (length buffers))
       → found.Delivered place.chip place.proc ≡ found_in n machine tag
   unfolding found_in here
@@ -260,7 +260,7 @@ module _ (n : ℕ) (machine : Machine) (tag : Tag) (buffers : List (List Message
       sym (found_at_first (delivery_places n machine tag) place
       (only_place place (delivery_places n machine tag) (one_place n machine tag are.once)
       (any_in_range (λ q. q ≡ place) here c 0 (2 ^ n) (omega arith) (omega (arith, l))
-      (any_place tag place (list_at machine.logs c) tells))))
+      (any_place tag place (nth_or_nil machine.logs c) tells))))
       ∙ ap (λ (o : Option ℕ). found_from o (delivery_places n machine tag)) (none ∙ stands_in)
 
   -- delivered, as a log tells
@@ -273,7 +273,7 @@ module _ (n : ℕ) (machine : Machine) (tag : Tag) (buffers : List (List Message
       let P : Event → Type 0 = λ e. delivery_place tag e ≡ Some place in
       delivered_at told.chip place below
       (subst (Any P) (sym (log_is told.chip below))
-      (any_in_front P (list_at (events_of logs) told.chip) (events_of_chip told.chip row) told.tells)) none
+      (any_in_front P (nth_or_nil (events_of logs) told.chip) (events_of_chip told.chip row) told.tells)) none
 
   -- delivered, as the row tells
   pub found_in-told : (place : Place) → place.chip < length logs → TellOf tag place row
@@ -284,11 +284,11 @@ module _ (n : ℕ) (machine : Machine) (tag : Tag) (buffers : List (List Message
       let P : Event → Type 0 = λ e. delivery_place tag e ≡ Some place in
       delivered_at place.chip place below
       (subst (Any P) (sym (log_is place.chip below))
-      (any_in_back P (list_at (events_of logs) place.chip) (events_of_chip place.chip row)
+      (any_in_back P (nth_or_nil (events_of logs) place.chip) (events_of_chip place.chip row)
       (any_told P place.chip (λ e is. place_of_teller tag place e is) row tells))) none
 
   -- nowhere
-  pub found_in-nowhere : ((c : ℕ) → c < length logs → TellNone tag (list_at (events_of logs) c))
+  pub found_in-nowhere : ((c : ℕ) → c < length logs → TellNone tag (nth_or_nil (events_of logs) c))
       → All (λ e. teller e < length logs → delivery_place tag e ≡ None) row
       → None ≡ find (stands tag buffers) (range_with_len 0 (length buffers)) → found.Unknown ≡ found_in n machine tag
   unfolding found_in here
@@ -299,9 +299,9 @@ module _ (n : ℕ) (machine : Machine) (tag : Tag) (buffers : List (List Message
       (λ c from below.
       let l : c < 2 ^ n = omega (arith, below) in
       let inside : c < length logs = omega (arith, l, are.log_count) in
-      no_place tag (list_at machine.logs c)
+      no_place tag (nth_or_nil machine.logs c)
       (subst (All P) (sym (log_is c l))
-      (All-append P (list_at (events_of logs) c) (events_of_chip c row) (dealt c inside)
+      (All-append P (nth_or_nil (events_of logs) c) (events_of_chip c row) (dealt c inside)
       (none_told c (length logs) tag row inside told)))) in
       sym (found_at_none (delivery_places n machine tag) (ap (λ (ps : List Place). slice_get ps 0) (sym nowhere)))
       ∙ ap (λ (o : Option ℕ). found_from o (delivery_places n machine tag)) (none ∙ stands_in)

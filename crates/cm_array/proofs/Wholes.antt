@@ -6,7 +6,7 @@ use Rattle.std.proofs.lemmas.List.{length-set, set_past}
 use Rattle.cm_model.specs.Processor.{Processor}
 use Rattle.cm_model.specs.Chip.{each_processor, processor_at, no_processor, with_memory_bit, with_flag}
 use Rattle.cm_model.specs.Whole.{IsProcessor, IsChip}
-use Rattle.cm_model.proofs.Each.{length-each_from, get_or-each_below}
+use Rattle.cm_model.proofs.Each.{length-tabulate, get_or-each_below}
 use Rattle.cm_element.specs.Wide.{with_memory_plane, with_flag_plane}
 use Rattle.cm_array.proofs.Lists.{each_after_set}
 
@@ -53,7 +53,7 @@ IsChip-with_flag chip p number b other h =
 -- a chip of whole processors
 IsChip-each : (f : ℕ → Processor) → ((p : ℕ) → p < 16 → IsProcessor (f p)) → IsChip (each_processor f)
 IsChip-each f whole = record {
-  count = length-each_from 0 16 f;
+  count = length-tabulate 0 16 f;
   each = λ p l. subst (λ (q : Processor). IsProcessor q) (sym (get_or-each_below 16 f p no_processor l)) (whole p l);
 }
 

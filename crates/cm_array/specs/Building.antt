@@ -3,7 +3,7 @@ use Rattle.std.specs.Prelude.{◌≡◌, ℕ, ◌<◌, ◌^◌, length}
 use Rattle.std.specs.List.{All}
 use Rattle.cm_model.specs.Whole.{IsChip}
 use Rattle.cm_model.specs.Wiring.{IsRouting}
-use Rattle.cm_model.specs.Array.{chip_at, list_at}
+use Rattle.cm_model.specs.Array.{chip_at, nth_or_nil}
 use Rattle.cm_model.specs.Machine.{Machine}
 use Rattle.cm_model.specs.Keeping.{HasRoom, HasMessages}
 use Rattle.cm_model.specs.Unlogged.{IsUnlogged}
@@ -18,7 +18,7 @@ pub record IsUnfinished (n cap : ℕ) (machine : Machine) : Type 0 where
   pub whole : (c : ℕ) → c < 2 ^ n → IsChip (chip_at machine.chips c)
   pub room : HasRoom n cap machine
   pub messages : HasMessages n machine
-  pub born : (c : ℕ) → c < 2 ^ n → All (λ m. m.tag.birth < machine.clock) (list_at machine.buffers c)
+  pub born : (c : ℕ) → c < 2 ^ n → All (λ m. m.tag.birth < machine.clock) (nth_or_nil machine.buffers c)
   pub unlogged : IsUnlogged n machine
   pub routing : IsRouting n machine.routing
 

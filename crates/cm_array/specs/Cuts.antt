@@ -1,7 +1,7 @@
 -- Parts that are cut out of a machine, as they are kept, and the machine that parts are one after another. Ours.
 use Rattle.std.specs.Prelude.{◌≡◌, ℕ, ◌+◌, ◌<◌, ◌≤◌, ◌^◌, Bool, List, [], ◌∷◌, length}
 use Rattle.std.specs.List.{All, flat_map}
-use Rattle.cm_model.specs.Array.{list_at}
+use Rattle.cm_model.specs.Array.{nth_or_nil}
 use Rattle.cm_model.specs.Wiring.{Routing, plain_routing}
 use Rattle.cm_model.specs.Machine.{Machine}
 use Rattle.cm_model.specs.Keeping.{IsMachine}
@@ -83,6 +83,6 @@ pub record AreWhole (n cap : ℕ) (parts : List Part) : Type 0 where
 -- from a place on a list reads as the piece, and else as before
 pub record IsLaid {X : Type 0} (at : ℕ) (piece old new : List (List X)) : Type 0 where
   pub count : length new ≡ length old
-  pub laid : (i : ℕ) → i < length piece → list_at new (at + i) ≡ list_at piece i
-  pub below : (i : ℕ) → i < at → list_at new i ≡ list_at old i
-  pub above : (i : ℕ) → at + length piece ≤ i → list_at new i ≡ list_at old i
+  pub laid : (i : ℕ) → i < length piece → nth_or_nil new (at + i) ≡ nth_or_nil piece i
+  pub below : (i : ℕ) → i < at → nth_or_nil new i ≡ nth_or_nil old i
+  pub above : (i : ℕ) → at + length piece ≤ i → nth_or_nil new i ≡ nth_or_nil old i

@@ -4,7 +4,7 @@ use Rattle.std.specs.List.{All, Any}
 use Rattle.cm_bits.specs.declared.place.Place.{Place}
 use Rattle.cm_model.specs.declared.message.Tag.{Tag}
 use Rattle.cm_model.specs.declared.message.Event.{Event}
-use Rattle.cm_model.specs.Array.{list_at}
+use Rattle.cm_model.specs.Array.{nth_or_nil}
 use Rattle.cm_model.specs.Found.{delivery_place}
 
 -- some event tells that it was, to this place
@@ -19,4 +19,4 @@ TellNone tag events = All (λ event. delivery_place tag event ≡ None) events
 pub record IsToldIn (tag : Tag) (place : Place) (logs : List (List Event)) : Type 0 where
   pub chip : ℕ
   pub is_chip : chip < length logs
-  pub tells : TellOf tag place (list_at logs chip)
+  pub tells : TellOf tag place (nth_or_nil logs chip)

@@ -3,7 +3,7 @@ use Rattle.std.specs.Prelude.{ℕ, Bool, [], ◌∷◌, ◌++◌, slice_set}
 use Rattle.cm_bits.specs.Bit.{bit}
 use Rattle.cm_model.specs.declared.message.Message.{Message}
 use Rattle.cm_model.specs.Chip.{with_memory_bit, with_flag}
-use Rattle.cm_model.specs.Array.{Chips, chip_at, list_at}
+use Rattle.cm_model.specs.Array.{Chips, chip_at, nth_or_nil}
 use Rattle.cm_model.specs.Machine.{Machine}
 use Rattle.cm_bits.specs.Wire.{Wire}
 use Rattle.cm_model.specs.declared.rule.Rule.{Rule}
@@ -40,7 +40,7 @@ machine_with_chips machine first chips = record machine { chips = with_near mach
 -- the machine with a message more, behind those that stand at a chip
 abbrev pub machine_with_message : Machine → ℕ → Message → Machine
 machine_with_message machine c m =
-    record machine { buffers = slice_set machine.buffers c (list_at machine.buffers c ++ m ∷ []) }
+    record machine { buffers = slice_set machine.buffers c (nth_or_nil machine.buffers c ++ m ∷ []) }
 
 -- the machine with this wire cut too
 abbrev pub machine_with_cut : Machine → Wire → Machine

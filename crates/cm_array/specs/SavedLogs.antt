@@ -2,7 +2,7 @@
 use Rattle.std.specs.Prelude.{◌≡◌, ℕ, ◌+◌, ◌*◌, ◌<◌, ◌≤◌, ◌^◌, ◌++◌, List, [], length, slice_index}
 use Rattle.cm_model.specs.declared.act.Act.{Act}
 use Rattle.cm_model.specs.declared.message.Event.{Event}
-use Rattle.cm_model.specs.Array.{each_chip, list_at}
+use Rattle.cm_model.specs.Array.{each_chip, nth_or_nil}
 use Rattle.cm_model.specs.Machine.{Machine, run_of}
 use Rattle.cm_model.specs.Keeping.{IsMachine}
 use Rattle.cm_array.specs.Acts.{cycles_in}
@@ -13,7 +13,7 @@ unlogged n machine = record machine { logs = each_chip n (λ c. []) }
 
 -- a machine whose events stand behind earlier ones, chip by chip
 abbrev pub logs_appended : ℕ → List (List Event) → Machine → Machine
-logs_appended n earlier machine = record machine { logs = each_chip n (λ c. list_at earlier c ++ list_at machine.logs c) }
+logs_appended n earlier machine = record machine { logs = each_chip n (λ c. nth_or_nil earlier c ++ nth_or_nil machine.logs c) }
 
 -- what contracts see of logs that were set aside
 pub record Aside : Type 0 where
@@ -24,7 +24,7 @@ pub record Aside : Type 0 where
 
 -- each takes the events of a chip behind its own
 abbrev pub TakeIn : List ℕ → List (List Event) → Type 0
-TakeIn log_rooms logs = (c : ℕ) → c < length log_rooms → length (list_at logs c) ≤ slice_index log_rooms c
+TakeIn log_rooms logs = (c : ℕ) → c < length log_rooms → length (nth_or_nil logs c) ≤ slice_index log_rooms c
 
 -- ---- laws, each the contract of a function of its name
 
@@ -36,5 +36,5 @@ LogsAreNeverRead = (n cap : ℕ) (machine : Machine) (acts : List Act) → IsMac
 -- a run tells at most so many events of a chip in each petit cycle
 abbrev pub FewEventsAreTold : Type 0
 FewEventsAreTold = (n cap : ℕ) (machine : Machine) (acts : List Act) (c : ℕ) → IsMachine n cap machine → c < 2 ^ n
-    → length (list_at (run_of n cap machine acts).logs c)
-    ≤ length (list_at machine.logs c) + cycles_in acts * (4 + cap)
+    → length (nth_or_nil (run_of n cap machine acts).logs c)
+    ≤ length (nth_or_nil machine.logs c) + cycles_in acts * (4 + cap)

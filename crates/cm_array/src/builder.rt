@@ -3,7 +3,7 @@
 ghost use Rattle.std.specs.Prelude.{◌≡◌, ◌≢◌, ℕ, ◌+◌, ◌*◌, ◌^◌, ◌<◌, ◌≤◌, ◌↔◌, IfOk, IfErr, IfSome, IsErrOf, IsOk};
 ghost use Rattle.std.specs.Prelude.{IsOkUnless, IsTrue, None, Some, length, slice_index};
 ghost use Rattle.cm_model.specs.Processor.{ZERO};
-ghost use Rattle.cm_model.specs.Array.{list_at};
+ghost use Rattle.cm_model.specs.Array.{nth_or_nil};
 ghost use Rattle.cm_model.specs.Machine.{blank_machine};
 ghost use Rattle.cm_model.specs.Keeping.{IsMessage, AreSizes};
 ghost use Rattle.cm_element.specs.Runs.{chips_beside};
@@ -107,7 +107,7 @@ impl<const N: usize, const CAP: usize> Builder<N, CAP> {
     /// Whether a chip's router has no room for another message.
     pub fn is_full(&self, chip: u16) -> bool
         requires chip { chip < 2 ^ N }
-        ensures value { IsTrue result ↔ (CAP ≤ length (list_at self.now.buffers chip)) }
+        ensures value { IsTrue result ↔ (CAP ≤ length (nth_or_nil self.now.buffers chip)) }
     {
         self.crossing.len(usize::from(chip)) >= CAP
     }
@@ -162,7 +162,7 @@ impl<const N: usize, const CAP: usize> Builder<N, CAP> {
     /// Puts a message behind those that stand in a chip's router.
     pub fn message(&mut self, chip: u16, message: Message)
         requires chip { chip < 2 ^ N }
-        requires room { length (list_at self.old.buffers chip) < CAP }
+        requires room { length (nth_or_nil self.old.buffers chip) < CAP }
         requires rel { message.rel < 2 ^ N }
         requires origin { message.tag.chip < 2 ^ N }
         requires born { message.tag.birth < self.old.clock }

@@ -2,7 +2,7 @@
 
 ghost use Rattle.std.specs.Prelude.{◌≡◌, ℕ, ◌<◌, IfSome, IsTrue, None, length};
 ghost use Rattle.std.specs.List.{All, find, list_any, range_with_len};
-ghost use Rattle.cm_model.specs.Array.{list_at};
+ghost use Rattle.cm_model.specs.Array.{nth_or_nil};
 ghost use Rattle.cm_model.specs.Found.{same_tag, delivery_place};
 ghost use Rattle.cm_router.specs.Rows.{teller};
 ghost use Rattle.cm_petit.specs.Routers.{events_of};
@@ -16,7 +16,7 @@ use cm_message::{Event, Message, Tag};
 pub(crate) fn router_of(crossing: &Crossing, tag: &Tag) -> Option<u16>
     requires gathered { IsTrue crossing.now.gathered }
     ensures value { result ≡ find
-        (λ c. list_any (λ m. same_tag m.tag tag.now) (list_at crossing.now.buffers c))
+        (λ c. list_any (λ m. same_tag m.tag tag.now) (nth_or_nil crossing.now.buffers c))
         (range_with_len 0 (length crossing.now.buffers)) }
 {
     for c in 0..crossing.chips() {
@@ -36,7 +36,8 @@ fn has_tag(messages: &[Message], tag: &Tag) -> bool
 /// The first place to which a log tells that a message of the tag was delivered.
 pub(crate) fn delivered_to(logs: &[Vec<Event>], tag: &Tag) -> Option<Place>
     ensures some { IfSome result (λ place. IsToldIn tag.now place (events_of logs.now)) }
-    ensures none { result ≡ None → (c : ℕ) → c < length logs.now → TellNone tag.now (list_at (events_of logs.now) c) }
+    ensures none { result ≡ None → (c : ℕ) → c < length logs.now
+        → TellNone tag.now (nth_or_nil (events_of logs.now) c) }
 {
     for c in 0..logs.len() {
         if let Some(place) = delivered_in(&logs[c], tag) {

@@ -5,7 +5,7 @@ ghost use Rattle.std.specs.Prelude.{IsOkUnless, IsTrue, OnOk, OnErr, None, [], f
 ghost use Rattle.std.specs.List.{All};
 ghost use Rattle.cm_model.specs.Processor.{ZERO, memory_bit};
 ghost use Rattle.cm_model.specs.Chip.{IsPlane, processor_at};
-ghost use Rattle.cm_model.specs.Array.{chip_at, wire, list_at};
+ghost use Rattle.cm_model.specs.Array.{chip_at, wire, nth_or_nil};
 ghost use Rattle.cm_model.specs.Wiring.{is_cut};
 ghost use Rattle.cm_model.specs.Machine.{blank_machine, run_of};
 ghost use Rattle.cm_model.specs.Found.{found_in, IsWhereabouts};
@@ -390,7 +390,7 @@ impl<const N: usize, const CAP: usize> Machine<N, CAP> {
     /// The messages that stand in a chip's router, in order of arrival.
     pub fn buffer(&self, chip: u16) -> &[Message]
         requires chip { chip < 2 ^ N }
-        ensures value { result.now ≡ list_at self.now.machine.buffers chip }
+        ensures value { result.now ≡ nth_or_nil self.now.machine.buffers chip }
         ensures whole { IsMachine N CAP self.now.machine }
     {
         self.parts.crossing.buffer(usize::from(chip))
@@ -399,7 +399,7 @@ impl<const N: usize, const CAP: usize> Machine<N, CAP> {
     /// A chip's events since the machine was made, the oldest first; a copy has those of its original.
     pub fn log(&self, chip: u16) -> Log<'_>
         requires chip { chip < 2 ^ N }
-        ensures value { result ≡ list_at self.now.machine.logs chip }
+        ensures value { result ≡ nth_or_nil self.now.machine.logs chip }
         ensures whole { IsMachine N CAP self.now.machine }
     {
         Log::of(chip, &self.parts.logs[usize::from(chip)], &self.parts.row)

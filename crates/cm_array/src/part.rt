@@ -3,7 +3,7 @@
 ghost use Rattle.std.specs.Prelude.{◌≡◌, ℕ, ◌+◌, ◌<◌, ◌≤◌, ◌^◌, ◌++◌, [], true, None, IsTrue, length};
 ghost use Rattle.std.specs.Prelude.{◌⊎◌, false, slice_index_or, slice_set};
 ghost use Rattle.std.specs.List.{All};
-ghost use Rattle.cm_model.specs.Array.{list_at};
+ghost use Rattle.cm_model.specs.Array.{nth_or_nil};
 ghost use Rattle.cm_model.specs.Keeping.{AreSizes};
 ghost use Rattle.cm_model.specs.Wiring.{is_cut};
 ghost use Rattle.cm_model.specs.Steps.{Cross};
@@ -141,7 +141,7 @@ impl Part {
         ensures going { Mail leavers.new ≡ due self.old.dims self.old.room (Cross dim) self.old.part }
         ensures space { (c : ℕ) → c < self.new.part.count
             → is_cut self.new.part.routing (self.new.part.first + c) dim ≡ false
-            → length (list_at self.new.part.buffers c) < self.new.room }
+            → length (nth_or_nil self.new.part.buffers c) < self.new.room }
     {
         leave(
             self.sizes,
@@ -158,7 +158,7 @@ impl Part {
     pub fn take_in(&mut self, leavers: &mut [Option<Message>])
         requires lanes { length leavers.old ≡ self.old.part.count }
         requires space { (c : ℕ) → c < self.old.part.count → (slice_index_or leavers.old c None ≡ None)
-            ⊎ (length (list_at self.old.part.buffers c) < self.old.room) }
+            ⊎ (length (nth_or_nil self.old.part.buffers c) < self.old.room) }
         ensures value { (dim : ℕ) → self.new ≡ record self.old {
           part = absorbed self.old.dims self.old.room (Cross dim) (Mail leavers.old) self.old.part;
           gathered = self.new.gathered;
@@ -208,7 +208,7 @@ pub(crate) fn lay_buffers(to: &mut Crossing, at: usize, from: &Crossing, first: 
     requires few_there { length from.now.buffers ≤ 4096 }
     requires gathered { IsTrue from.now.gathered }
     requires within { All (λ ms. length ms ≤ 15) from.now.buffers }
-    requires empty { (c : ℕ) → at ≤ c → list_at to.old.buffers c ≡ [] }
+    requires empty { (c : ℕ) → at ≤ c → nth_or_nil to.old.buffers c ≡ [] }
     ensures value { IsLaid at (cut first count from.now.buffers) to.old.buffers to.new.buffers }
 {
     for i in 0..count {
@@ -227,9 +227,9 @@ fn exchange(logs: &mut [Vec<Event>], first: usize, others: &mut [Vec<Event>]) {
 /// Messages come to stand last at a chip, in their order.
 fn arrive_all(to: &mut Crossing, chip: usize, messages: &[Message])
     requires chip { chip < length to.old.buffers }
-    requires room { length (list_at to.old.buffers chip) + length messages.now ≤ 15 }
+    requires room { length (nth_or_nil to.old.buffers chip) + length messages.now ≤ 15 }
     ensures value { to.new.buffers
-        ≡ slice_set to.old.buffers chip (list_at to.old.buffers chip ++ messages.now) }
+        ≡ slice_set to.old.buffers chip (nth_or_nil to.old.buffers chip ++ messages.now) }
 {
     for message in messages {
         to.arrive(chip, *message);

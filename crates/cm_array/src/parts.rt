@@ -4,7 +4,7 @@ ghost use Rattle.std.specs.Prelude.{◌≡◌, ◌+◌, ◌*◌, ◌^◌, ◌<�
 ghost use Rattle.std.specs.Prelude.{OnOk};
 ghost use Rattle.std.specs.List.{list_any};
 ghost use Rattle.std.specs.Prelude.{length, vec_len, vec_capacity};
-ghost use Rattle.cm_model.specs.Each.{each_from};
+ghost use Rattle.cm_model.specs.Each.{tabulate};
 ghost use Rattle.cm_model.specs.Machine.{run_of};
 ghost use Rattle.cm_model.specs.Buffers.{after_act};
 ghost use Rattle.cm_router.specs.Logs.{log_room, log_rooms_of, HaveLogRoom};
@@ -169,7 +169,7 @@ pub(crate) fn make_room(log: &mut Vec<Event>, more: usize) -> Result<(), NoMemor
 }
 
 pub(crate) fn blank_logs(alloc: Global, count: usize) -> Result<Vec<Vec<Event>>, NoMemory>
-    ensures value { IfOk result (λ logs. events_of logs.items ≡ each_from 0 count (λ c. [])) }
+    ensures value { IfOk result (λ logs. events_of logs.items ≡ tabulate 0 count (λ c. [])) }
 {
     Ok((0..count).map(|_| Vec::new(alloc)).collect(alloc)?)
 }

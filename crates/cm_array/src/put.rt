@@ -3,7 +3,7 @@
 ghost use Rattle.std.specs.Prelude.{◌≡◌, ℕ, ◌+◌, ◌<◌, ◌≤◌, ◌^◌, [], length};
 ghost use Rattle.std.specs.List.{All};
 ghost use Rattle.cm_model.specs.Wiring.{IsWireOf};
-ghost use Rattle.cm_model.specs.Array.{list_at};
+ghost use Rattle.cm_model.specs.Array.{nth_or_nil};
 ghost use Rattle.cm_router.specs.Routes.{routing_of};
 ghost use Rattle.cm_petit.specs.Routers.{events_of};
 ghost use Rattle.cm_array.specs.Cuts.{IsLaid};
@@ -41,7 +41,7 @@ pub(crate) fn put_one(parts: &mut Parts, at: usize, piece: &mut Part) -> usize
     requires buffers { length parts.old.crossing.buffers ≡ length parts.old.run }
     requires logs { length parts.old.logs.items ≡ length parts.old.run }
     requires few { length parts.old.run ≤ 4096 }
-    requires empty { (c : ℕ) → at ≤ c → list_at parts.old.crossing.buffers c ≡ [] }
+    requires empty { (c : ℕ) → at ≤ c → nth_or_nil parts.old.crossing.buffers c ≡ [] }
     requires wires { All (IsWireOf parts.old.routing.cuts.dims) piece.old.part.routing.cuts }
     ensures end { result ≡ at + length piece.old.part.chips }
     ensures buffer_count { length piece.old.part.buffers ≡ length piece.old.part.chips }

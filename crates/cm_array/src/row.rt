@@ -3,7 +3,7 @@
 ghost use Rattle.std.specs.Prelude.{◌≡◌, ℕ, ◌<◌, ◌≤◌, ◌++◌, ◌==◌, [], ◌∷◌, OnErr, OnOk, drop, false, length, take};
 ghost use Rattle.std.specs.Prelude.{vec_len};
 ghost use Rattle.std.specs.List.{list_any};
-ghost use Rattle.cm_model.specs.Array.{list_at};
+ghost use Rattle.cm_model.specs.Array.{nth_or_nil};
 ghost use Rattle.cm_router.specs.Rows.{teller, events_of_chip, with_row};
 ghost use Rattle.cm_petit.specs.Routers.{events_of};
 ghost use Rattle.cm_array.specs.Rows.{dealt};
@@ -78,7 +78,7 @@ fn tell(logs: &mut [Vec<Event>], first: u16, event: &Event) -> Result<(), NoMemo
 
 /// Whether some log has an event.
 pub(crate) fn has_events(logs: &[Vec<Event>]) -> bool
-    ensures none { result ≡ false → (c : ℕ) → c < length logs.now → list_at (events_of logs.now) c ≡ [] }
+    ensures none { result ≡ false → (c : ℕ) → c < length logs.now → nth_or_nil (events_of logs.now) c ≡ [] }
 {
     for c in 0..logs.len() {
         if !logs[c].is_empty() {

@@ -1,8 +1,8 @@
 //! Logs that are set aside while a machine goes on.
 
 ghost use Rattle.std.specs.Prelude.{◌≡◌, ◌≤◌, ◌++◌, length};
-ghost use Rattle.cm_model.specs.Each.{each_from};
-ghost use Rattle.cm_model.specs.Array.{list_at};
+ghost use Rattle.cm_model.specs.Each.{tabulate};
+ghost use Rattle.cm_model.specs.Array.{nth_or_nil};
 ghost use Rattle.cm_router.specs.Logs.{log_room, log_rooms_of};
 ghost use Rattle.cm_petit.specs.Routers.{events_of};
 ghost use Rattle.cm_array.specs.SavedLogs.{TakeIn};
@@ -34,8 +34,8 @@ impl Model for SavedLogs {
 /// Who puts events behind those of logs.
 pub trait LogAppender {
     ghost use Rattle.std.specs.Prelude.{◌≡◌, ◌++◌, length};
-    ghost use Rattle.cm_model.specs.Each.{each_from};
-    ghost use Rattle.cm_model.specs.Array.{list_at};
+    ghost use Rattle.cm_model.specs.Each.{tabulate};
+    ghost use Rattle.cm_model.specs.Array.{nth_or_nil};
     ghost use Rattle.cm_router.specs.Logs.{log_rooms_of};
     ghost use Rattle.cm_petit.specs.Routers.{events_of};
     ghost use Rattle.cm_array.specs.SavedLogs.{TakeIn};
@@ -48,8 +48,8 @@ pub trait LogAppender {
         requires one { ready }
         requires count { length more.now ≡ length logs.old }
         requires room { TakeIn (log_rooms_of logs.old) (events_of more.now) }
-        ensures value { events_of logs.new ≡ each_from 0 (length logs.old)
-            (λ c. list_at (events_of logs.old) c ++ list_at (events_of more.now) c) };
+        ensures value { events_of logs.new ≡ tabulate 0 (length logs.old)
+            (λ c. nth_or_nil (events_of logs.old) c ++ nth_or_nil (events_of more.now) c) };
 }
 
 /// Who takes one log after another.
@@ -62,8 +62,8 @@ impl LogAppender for InTurn {
     fn append_logs(&self, logs: &mut [Vec<Event>], more: &[Vec<Event>])
         requires count { length more.now ≡ length logs.old }
         requires room { TakeIn (log_rooms_of logs.old) (events_of more.now) }
-        ensures value { events_of logs.new ≡ each_from 0 (length logs.old)
-            (λ c. list_at (events_of logs.old) c ++ list_at (events_of more.now) c) }
+        ensures value { events_of logs.new ≡ tabulate 0 (length logs.old)
+            (λ c. nth_or_nil (events_of logs.old) c ++ nth_or_nil (events_of more.now) c) }
     {
         append_logs(logs, more);
     }
@@ -72,8 +72,8 @@ impl LogAppender for InTurn {
 fn append_logs(logs: &mut [Vec<Event>], more: &[Vec<Event>])
     requires count { length more.now ≡ length logs.old }
     requires room { TakeIn (log_rooms_of logs.old) (events_of more.now) }
-    ensures value { events_of logs.new ≡ each_from 0 (length logs.old)
-        (λ c. list_at (events_of logs.old) c ++ list_at (events_of more.now) c) }
+    ensures value { events_of logs.new ≡ tabulate 0 (length logs.old)
+        (λ c. nth_or_nil (events_of logs.old) c ++ nth_or_nil (events_of more.now) c) }
 {
     for c in 0..logs.len() {
         append(&mut logs[c], &more[c]);

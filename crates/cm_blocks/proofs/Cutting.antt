@@ -3,8 +3,8 @@ use Rattle.std.proofs.Common.{◌≡◌, ℕ, ◌+◌, ◌-◌, ◌<◌, ◌≤�
 use Rattle.std.proofs.Common.{ap, arith, ext_get_or}
 use Rattle.std.proofs.lemmas.Bool.Decides.{nat_tests}
 use Rattle.std.proofs.lemmas.List.{length-take-le, length-drop, get_or-take, get_or-drop}
-use Rattle.cm_model.specs.Each.{each_from}
-use Rattle.cm_model.proofs.Each.{length-each_from, get_or-each_from, get_or-each_below}
+use Rattle.cm_model.specs.Each.{tabulate}
+use Rattle.cm_model.proofs.Each.{length-tabulate, get_or-tabulate, get_or-each_below}
 use Rattle.cm_blocks.specs.Parts.{Part, cut, is_within}
 
 -- what a cut reads at a place
@@ -28,16 +28,16 @@ length-cut first count xs h = length-take-le count (drop first xs) (omega (arith
 -- a cut of a made list is made by any function that agrees with the first on it
 pub cut-same : {X : Type 0} (d : X) (first count len : ℕ) (f g : ℕ → X) → first + count ≤ len
     → ((i : ℕ) → i < count → f (first + i) ≡ g (first + i))
-    → cut first count (each_from 0 len f) ≡ each_from first count g
+    → cut first count (tabulate 0 len f) ≡ tabulate first count g
 cut-same d first count len f g h same =
-    let long : length (cut first count (each_from 0 len f)) ≡ count =
-    length-cut first count (each_from 0 len f) (omega (arith, length-each_from 0 len f, h)) in
-    ext_get_or d (cut first count (each_from 0 len f)) (each_from first count g)
-    (long ∙ sym (length-each_from first count g))
+    let long : length (cut first count (tabulate 0 len f)) ≡ count =
+    length-cut first count (tabulate 0 len f) (omega (arith, length-tabulate 0 len f, h)) in
+    ext_get_or d (cut first count (tabulate 0 len f)) (tabulate first count g)
+    (long ∙ sym (length-tabulate first count g))
     (λ i l. let below : i < count = omega (arith, long, l) in
-    read-cut_at first count (each_from 0 len f) i d below
+    read-cut_at first count (tabulate 0 len f) i d below
     ∙ (get_or-each_below len f (first + i) d (omega (arith, h, below))
-    ∙ (same i below ∙ sym (get_or-each_from first count g i d below))))
+    ∙ (same i below ∙ sym (get_or-tabulate first count g i d below))))
 
 -- a number within a part
 pub within-part : (s : Part) (c : ℕ) → s.first ≤ c → c < s.first + s.count → is_within s c ≡ true

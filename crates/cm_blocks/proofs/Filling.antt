@@ -12,9 +12,9 @@ use Rattle.cm_model.specs.Machine.{Machine}
 use Rattle.cm_model.specs.Steps.{Step, Instruct, Look, Inject, Cross, Deliver, IsStep}
 use Rattle.cm_model.specs.Wiring.{is_cut, way_of}
 use Rattle.cm_model.specs.Buffers.{leaving_place, without, buffer_after_dimension}
-use Rattle.cm_model.proofs.Each.{get_or-each_from, same_each}
+use Rattle.cm_model.proofs.Each.{get_or-tabulate, same_each}
 use Rattle.cm_model.specs.Keeping.{HasRoom}
-use Rattle.cm_model.specs.Array.{list_at}
+use Rattle.cm_model.specs.Array.{nth_or_nil}
 use Rattle.cm_model.proofs.Flips.{xor_twice}
 use Rattle.cm_model.proofs.Rooms.{leaving_makes_room as makes_room}
 use Rattle.cm_blocks.specs.Rounds.{is_round}
@@ -77,7 +77,7 @@ dimension n cap k b d machine parcel high =
     let e : first + i - first ≡ i = omega arith in
     let kept : buffer_in (less cap (Cross d) s) (first + i) ≡ stays (first + i) =
     ap (λ (z : ℕ). get_or (less cap (Cross d) s).buffers z []) e
-    ∙ get_or-each_from first (block_size n k) stays i [] inside in
+    ∙ get_or-tabulate first (block_size n k) stays i [] inside in
     let out : is_within s (bit_xor (first + i) (2 ^ d)) ≡ false = leads_out n k b d machine i high inside in
     ap (λ z. z ++ option_to_list (mail_in parcel (first + i - first))) kept ∙ rw out refl) in
     λ j. record s { buffers = buffers j }
@@ -107,9 +107,9 @@ leaving_makes_room n cap k b d c machine h l some room from below joined =
     let stays : ℕ → List Message = λ e. without (buffer_in s e)
     (leaving_place (way_of machine.routing e d) cap d (buffer_in s e)) in
     let number : first + (c - first) ≡ c = omega arith in
-    let here : buffer_in s c ≡ list_at machine.buffers c = read-buffer first (block_size n k) machine c from below in
+    let here : buffer_in s c ≡ nth_or_nil machine.buffers c = read-buffer first (block_size n k) machine c from below in
     let kept : buffer_in (less cap (Cross d) s) c ≡ stays c =
-    get_or-each_from first (block_size n k) stays (c - first) [] (omega arith) ∙ ap stays number in
+    get_or-tabulate first (block_size n k) stays (c - first) [] (omega arith) ∙ ap stays number in
     let within : length (buffer_in s c) ≤ cap =
     subst (λ (ms : List Message). length ms ≤ cap) (sym here) (room c (omega arith)) in
     subst (λ (ms : List Message). length ms < cap) (sym kept)

@@ -5,13 +5,13 @@ use Rattle.std.proofs.lemmas.Bool.{cases_Bool, cases_lt, both_ways}
 use Rattle.std.proofs.lemmas.Nat.{xor_block, xor_lt, pow_below, pow-add, pow_pos, mul-le}
 use Rattle.std.specs.Prelude.{bit_xor}
 use Rattle.std.specs.Int.Bits.{xor_zero_r}
-use Rattle.cm_model.specs.Each.{each_from}
-use Rattle.cm_model.specs.Array.{list_at}
+use Rattle.cm_model.specs.Each.{tabulate}
+use Rattle.cm_model.specs.Array.{nth_or_nil}
 use Rattle.cm_model.specs.Machine.{Machine}
 use Rattle.cm_model.specs.Steps.{Cross}
 use Rattle.cm_model.specs.Wiring.{way_of}
 use Rattle.cm_model.specs.Buffers.{outgoing, sent_across, buffer_after_dimension, machine_after_dimension}
-use Rattle.cm_model.proofs.Each.{get_or-each_from}
+use Rattle.cm_model.proofs.Each.{get_or-tabulate}
 use Rattle.cm_blocks.specs.Parts.{Part, part, block, block_size, is_within, buffer_in}
 use Rattle.cm_blocks.specs.Parcels.{Parcel, due, sender}
 use Rattle.cm_blocks.specs.Steps.{mail_for, part_after}
@@ -77,10 +77,10 @@ mail_is n cap k b d machine i h l below inside =
     (λ (high : m ≤ d).
     let there : other ≡ from * block_size n k + i = high_across m b i d high inside in
     let place : b * block_size n k + i - b * block_size n k ≡ i = omega arith in
-    ap (λ (z : ℕ). get_or (each_from (from * block_size n k) (block_size n k)
+    ap (λ (z : ℕ). get_or (tabulate (from * block_size n k) (block_size n k)
     (λ c. outgoing (way_of machine.routing c d) cap d (buffer_in sent c))) z None)
     place
-    ∙ (get_or-each_from (from * block_size n k) (block_size n k)
+    ∙ (get_or-tabulate (from * block_size n k) (block_size n k)
     (λ c. outgoing (way_of machine.routing c d) cap d (buffer_in sent c)) i None inside
     ∙ (ap (outgoing (way_of machine.routing (from * block_size n k + i) d) cap d)
     (read-buffer (from * block_size n k) (block_size n k) machine (from * block_size n k + i) (omega arith) (omega arith))
@@ -98,7 +98,7 @@ block-cross n cap k b d machine h l below =
     let s : Part = block n k b machine in
     let parcel : Parcel = due n cap (Cross d) (block n k (sender n k (Cross d) b) machine) in
     let buffers = cut-same [] first (block_size n k) (2 ^ n)
-    (λ c. buffer_after_dimension (way_of machine.routing c d) cap d (list_at machine.buffers c)
+    (λ c. buffer_after_dimension (way_of machine.routing c d) cap d (nth_or_nil machine.buffers c)
     (sent_across machine.routing cap d machine.buffers (bit_xor c (2 ^ d))))
     (λ c. buffer_after_dimension (way_of machine.routing c d) cap d (buffer_in s c) (mail_for cap d parcel s c))
     (block-fits n k b h l)

@@ -4,7 +4,7 @@ use Rattle.cm_bits.specs.declared.plane.Dir.{Dir}
 use Rattle.cm_bits.specs.declared.plane.Dir.TheVariants.{North, East, West, South}
 use Rattle.cm_model.specs.declared.act.Nano.{Nano}
 use Rattle.cm_model.specs.declared.message.Message.{Message}
-use Rattle.cm_model.specs.Each.{each_from}
+use Rattle.cm_model.specs.Each.{tabulate}
 use Rattle.cm_model.specs.Place.{chip_columns, columns, place_at}
 use Rattle.cm_model.specs.Array.{output}
 use Rattle.cm_model.specs.Wiring.{way_of}
@@ -40,10 +40,10 @@ edge_row n West s = 0
 -- what a part sends at a step: in a dimension who leaves each chip, over NEWS the outputs of its edge row
 unfoldable pub due : ℕ → ℕ → Step → Part → Parcel
 due n cap (Instruct nano) s =
-    Edge (each_from 0 (columns n) (λ column. output nano (chip_in s) (place_at n (edge_row n nano.dir s) column)))
+    Edge (tabulate 0 (columns n) (λ column. output nano (chip_in s) (place_at n (edge_row n nano.dir s) column)))
 due n cap Look s = Blank
 due n cap Inject s = Blank
-due n cap (Cross d) s = Mail (each_from s.first s.count (λ c. outgoing (way_of s.routing c d) cap d (buffer_in s c)))
+due n cap (Cross d) s = Mail (tabulate s.first s.count (λ c. outgoing (way_of s.routing c d) cap d (buffer_in s c)))
 due n cap Deliver s = Blank
 
 -- the block of 2 ^ k from which block b gets its parcel: over NEWS northward the one below it,

@@ -6,7 +6,7 @@ use Rattle.std.specs.Option.{option_to_list}
 use Rattle.cm_model.specs.declared.act.Nano.{Nano}
 use Rattle.cm_model.specs.declared.message.Message.{Message}
 use Rattle.cm_model.specs.declared.message.Event.TheVariants.{Injected, Delivered}
-use Rattle.cm_model.specs.Each.{each_from}
+use Rattle.cm_model.specs.Each.{tabulate}
 use Rattle.cm_model.specs.Place.{column_of, source, predecessor}
 use Rattle.cm_model.specs.Processor.{NEWS}
 use Rattle.cm_model.specs.Chip.{chip_after}
@@ -53,21 +53,21 @@ delivered_of s c = delivered_here (buffer_in s c) (chip_in s c)
 -- the part after a step; only a step that is a round reads the parcel
 unfoldable pub part_after : ℕ → ℕ → Step → Parcel → Part → Part
 part_after n cap (Instruct nano) parcel s =
-    record s { chips = each_from s.first s.count (λ c. chip_after nano (incoming_in n nano parcel s c) (chip_in s c)) }
+    record s { chips = tabulate s.first s.count (λ c. chip_after nano (incoming_in n nano parcel s c) (chip_in s c)) }
 part_after n cap Look parcel s = s
 part_after n cap Inject parcel s = record s {
-  chips = each_from s.first s.count (λ c. chip_after_injection (taken_of cap s c) (chip_in s c));
-  buffers = each_from s.first s.count (λ c. buffer_in s c ++ sent_of n cap s c);
-  logs = each_from s.first s.count (λ c. log_in s c ++ map Injected (sent_of n cap s c));
+  chips = tabulate s.first s.count (λ c. chip_after_injection (taken_of cap s c) (chip_in s c));
+  buffers = tabulate s.first s.count (λ c. buffer_in s c ++ sent_of n cap s c);
+  logs = tabulate s.first s.count (λ c. log_in s c ++ map Injected (sent_of n cap s c));
 }
 part_after n cap (Cross d) parcel s = record s {
-  buffers = each_from s.first s.count
+  buffers = tabulate s.first s.count
       (λ c. buffer_after_dimension (way_of s.routing c d) cap d (buffer_in s c) (mail_for cap d parcel s c));
 }
 part_after n cap Deliver parcel s = record s {
-  chips = each_from s.first s.count (λ c. chip_after_delivery (delivered_of s c) (chip_in s c));
-  buffers = each_from s.first s.count (λ c. kept_here (buffer_in s c) (chip_in s c));
-  logs = each_from s.first s.count (λ c. log_in s c ++ map (λ m. Delivered c m) (delivered_of s c));
+  chips = tabulate s.first s.count (λ c. chip_after_delivery (delivered_of s c) (chip_in s c));
+  buffers = tabulate s.first s.count (λ c. kept_here (buffer_in s c) (chip_in s c));
+  logs = tabulate s.first s.count (λ c. log_in s c ++ map (λ m. Delivered c m) (delivered_of s c));
   clock = s.clock + 1;
 }
 
@@ -84,7 +84,7 @@ less cap (Instruct nano) s = s
 less cap Look s = s
 less cap Inject s = s
 less cap (Cross d) s = record s {
-  buffers = each_from s.first s.count
+  buffers = tabulate s.first s.count
       (λ c. without (buffer_in s c) (leaving_place (way_of s.routing c d) cap d (buffer_in s c)));
 }
 less cap Deliver s = s
@@ -96,6 +96,6 @@ absorbed n cap Look parcel s = s
 absorbed n cap Inject parcel s = s
 absorbed n cap (Cross d) parcel s =
     record s {
-      buffers = each_from s.first s.count (λ c. buffer_in s c ++ option_to_list (mail_in parcel (c - s.first)));
+      buffers = tabulate s.first s.count (λ c. buffer_in s c ++ option_to_list (mail_in parcel (c - s.first)));
     }
 absorbed n cap Deliver parcel s = s

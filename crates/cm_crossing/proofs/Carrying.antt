@@ -8,13 +8,13 @@ use Rattle.std.proofs.lemmas.List.{length-map, length-append, map-append, get_or
 use Rattle.std.proofs.lemmas.Grind.{pieces}
 use Rattle.std.proofs.lemmas.List.Elements.{All-append, All-tail, All-map, All-cons}
 use Rattle.cm_model.specs.declared.message.Message.{Message}
-use Rattle.cm_model.specs.Array.{each_chip, list_at}
+use Rattle.cm_model.specs.Array.{each_chip, nth_or_nil}
 use Rattle.cm_model.specs.Letters.{has_arrived}
 use Rattle.cm_model.specs.Router.{has_to_cross, message_across}
 use Rattle.cm_model.specs.Wiring.{Way, plain_way}
 use Rattle.cm_model.specs.Buffers.{leaving_place, element_at, without, outgoing, buffer_after_dimension}
-use Rattle.cm_model.specs.Each.{each_from}
-use Rattle.cm_model.proofs.Each.{map-each_from, length-each_from, is_each}
+use Rattle.cm_model.specs.Each.{tabulate}
+use Rattle.cm_model.proofs.Each.{map-tabulate, length-tabulate, is_each}
 use Rattle.cm_model.proofs.Leaving.{position-map, map-without, element_at-map}
 use Rattle.cm_slots.specs.declared.ticket.Ticket.{Ticket}
 use Rattle.cm_slots.specs.Queues.{place_of_leaver, stayers_of}
@@ -73,32 +73,32 @@ module _ (row : List Message) (cap d : ℕ) where
 -- ---- those of all chips
 
 pub standing_at : (row : List Message) (queues : List (List Ticket)) (c : ℕ)
-    → list_at (all_standing row queues) c ≡ standing row (list_at queues c)
+    → nth_or_nil (all_standing row queues) c ≡ standing row (nth_or_nil queues c)
 standing_at row [] c = refl
 standing_at row (ts ∷ queues) zero = refl
 standing_at row (ts ∷ queues) (suc c) = standing_at row queues c
 
 pub crossed_standing : (n cap d : ℕ) (ways : ℕ → Way) (row : List Message) (old : List (List Ticket))
-    → all_standing row (each_chip n (λ c. tickets_crossed row (ways c) cap d (list_at old c)
-    (list_at old (bit_xor c (2 ^ d)))))
-    ≡ each_chip n (λ c. buffer_after_dimension (ways c) cap d (list_at (all_standing row old) c)
-    (outgoing (ways c) cap d (list_at (all_standing row old) (bit_xor c (2 ^ d)))))
-crossed_standing n cap d ways row old = simp (map-each_from, crossed-standing, standing_at)
+    → all_standing row (each_chip n (λ c. tickets_crossed row (ways c) cap d (nth_or_nil old c)
+    (nth_or_nil old (bit_xor c (2 ^ d)))))
+    ≡ each_chip n (λ c. buffer_after_dimension (ways c) cap d (nth_or_nil (all_standing row old) c)
+    (outgoing (ways c) cap d (nth_or_nil (all_standing row old) (bit_xor c (2 ^ d)))))
+crossed_standing n cap d ways row old = simp (map-tabulate, crossed-standing, standing_at)
 
 pub left_standing : (count cap d : ℕ) (ways : ℕ → Way) (row : List Message) (old : List (List Ticket))
-    → all_standing row (each_from 0 count (λ c. tickets_staying row (ways c) cap d (list_at old c)))
-    ≡ each_from 0 count (λ c. without (list_at (all_standing row old) c)
-    (leaving_place (ways c) cap d (list_at (all_standing row old) c)))
-left_standing count cap d ways row old = simp (map-each_from, staying-standing, standing_at)
+    → all_standing row (tabulate 0 count (λ c. tickets_staying row (ways c) cap d (nth_or_nil old c)))
+    ≡ tabulate 0 count (λ c. without (nth_or_nil (all_standing row old) c)
+    (leaving_place (ways c) cap d (nth_or_nil (all_standing row old) c)))
+left_standing count cap d ways row old = simp (map-tabulate, staying-standing, standing_at)
 
 pub gone_standing : (count cap d : ℕ) (ways : ℕ → Way) (row : List Message) (old : List (List Ticket))
-    → map (λ t. option_map (message_of_ticket row) t) (each_from 0 count (λ c. ticket_leaving row (ways c) cap d (list_at old c)))
-    ≡ each_from 0 count (λ c. outgoing (ways c) cap d (list_at (all_standing row old) c))
-gone_standing count cap d ways row old = simp (map-each_from, leaving-standing, standing_at)
+    → map (λ t. option_map (message_of_ticket row) t) (tabulate 0 count (λ c. ticket_leaving row (ways c) cap d (nth_or_nil old c)))
+    ≡ tabulate 0 count (λ c. outgoing (ways c) cap d (nth_or_nil (all_standing row old) c))
+gone_standing count cap d ways row old = simp (map-tabulate, leaving-standing, standing_at)
 
 -- what is made of each element is made by its number
 pub mapped_each : {X Y : Type 0} (f : X → Y) (d : X) (e : Y) (xs : List X)
-    → map f xs ≡ each_from 0 (length xs) (λ c. f (get_or xs c d))
+    → map f xs ≡ tabulate 0 (length xs) (λ c. f (get_or xs c d))
 mapped_each f d e xs = is_each e (length xs) (λ c. f (get_or xs c d)) (map f xs) (length-map xs f)
     (λ i h. get_or-map f xs i d e h)
 
@@ -120,14 +120,14 @@ as_many P row = all_stand (λ ms. P (length ms)) (λ ts. P (length ts)) row
 
 -- what is true of every list is true at each number, also where there is none
 pub all_at : {X : Type 0} (P : List X → Type 0) → P [] → (lists : List (List X)) (c : ℕ) → All P lists
-    → P (list_at lists c)
+    → P (nth_or_nil lists c)
 all_at P none [] c h = none
 all_at P none (xs ∷ lists) zero h = h 0 xs (omega arith)
 all_at P none (xs ∷ lists) (suc c) h = all_at P none lists c (All-tail P xs lists h)
 
 -- a chip has no more tickets than there is room for messages
 pub few_at : (room : ℕ) (row : List Message) (queues : List (List Ticket)) (c : ℕ)
-    → All (λ ms. length ms ≤ room) (all_standing row queues) → length (list_at queues c) ≤ room
+    → All (λ ms. length ms ≤ room) (all_standing row queues) → length (nth_or_nil queues c) ≤ room
 few_at room row queues c within =
     all_at (λ ts. length ts ≤ room) (omega arith) queues c ((as_many (λ n. n ≤ room) row queues).1 within)
 
@@ -174,51 +174,51 @@ kept_more few most None h kept = tt
 kept_more few most (Some t) h kept = omega (arith, h, kept)
 
 -- what a function makes for each number
-pub All-each_from : {X : Type 0} (P : X → Type 0) (first count : ℕ) (f : ℕ → X) → ((c : ℕ) → P (f c))
-    → All P (each_from first count f)
-unfolding each_from
-All-each_from P first count f h =
+pub All-tabulate : {X : Type 0} (P : X → Type 0) (first count : ℕ) (f : ℕ → X) → ((c : ℕ) → P (f c))
+    → All P (tabulate first count f)
+unfolding tabulate
+All-tabulate P first count f h =
     All-map P f (range_with_len first count) (λ k d l. h (get_or (range_with_len first count) k d))
 
 module _ (cap d count : ℕ) (ways : ℕ → Way) (row : List Message) (old : List (List Ticket))
     (kept : All (HaveMessages count) old) where
-  kept_at : (c : ℕ) → HaveMessages count (list_at old c)
+  kept_at : (c : ℕ) → HaveMessages count (nth_or_nil old c)
   kept_at c = all_at (HaveMessages count) (nobody_kept count) old c kept
 
   pub left_kept : (chips : ℕ)
-      → All (HaveMessages count) (each_from 0 chips (λ c. tickets_staying row (ways c) cap d (list_at old c)))
-  left_kept chips = All-each_from (HaveMessages count) 0 chips (λ c. tickets_staying row (ways c) cap d (list_at old c))
-      (λ c. without_kept count (list_at old c) (place_leaving row (ways c) cap d (list_at old c)) (kept_at c))
+      → All (HaveMessages count) (tabulate 0 chips (λ c. tickets_staying row (ways c) cap d (nth_or_nil old c)))
+  left_kept chips = All-tabulate (HaveMessages count) 0 chips (λ c. tickets_staying row (ways c) cap d (nth_or_nil old c))
+      (λ c. without_kept count (nth_or_nil old c) (place_leaving row (ways c) cap d (nth_or_nil old c)) (kept_at c))
 
   pub gone_kept : (chips : ℕ)
-      → All (HasMessage count) (each_from 0 chips (λ c. ticket_leaving row (ways c) cap d (list_at old c)))
-  gone_kept chips = All-each_from (HasMessage count) 0 chips (λ c. ticket_leaving row (ways c) cap d (list_at old c))
-      (λ c. leaver_kept count d (list_at old c) (place_leaving row (ways c) cap d (list_at old c)) (kept_at c))
+      → All (HasMessage count) (tabulate 0 chips (λ c. ticket_leaving row (ways c) cap d (nth_or_nil old c)))
+  gone_kept chips = All-tabulate (HasMessage count) 0 chips (λ c. ticket_leaving row (ways c) cap d (nth_or_nil old c))
+      (λ c. leaver_kept count d (nth_or_nil old c) (place_leaving row (ways c) cap d (nth_or_nil old c)) (kept_at c))
 
-  pub crossed_kept : (n : ℕ) → All (HaveMessages count) (each_chip n (λ c. tickets_crossed row (ways c) cap d (list_at old c)
-      (list_at old (bit_xor c (2 ^ d)))))
-  crossed_kept n = All-each_from (HaveMessages count) 0 (2 ^ n)
-      (λ c. tickets_crossed row (ways c) cap d (list_at old c) (list_at old (bit_xor c (2 ^ d))))
+  pub crossed_kept : (n : ℕ) → All (HaveMessages count) (each_chip n (λ c. tickets_crossed row (ways c) cap d (nth_or_nil old c)
+      (nth_or_nil old (bit_xor c (2 ^ d)))))
+  crossed_kept n = All-tabulate (HaveMessages count) 0 (2 ^ n)
+      (λ c. tickets_crossed row (ways c) cap d (nth_or_nil old c) (nth_or_nil old (bit_xor c (2 ^ d))))
       (λ c. let there : ℕ = bit_xor c (2 ^ d) in
-      All-append (λ (t : Ticket). t.number < count) (tickets_staying row (ways c) cap d (list_at old c))
-      (option_to_list (ticket_leaving row (ways c) cap d (list_at old there)))
-      (without_kept count (list_at old c) (place_leaving row (ways c) cap d (list_at old c)) (kept_at c))
-      (listed_kept count (ticket_leaving row (ways c) cap d (list_at old there))
-      (leaver_kept count d (list_at old there) (place_leaving row (ways c) cap d (list_at old there)) (kept_at there))))
+      All-append (λ (t : Ticket). t.number < count) (tickets_staying row (ways c) cap d (nth_or_nil old c))
+      (option_to_list (ticket_leaving row (ways c) cap d (nth_or_nil old there)))
+      (without_kept count (nth_or_nil old c) (place_leaving row (ways c) cap d (nth_or_nil old c)) (kept_at c))
+      (listed_kept count (ticket_leaving row (ways c) cap d (nth_or_nil old there))
+      (leaver_kept count d (nth_or_nil old there) (place_leaving row (ways c) cap d (nth_or_nil old there)) (kept_at there))))
 
 -- ---- nobody stands
 
-module _ (queues : List (List Ticket)) (count : ℕ) (none : queues ≡ each_from 0 count (λ c. [])) where
+module _ (queues : List (List Ticket)) (count : ℕ) (none : queues ≡ tabulate 0 count (λ c. [])) where
   pub none_long : length queues ≡ count
-  none_long = rw none (length-each_from 0 count (λ c. []))
+  none_long = rw none (length-tabulate 0 count (λ c. []))
 
-  pub none_standing : (row : List Message) → all_standing row queues ≡ each_from 0 count (λ c. [])
-  none_standing row = rw none (map-each_from (standing row) 0 count (λ c. []))
+  pub none_standing : (row : List Message) → all_standing row queues ≡ tabulate 0 count (λ c. [])
+  none_standing row = rw none (map-tabulate (standing row) 0 count (λ c. []))
 
   pub none_kept : (bound : ℕ) → All (HaveMessages bound) queues
-  none_kept bound = rw none (All-each_from (HaveMessages bound) 0 count (λ c. []) (λ c. nobody_kept bound))
+  none_kept bound = rw none (All-tabulate (HaveMessages bound) 0 count (λ c. []) (λ c. nobody_kept bound))
 
   pub none_together : (row : List Message) → All (AreTogether row) queues
   none_together row =
-      rw none (All-each_from (AreTogether row) 0 count (λ c. [])
+      rw none (All-tabulate (AreTogether row) 0 count (λ c. [])
       (λ c. record { start = 0; starts = λ some. absurd (omega arith); within = omega arith; value = refl }))

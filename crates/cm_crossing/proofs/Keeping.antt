@@ -10,7 +10,7 @@ use Rattle.std.proofs.lemmas.Option.{slice_get-map, slice_get-get_or, slice_get_
 use Rattle.cm_model.specs.declared.message.Message.{Message}
 use Rattle.cm_model.specs.declared.message.Event.{Event}
 use Rattle.cm_model.specs.declared.message.Event.TheVariants.{Delivered}
-use Rattle.cm_model.specs.Array.{list_at}
+use Rattle.cm_model.specs.Array.{nth_or_nil}
 use Rattle.cm_model.specs.Processor.{Processor}
 use Rattle.cm_model.proofs.Leaving.{map-without}
 use Rattle.cm_model.proofs.Scan.{Scan, HandsOver, scan_accepts, scan_keeps}
@@ -87,9 +87,9 @@ module _ {row spare : List Message} {old new : List Ticket} (is : AreLaidOut row
 
 -- of all lists only this one has changed, written once more
 pub written_again : {X : Type 0} (i : ℕ) (first old new : List (List X)) (xs : List X) → new ≡ set old i xs
-    → list_at new i ≡ xs → old ≡ set first i (list_at old i) → new ≡ set first i (list_at new i)
+    → nth_or_nil new i ≡ xs → old ≡ set first i (nth_or_nil old i) → new ≡ set first i (nth_or_nil new i)
 written_again i first old new xs is here was =
-    is ∙ ap (λ r. set r i xs) was ∙ set-set first i (list_at old i) xs ∙ ap (set first i) (sym here)
+    is ∙ ap (λ r. set r i xs) was ∙ set-set first i (nth_or_nil old i) xs ∙ ap (set first i) (sym here)
 
 -- the message of the ticket at the place was handed over, and with it the scan goes on
 module _ {before chip : List Processor} {old : List Message} {told events : List Event} {here place : ℕ}

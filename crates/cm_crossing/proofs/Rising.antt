@@ -11,7 +11,7 @@ use Rattle.std.proofs.lemmas.List.Elements.{All-tail, All-cons}
 use Rattle.cm_model.specs.declared.message.Message.{Message}
 use Rattle.cm_model.specs.declared.message.Tag.{Tag}
 use Rattle.cm_model.specs.declared.rule.Rule.TheVariants.{Oldest}
-use Rattle.cm_model.specs.Array.{each_chip, list_at}
+use Rattle.cm_model.specs.Array.{each_chip, nth_or_nil}
 use Rattle.cm_model.specs.Wiring.{Routing, Way, way_of}
 use Rattle.cm_model.specs.Router.{is_older}
 use Rattle.cm_model.specs.Buffers.{element_at, is_older_one, is_older_or_none, oldest_place, youngest_place}
@@ -125,18 +125,18 @@ module _ (row : List Message) (rising : AreByAge row (length row)) where
 
   pub all_crossed_by_number : (routing : Routing) (room d first span : ℕ) (old : List (List Ticket))
       → All (HaveMessages (length row)) old → ((c : ℕ) → way_of routing c d ≡ oldest_way)
-      → each_chip span (λ c. exchanged_by_number room d (list_at old c) (list_at old (bit_xor c (2 ^ d))))
+      → each_chip span (λ c. exchanged_by_number room d (nth_or_nil old c) (nth_or_nil old (bit_xor c (2 ^ d))))
       ≡ each_chip span (λ c. tickets_crossed row (way_of routing (first + c) d) room d
-      (list_at old c) (list_at old (bit_xor c (2 ^ d))))
+      (nth_or_nil old c) (nth_or_nil old (bit_xor c (2 ^ d))))
   all_crossed_by_number routing room d first span old kept ways =
-      let kept_at : (c : ℕ) → HaveMessages (length row) (list_at old c) = λ c.
+      let kept_at : (c : ℕ) → HaveMessages (length row) (nth_or_nil old c) = λ c.
       all_at (HaveMessages (length row)) (λ k e l. absurd (omega (arith, l))) old c kept in
       same_each_below [] (2 ^ span)
-      (λ c. exchanged_by_number room d (list_at old c) (list_at old (bit_xor c (2 ^ d))))
-      (λ c. tickets_crossed row (way_of routing (first + c) d) room d (list_at old c) (list_at old (bit_xor c (2 ^ d))))
-      (λ c l. crossed_by_number room d (list_at old c) (list_at old (bit_xor c (2 ^ d))) (kept_at c)
+      (λ c. exchanged_by_number room d (nth_or_nil old c) (nth_or_nil old (bit_xor c (2 ^ d))))
+      (λ c. tickets_crossed row (way_of routing (first + c) d) room d (nth_or_nil old c) (nth_or_nil old (bit_xor c (2 ^ d))))
+      (λ c l. crossed_by_number room d (nth_or_nil old c) (nth_or_nil old (bit_xor c (2 ^ d))) (kept_at c)
       (kept_at (bit_xor c (2 ^ d)))
-      ∙ ap (λ (way : Way). tickets_crossed row way room d (list_at old c) (list_at old (bit_xor c (2 ^ d))))
+      ∙ ap (λ (way : Way). tickets_crossed row way room d (nth_or_nil old c) (nth_or_nil old (bit_xor c (2 ^ d))))
       (sym (ways (first + c))))
 
 -- ---- messages that have moved

@@ -6,7 +6,7 @@ use Rattle.std.specs.declared.alloc.Global.{Global}
 use Rattle.cm_model.specs.declared.message.Message.{Message}
 use Rattle.cm_model.specs.declared.message.Tag.{Tag}
 use Rattle.cm_model.specs.Router.{is_older}
-use Rattle.cm_model.specs.Array.{list_at}
+use Rattle.cm_model.specs.Array.{nth_or_nil}
 use Rattle.cm_slots.specs.declared.ticket.Ticket.{Ticket}
 
 -- what contracts see of the messages of a run of chips:
@@ -69,7 +69,7 @@ pub record AreLaidOut (row spare : List Message) (old new : List Ticket) : Type 
 
 -- the tickets of one chip were written, and no others
 abbrev pub IsWritten : ℕ → List (List Ticket) → List (List Ticket) → Type 0
-IsWritten here old new = new ≡ slice_set old here (list_at new here)
+IsWritten here old new = new ≡ slice_set old here (nth_or_nil new here)
 
 -- ---- the order of age
 

@@ -2,7 +2,7 @@
 //! kept lies far from the tickets.
 
 ghost use Rattle.std.specs.Prelude.{◌≡◌, ℕ, ◌+◌, ◌<◌, ◌&&◌, not, IfSome, length, position, get_or};
-ghost use Rattle.cm_model.specs.Array.{list_at};
+ghost use Rattle.cm_model.specs.Array.{nth_or_nil};
 ghost use Rattle.cm_model.specs.Router.{has_to_cross};
 ghost use Rattle.cm_model.specs.Buffers.{chosen_place, first_place, last_place, oldest_place, youngest_place};
 ghost use Rattle.cm_model.specs.Buffers.{element_at, is_older_one, is_older_or_none};
@@ -26,9 +26,9 @@ pub(crate) fn place_of_chosen(
 ) -> Option<usize>
     requires chip { chip < length slots.now }
     requires dim { dim < 12 }
-    requires kept { HaveMessages (length row.now) (list_at slots.now chip) }
-    ensures value { result ≡ chosen_place rule sizes.room dim (standing row.now (list_at slots.now chip)) }
-    ensures within { IfSome result (λ place. place < length (list_at slots.now chip)) }
+    requires kept { HaveMessages (length row.now) (nth_or_nil slots.now chip) }
+    ensures value { result ≡ chosen_place rule sizes.room dim (standing row.now (nth_or_nil slots.now chip)) }
+    ensures within { IfSome result (λ place. place < length (nth_or_nil slots.now chip)) }
 {
     match first_place(row, slots, chip, dim, rule) {
         Some(place) => Some(place),
@@ -40,9 +40,9 @@ pub(crate) fn place_of_chosen(
 fn first_place(row: &[Message], slots: &Slots, chip: usize, dim: u8, rule: Rule) -> Option<usize>
     requires chip { chip < length slots.now }
     requires dim { dim < 12 }
-    requires kept { HaveMessages (length row.now) (list_at slots.now chip) }
-    ensures value { result ≡ first_place rule dim (standing row.now (list_at slots.now chip)) }
-    ensures within { IfSome result (λ place. place < length (list_at slots.now chip)) }
+    requires kept { HaveMessages (length row.now) (nth_or_nil slots.now chip) }
+    ensures value { result ≡ first_place rule dim (standing row.now (nth_or_nil slots.now chip)) }
+    ensures within { IfSome result (λ place. place < length (nth_or_nil slots.now chip)) }
 {
     match rule {
         Rule::First => first_to_cross(slots, chip, dim),
@@ -53,10 +53,10 @@ fn first_place(row: &[Message], slots: &Slots, chip: usize, dim: u8, rule: Rule)
 /// The place of who goes last, where somebody stands there.
 fn last_place(row: &[Message], slots: &Slots, chip: usize, rule: Rule) -> Option<usize>
     requires chip { chip < length slots.now }
-    requires some { 0 < length (list_at slots.now chip) }
-    requires kept { HaveMessages (length row.now) (list_at slots.now chip) }
-    ensures value { result ≡ last_place rule (standing row.now (list_at slots.now chip)) }
-    ensures within { IfSome result (λ place. place < length (list_at slots.now chip)) }
+    requires some { 0 < length (nth_or_nil slots.now chip) }
+    requires kept { HaveMessages (length row.now) (nth_or_nil slots.now chip) }
+    ensures value { result ≡ last_place rule (standing row.now (nth_or_nil slots.now chip)) }
+    ensures within { IfSome result (λ place. place < length (nth_or_nil slots.now chip)) }
 {
     match rule {
         Rule::First => Some(slots.len(chip) - 1),
@@ -68,8 +68,8 @@ fn last_place(row: &[Message], slots: &Slots, chip: usize, rule: Rule) -> Option
 fn first_to_cross(slots: &Slots, chip: usize, dim: u8) -> Option<usize>
     requires chip { chip < length slots.now }
     requires dim { dim < 12 }
-    ensures value { result ≡ position (has_to_go dim) (list_at slots.now chip) }
-    ensures within { IfSome result (λ place. place < length (list_at slots.now chip)) }
+    ensures value { result ≡ position (has_to_go dim) (nth_or_nil slots.now chip) }
+    ensures within { IfSome result (λ place. place < length (nth_or_nil slots.now chip)) }
 {
     let mut place = 0;
     while let Some(ticket) = slots.ticket(chip, place) {
@@ -85,9 +85,9 @@ fn first_to_cross(slots: &Slots, chip: usize, dim: u8) -> Option<usize>
 fn oldest_to_cross(row: &[Message], slots: &Slots, chip: usize, dim: u8) -> Option<usize>
     requires chip { chip < length slots.now }
     requires dim { dim < 12 }
-    requires kept { HaveMessages (length row.now) (list_at slots.now chip) }
-    ensures value { result ≡ oldest_place dim (standing row.now (list_at slots.now chip)) }
-    ensures within { IfSome result (λ place. place < length (list_at slots.now chip)) }
+    requires kept { HaveMessages (length row.now) (nth_or_nil slots.now chip) }
+    ensures value { result ≡ oldest_place dim (standing row.now (nth_or_nil slots.now chip)) }
+    ensures within { IfSome result (λ place. place < length (nth_or_nil slots.now chip)) }
 {
     let mut oldest: Option<usize> = None;
     for place in (0..slots.len(chip)).rev() {
@@ -101,9 +101,9 @@ fn oldest_to_cross(row: &[Message], slots: &Slots, chip: usize, dim: u8) -> Opti
 /// The place of the youngest, gone through from behind.
 fn youngest(row: &[Message], slots: &Slots, chip: usize) -> Option<usize>
     requires chip { chip < length slots.now }
-    requires kept { HaveMessages (length row.now) (list_at slots.now chip) }
-    ensures value { result ≡ youngest_place (standing row.now (list_at slots.now chip)) }
-    ensures within { IfSome result (λ place. place < length (list_at slots.now chip)) }
+    requires kept { HaveMessages (length row.now) (nth_or_nil slots.now chip) }
+    ensures value { result ≡ youngest_place (standing row.now (nth_or_nil slots.now chip)) }
+    ensures within { IfSome result (λ place. place < length (nth_or_nil slots.now chip)) }
 {
     let mut youngest: Option<usize> = None;
     for place in (0..slots.len(chip)).rev() {
@@ -123,11 +123,11 @@ fn goes_last(
     behind: Option<usize>,
 ) -> bool
     requires chip { chip < length slots.now }
-    requires kept { HaveMessages (length row.now) (list_at slots.now chip) }
-    requires place { place < length (list_at slots.now chip) }
-    requires within { IfSome behind (λ i. i < length (list_at slots.now chip)) }
-    ensures value { result ≡ is_older_or_none (element_at (standing row.now (list_at slots.now chip)) behind)
-        (get_or (standing row.now (list_at slots.now chip)) place no_message) }
+    requires kept { HaveMessages (length row.now) (nth_or_nil slots.now chip) }
+    requires place { place < length (nth_or_nil slots.now chip) }
+    requires within { IfSome behind (λ i. i < length (nth_or_nil slots.now chip)) }
+    ensures value { result ≡ is_older_or_none (element_at (standing row.now (nth_or_nil slots.now chip)) behind)
+        (get_or (standing row.now (nth_or_nil slots.now chip)) place no_message) }
 {
     behind.is_none()
         || is_older_at(
@@ -150,13 +150,13 @@ fn goes_first(
 ) -> bool
     requires chip { chip < length slots.now }
     requires dim { dim < 12 }
-    requires kept { HaveMessages (length row.now) (list_at slots.now chip) }
-    requires place { place < length (list_at slots.now chip) }
-    requires within { IfSome behind (λ i. i < length (list_at slots.now chip)) }
+    requires kept { HaveMessages (length row.now) (nth_or_nil slots.now chip) }
+    requires place { place < length (nth_or_nil slots.now chip) }
+    requires within { IfSome behind (λ i. i < length (nth_or_nil slots.now chip)) }
     ensures value { result
-        ≡ (has_to_cross dim (get_or (standing row.now (list_at slots.now chip)) place no_message)
-        && not (is_older_one (element_at (standing row.now (list_at slots.now chip)) behind)
-        (get_or (standing row.now (list_at slots.now chip)) place no_message))) }
+        ≡ (has_to_cross dim (get_or (standing row.now (nth_or_nil slots.now chip)) place no_message)
+        && not (is_older_one (element_at (standing row.now (nth_or_nil slots.now chip)) behind)
+        (get_or (standing row.now (nth_or_nil slots.now chip)) place no_message))) }
 {
     let ticket = slots.ticket(chip, place).unwrap();
     has_to_go(ticket, dim) && !is_older_at(row, slots, chip, behind, &message_of(row, ticket))
@@ -179,10 +179,10 @@ fn is_older_at(
     message: &Message,
 ) -> bool
     requires chip { chip < length slots.now }
-    requires kept { HaveMessages (length row.now) (list_at slots.now chip) }
-    requires within { IfSome place (λ i. i < length (list_at slots.now chip)) }
+    requires kept { HaveMessages (length row.now) (nth_or_nil slots.now chip) }
+    requires within { IfSome place (λ i. i < length (nth_or_nil slots.now chip)) }
     ensures value { result
-        ≡ is_older_one (element_at (standing row.now (list_at slots.now chip)) place) message.now }
+        ≡ is_older_one (element_at (standing row.now (nth_or_nil slots.now chip)) place) message.now }
 {
     match place {
         Some(i) => is_older(&message_at(row, slots, chip, i).tag, &message.tag),
@@ -193,9 +193,9 @@ fn is_older_at(
 /// The message at a place.
 fn message_at(row: &[Message], slots: &Slots, chip: usize, place: usize) -> Message
     requires chip { chip < length slots.now }
-    requires kept { HaveMessages (length row.now) (list_at slots.now chip) }
-    requires place { place < length (list_at slots.now chip) }
-    ensures value { result ≡ get_or (standing row.now (list_at slots.now chip)) place no_message }
+    requires kept { HaveMessages (length row.now) (nth_or_nil slots.now chip) }
+    requires place { place < length (nth_or_nil slots.now chip) }
+    ensures value { result ≡ get_or (standing row.now (nth_or_nil slots.now chip)) place no_message }
 {
     message_of(row, slots.ticket(chip, place).unwrap())
 }

@@ -9,8 +9,8 @@ ghost use Rattle.cm_model.specs.declared.message.Event.TheVariants as event;
 ghost use Rattle.cm_model.specs.Chip.{IsPlane};
 ghost use Rattle.cm_model.specs.Letters.{has_arrived, chip_after_injection, chip_after_delivery};
 ghost use Rattle.cm_model.specs.Letters.{is_among, messages_sent};
-ghost use Rattle.cm_model.specs.Each.{each_from};
-ghost use Rattle.cm_model.specs.Array.{each_chip, chip_at, list_at};
+ghost use Rattle.cm_model.specs.Each.{tabulate};
+ghost use Rattle.cm_model.specs.Array.{each_chip, chip_at, nth_or_nil};
 ghost use Rattle.cm_model.specs.Wiring.{is_cut, way_of};
 ghost use Rattle.cm_model.specs.Buffers.{leaving_place, without, outgoing, buffer_after_dimension};
 ghost use Rattle.cm_model.specs.OneChip.{taken_here, sent_here, delivered_here, kept_here};
@@ -92,7 +92,7 @@ impl Crossing {
     /// Working room for so many chips, at which no message stands.
     pub fn new(alloc: Global, chips: usize) -> Result<Crossing, NoMemory>
         requires few { chips ≤ 4096 }
-        ensures value { IfOk result (λ crossing. crossing.buffers ≡ each_from 0 chips (λ c. [])) }
+        ensures value { IfOk result (λ crossing. crossing.buffers ≡ tabulate 0 chips (λ c. [])) }
         ensures count { IfOk result (λ crossing. length crossing.buffers ≡ chips) }
         ensures gathered { IfOk result (λ crossing. IsTrue crossing.gathered) }
         ensures free { IfOk result (λ crossing. crossing.free ≡ min 65535 (32 * chips + 4)) }
@@ -154,7 +154,7 @@ impl Crossing {
     /// How many messages stand at a chip.
     pub fn len(&self, chip: usize) -> usize
         requires chip { chip < length self.now.buffers }
-        ensures value { result ≡ length (list_at self.now.buffers chip) }
+        ensures value { result ≡ length (nth_or_nil self.now.buffers chip) }
         ensures most { result ≤ 15 }
         ensures few { length self.now.buffers ≤ 4096 }
     {
@@ -165,11 +165,11 @@ impl Crossing {
     pub fn next_arrived(&self, sizes: Sizes, from: usize) -> usize
         requires from { from ≤ length self.now.buffers }
         requires within { All (λ ms. length ms ≤ sizes.room) self.now.buffers }
-        ensures none { (c : ℕ) → from ≤ c → c < result → list_any has_arrived (list_at self.now.buffers c) ≡ false }
+        ensures none { (c : ℕ) → from ≤ c → c < result → list_any has_arrived (nth_or_nil self.now.buffers c) ≡ false }
         ensures from { from ≤ result }
         ensures most { result ≤ length self.now.buffers }
         ensures arrived { result < length self.now.buffers
-            → list_any has_arrived (list_at self.now.buffers result) ≡ true }
+            → list_any has_arrived (nth_or_nil self.now.buffers result) ≡ true }
     {
         self.slots.next_arrived(from, sizes)
     }
@@ -178,7 +178,7 @@ impl Crossing {
     pub fn buffer(&self, chip: usize) -> &[Message]
         requires chip { chip < length self.now.buffers }
         requires gathered { IsTrue self.now.gathered }
-        ensures value { result.now ≡ list_at self.now.buffers chip }
+        ensures value { result.now ≡ nth_or_nil self.now.buffers chip }
     {
         read_out(&self.row, &self.slots, chip)
     }
@@ -219,7 +219,7 @@ impl Crossing {
 
     /// Takes out all messages.
     pub fn clear(&mut self)
-        ensures value { self.new.buffers ≡ each_from 0 (length self.old.buffers) (λ c. []) }
+        ensures value { self.new.buffers ≡ tabulate 0 (length self.old.buffers) (λ c. []) }
         ensures gathered { IsTrue self.new.gathered }
     {
         self.row.clear();
@@ -232,9 +232,9 @@ impl Crossing {
     /// A message comes to stand last at a chip.
     pub fn arrive(&mut self, chip: usize, message: Message)
         requires chip { chip < length self.old.buffers }
-        requires room { length (list_at self.old.buffers chip) < 15 }
+        requires room { length (nth_or_nil self.old.buffers chip) < 15 }
         ensures value { self.new.buffers
-            ≡ slice_set self.old.buffers chip (list_at self.old.buffers chip ++ message ∷ []) }
+            ≡ slice_set self.old.buffers chip (nth_or_nil self.old.buffers chip ++ message ∷ []) }
     {
         self.make_places();
         self.stand(chip, &message);
@@ -244,9 +244,9 @@ impl Crossing {
     fn stand(&mut self, chip: usize, message: &Message)
         requires chip { chip < length self.old.buffers }
         requires free { 0 < self.old.free }
-        requires room { length (list_at self.old.buffers chip) < 15 }
+        requires room { length (nth_or_nil self.old.buffers chip) < 15 }
         ensures value { self.new.buffers
-            ≡ slice_set self.old.buffers chip (list_at self.old.buffers chip ++ message.now ∷ []) }
+            ≡ slice_set self.old.buffers chip (nth_or_nil self.old.buffers chip ++ message.now ∷ []) }
     {
         stand(&mut self.row, &mut self.slots, chip, message);
         self.gathered = false;
@@ -266,12 +266,12 @@ impl Crossing {
     ) -> Plane
         requires at { at < length self.old.buffers }
         requires free { length senders ≤ self.old.free }
-        requires room { length (list_at self.old.buffers at) + length senders ≤ 15 }
+        requires room { length (nth_or_nil self.old.buffers at) + length senders ≤ 15 }
         requires dims { dims ≤ 12 }
         requires log_room { length senders ≤ log_room log.old }
         ensures taken { IsPlane result (λ p. is_among p senders) }
         ensures value { self.new.buffers ≡ slice_set self.old.buffers at
-            (list_at self.old.buffers at ++ messages_sent dims clock here chip.now senders) }
+            (nth_or_nil self.old.buffers at ++ messages_sent dims clock here chip.now senders) }
         ensures log { log.new.items
             ≡ log.old.items ++ map event.Injected (messages_sent dims clock here chip.now senders) }
         ensures len { vec_len log.new ≡ vec_len log.old + length senders }
@@ -311,7 +311,7 @@ impl Crossing {
         requires run { length run.now ≡ length self.now.buffers }
         requires from { from ≤ length self.now.buffers }
         ensures none { (c : ℕ) → from ≤ c → c < result
-            → IsPassedOver sizes.room (list_at self.now.buffers c) (chip_at run.now c) }
+            → IsPassedOver sizes.room (nth_or_nil self.now.buffers c) (chip_at run.now c) }
         ensures from { from ≤ result }
         ensures most { result ≤ length self.now.buffers }
     {
@@ -329,7 +329,7 @@ impl Crossing {
         requires chip { chip < length self.now.buffers }
         requires run { length run.now ≡ length self.now.buffers }
         ensures passed { IsTrue result
-            → IsPassedOver sizes.room (list_at self.now.buffers chip) (chip_at run.now chip) }
+            → IsPassedOver sizes.room (nth_or_nil self.now.buffers chip) (chip_at run.now chip) }
     {
         !chip_is_acknowledged(run, chip)
             && (!chip_asks(run, chip) || self.is_full(sizes, usize::from(chip)))
@@ -338,7 +338,7 @@ impl Crossing {
     /// Whether no room is left at a chip: somebody stands in the last place.
     fn is_full(&self, sizes: Sizes, chip: usize) -> bool
         requires chip { chip < length self.now.buffers }
-        ensures full { IsTrue result → sizes.room ≤ length (list_at self.now.buffers chip) }
+        ensures full { IsTrue result → sizes.room ≤ length (nth_or_nil self.now.buffers chip) }
     {
         self.slots.is_taken(chip, usize::from(sizes.room - 1))
     }
@@ -359,12 +359,12 @@ impl Crossing {
         requires run { length run.old ≡ length self.old.buffers }
         requires within { All (λ ms. length ms ≤ sizes.room) self.old.buffers }
         requires log_room { 4 ≤ log_room log.old }
-        ensures value { self.new.buffers ≡ slice_set self.old.buffers chip (list_at self.old.buffers chip
-            ++ sent_here sizes.dims sizes.room clock here (list_at self.old.buffers chip) (chip_at run.old chip)) }
+        ensures value { self.new.buffers ≡ slice_set self.old.buffers chip (nth_or_nil self.old.buffers chip
+            ++ sent_here sizes.dims sizes.room clock here (nth_or_nil self.old.buffers chip) (chip_at run.old chip)) }
         ensures chip { run.new ≡ slice_set run.old chip (chip_after_injection
-            (taken_here sizes.room (list_at self.old.buffers chip) (chip_at run.old chip)) (chip_at run.old chip)) }
+            (taken_here sizes.room (nth_or_nil self.old.buffers chip) (chip_at run.old chip)) (chip_at run.old chip)) }
         ensures log { log.new.items ≡ log.old.items ++ map event.Injected
-            (sent_here sizes.dims sizes.room clock here (list_at self.old.buffers chip) (chip_at run.old chip)) }
+            (sent_here sizes.dims sizes.room clock here (nth_or_nil self.old.buffers chip) (chip_at run.old chip)) }
         ensures len { vec_len log.new ≤ vec_len log.old + 4 }
         ensures capacity { vec_capacity log.old ≤ vec_capacity log.new }
         ensures within { All (λ ms. length ms ≤ sizes.room) self.new.buffers }
@@ -392,9 +392,9 @@ impl Crossing {
         requires band { first + 2 ^ span ≤ 2 ^ sizes.dims }
         requires within { All (λ ms. length ms ≤ sizes.room) self.old.buffers }
         ensures value { self.new.buffers ≡ each_chip span (λ c. buffer_after_dimension
-            (way_of (routing_of routing.now) (first + c) dim) sizes.room dim (list_at self.old.buffers c)
+            (way_of (routing_of routing.now) (first + c) dim) sizes.room dim (nth_or_nil self.old.buffers c)
             (outgoing (way_of (routing_of routing.now) (first + c) dim) sizes.room dim
-            (list_at self.old.buffers (bit_xor c (2 ^ dim))))) }
+            (nth_or_nil self.old.buffers (bit_xor c (2 ^ dim))))) }
         ensures count { length self.new.buffers ≡ 2 ^ span }
         ensures within { All (λ ms. length ms ≤ sizes.room) self.new.buffers }
     {
@@ -447,9 +447,9 @@ impl Crossing {
         requires band { first + 2 ^ span ≤ 2 ^ sizes.dims }
         requires within { All (λ ms. length ms ≤ sizes.room) self.old.buffers }
         ensures value { self.new.buffers ≡ each_chip span (λ c. buffer_after_dimension
-            (way_of (routing_of routing.now) (first + c) dim) sizes.room dim (list_at self.old.buffers c)
+            (way_of (routing_of routing.now) (first + c) dim) sizes.room dim (nth_or_nil self.old.buffers c)
             (outgoing (way_of (routing_of routing.now) (first + c) dim) sizes.room dim
-            (list_at self.old.buffers (bit_xor c (2 ^ dim))))) }
+            (nth_or_nil self.old.buffers (bit_xor c (2 ^ dim))))) }
         ensures count { length self.new.buffers ≡ 2 ^ span }
         ensures within { All (λ ms. length ms ≤ sizes.room) self.new.buffers }
     {
@@ -484,14 +484,14 @@ impl Crossing {
         requires count { length leavers.old ≡ length self.old.buffers }
         requires band { first + length self.old.buffers ≤ 2 ^ sizes.dims }
         requires within { All (λ ms. length ms ≤ sizes.room) self.old.buffers }
-        ensures value { self.new.buffers ≡ each_from 0 (length self.old.buffers) (λ c. without
-            (list_at self.old.buffers c) (leaving_place (way_of (routing_of routing.now) (first + c) dim)
-            sizes.room dim (list_at self.old.buffers c))) }
-        ensures going { leavers.new ≡ each_from 0 (length self.old.buffers) (λ c. outgoing
-            (way_of (routing_of routing.now) (first + c) dim) sizes.room dim (list_at self.old.buffers c)) }
+        ensures value { self.new.buffers ≡ tabulate 0 (length self.old.buffers) (λ c. without
+            (nth_or_nil self.old.buffers c) (leaving_place (way_of (routing_of routing.now) (first + c) dim)
+            sizes.room dim (nth_or_nil self.old.buffers c))) }
+        ensures going { leavers.new ≡ tabulate 0 (length self.old.buffers) (λ c. outgoing
+            (way_of (routing_of routing.now) (first + c) dim) sizes.room dim (nth_or_nil self.old.buffers c)) }
         ensures within { All (λ ms. length ms ≤ sizes.room) self.new.buffers }
         ensures space { (c : ℕ) → c < length self.old.buffers → is_cut (routing_of routing.now) (first + c) dim ≡ false
-            → length (list_at self.new.buffers c) < sizes.room }
+            → length (nth_or_nil self.new.buffers c) < sizes.room }
     {
         let gone = self.leavers.as_mut_slice();
         leave(&self.row, &mut self.slots, sizes, routing, first, dim, gone);
@@ -505,9 +505,9 @@ impl Crossing {
         requires count { length leavers.old ≡ length self.old.buffers }
         requires within { All (λ ms. length ms ≤ sizes.room) self.old.buffers }
         requires space { (c : ℕ) → c < length self.old.buffers
-            → (slice_index_or leavers.old c None ≡ None) ⊎ (length (list_at self.old.buffers c) < sizes.room) }
-        ensures value { self.new.buffers ≡ each_from 0 (length self.old.buffers)
-            (λ c. list_at self.old.buffers c ++ option_to_list (slice_index_or leavers.old c None)) }
+            → (slice_index_or leavers.old c None ≡ None) ⊎ (length (nth_or_nil self.old.buffers c) < sizes.room) }
+        ensures value { self.new.buffers ≡ tabulate 0 (length self.old.buffers)
+            (λ c. nth_or_nil self.old.buffers c ++ option_to_list (slice_index_or leavers.old c None)) }
         ensures blank { All (λ leaver. leaver ≡ None) leavers.new }
         ensures within { All (λ ms. length ms ≤ sizes.room) self.new.buffers }
     {
@@ -538,13 +538,13 @@ impl Crossing {
         requires space { length deliveries.old + 15 ≤ 128 }
         requires log_room { sizes.room ≤ log_room log.old }
         ensures value { self.new.buffers ≡ slice_set self.old.buffers chip
-            (kept_here (list_at self.old.buffers chip) (chip_at (run_after deliveries.old run.now) chip)) }
+            (kept_here (nth_or_nil self.old.buffers chip) (chip_at (run_after deliveries.old run.now) chip)) }
         ensures chip { run_after deliveries.new run.now ≡ slice_set (run_after deliveries.old run.now) chip
-            (chip_after_delivery (delivered_here (list_at self.old.buffers chip)
+            (chip_after_delivery (delivered_here (nth_or_nil self.old.buffers chip)
             (chip_at (run_after deliveries.old run.now) chip)) (chip_at (run_after deliveries.old run.now) chip)) }
         ensures before { AreBefore (chip + 1) deliveries.new }
         ensures log { log.new.items ≡ log.old.items ++ map (λ m. event.Delivered here m)
-            (delivered_here (list_at self.old.buffers chip) (chip_at (run_after deliveries.old run.now) chip)) }
+            (delivered_here (nth_or_nil self.old.buffers chip) (chip_at (run_after deliveries.old run.now) chip)) }
         ensures len { vec_len log.new ≤ vec_len log.old + sizes.room }
         ensures capacity { vec_capacity log.old ≤ vec_capacity log.new }
         ensures within { All (λ ms. length ms ≤ sizes.room) self.new.buffers }

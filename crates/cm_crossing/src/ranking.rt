@@ -3,7 +3,7 @@
 
 ghost use Rattle.std.specs.Prelude.{◌≡◌, ◌⊎◌, ℕ, ◌-◌, ◌<◌, ◌≤◌, IsTrue, length, map, true, vec_len, vec_capacity};
 ghost use Rattle.std.specs.List.{All};
-ghost use Rattle.cm_model.specs.Array.{list_at};
+ghost use Rattle.cm_model.specs.Array.{nth_or_nil};
 ghost use Rattle.cm_model.specs.Router.{is_older};
 ghost use Rattle.cm_crossing.specs.Standing.{HaveMessages, IsWritten, tag_at, AreByAge};
 ghost use Rattle.cm_crossing.specs.Ranking.{moved_ticket, HaveMoved};
@@ -126,9 +126,9 @@ pub(crate) fn renumber(slots: &mut Slots, moved: &[u16])
 
 fn renumber_at(slots: &mut Slots, moved: &[u16], here: usize)
     requires here { here < length slots.old }
-    requires kept { HaveMessages (length moved.now) (list_at slots.old here) }
+    requires kept { HaveMessages (length moved.now) (nth_or_nil slots.old here) }
     requires few { All (λ place. place < 65535) moved.now }
-    ensures value { list_at slots.new here ≡ map (moved_ticket moved.now) (list_at slots.old here) }
+    ensures value { nth_or_nil slots.new here ≡ map (moved_ticket moved.now) (nth_or_nil slots.old here) }
     ensures others { IsWritten here slots.old slots.new }
 {
     let mut place = 0;

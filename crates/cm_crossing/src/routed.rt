@@ -6,8 +6,8 @@ ghost use Rattle.std.specs.Prelude.{slice_index_or};
 ghost use Rattle.std.specs.List.{All};
 ghost use Rattle.std.specs.Option.{option_to_list};
 ghost use Rattle.cm_model.specs.declared.rule.Rule.TheVariants.{Oldest};
-ghost use Rattle.cm_model.specs.Each.{each_from};
-ghost use Rattle.cm_model.specs.Array.{each_chip, list_at};
+ghost use Rattle.cm_model.specs.Each.{tabulate};
+ghost use Rattle.cm_model.specs.Array.{each_chip, nth_or_nil};
 ghost use Rattle.cm_model.specs.Wiring.{way_of};
 ghost use Rattle.cm_router.specs.Routes.{routing_of};
 ghost use Rattle.cm_crossing.specs.Standing.{HaveMessages, HasMessage, IsWritten, AreByAge};
@@ -44,7 +44,7 @@ pub(crate) fn cross(
     requires within { All (λ ts. length ts ≤ sizes.room) slots.old }
     ensures value { slots.new ≡ each_chip span (λ c. tickets_crossed row.now
         (way_of (routing_of routing.now) (first + c) dim) sizes.room dim
-        (list_at slots.old c) (list_at slots.old (bit_xor c (2 ^ dim)))) }
+        (nth_or_nil slots.old c) (nth_or_nil slots.old (bit_xor c (2 ^ dim)))) }
 {
     if routing.is_plain_over(dim) {
         slots.cross(span, sizes, dim);
@@ -80,10 +80,10 @@ pub(crate) fn leave(
     requires band { first + length slots.old ≤ 2 ^ sizes.dims }
     requires kept { All (HaveMessages (length row.now)) slots.old }
     requires within { All (λ ts. length ts ≤ sizes.room) slots.old }
-    ensures value { slots.new ≡ each_from 0 (length slots.old) (λ c. tickets_staying row.now
-        (way_of (routing_of routing.now) (first + c) dim) sizes.room dim (list_at slots.old c)) }
-    ensures going { leavers.new ≡ each_from 0 (length slots.old) (λ c. ticket_leaving row.now
-        (way_of (routing_of routing.now) (first + c) dim) sizes.room dim (list_at slots.old c)) }
+    ensures value { slots.new ≡ tabulate 0 (length slots.old) (λ c. tickets_staying row.now
+        (way_of (routing_of routing.now) (first + c) dim) sizes.room dim (nth_or_nil slots.old c)) }
+    ensures going { leavers.new ≡ tabulate 0 (length slots.old) (λ c. ticket_leaving row.now
+        (way_of (routing_of routing.now) (first + c) dim) sizes.room dim (nth_or_nil slots.old c)) }
 {
     if routing.is_plain_over(dim) {
         slots.leave(sizes, dim, leavers);
@@ -114,7 +114,7 @@ fn cross_by_chip(
     requires within { All (λ ts. length ts ≤ sizes.room) slots.old }
     ensures value { slots.new ≡ each_chip span (λ c. tickets_crossed row.now
         (way_of (routing_of routing.now) (first + c) dim) sizes.room dim
-        (list_at slots.old c) (list_at slots.old (bit_xor c (2 ^ dim)))) }
+        (nth_or_nil slots.old c) (nth_or_nil slots.old (bit_xor c (2 ^ dim)))) }
 {
     leave_by_chip(row, slots, sizes, routing, first, dim, leavers);
     take_in_by_chip(slots, leavers, dim);
@@ -134,10 +134,10 @@ fn leave_by_chip(
     requires rows { length leavers.old ≡ length slots.old }
     requires band { first + length slots.old ≤ 2 ^ sizes.dims }
     requires kept { All (HaveMessages (length row.now)) slots.old }
-    ensures value { slots.new ≡ each_from 0 (length slots.old) (λ c. tickets_staying row.now
-        (way_of (routing_of routing.now) (first + c) dim) sizes.room dim (list_at slots.old c)) }
-    ensures going { leavers.new ≡ each_from 0 (length slots.old) (λ c. ticket_leaving row.now
-        (way_of (routing_of routing.now) (first + c) dim) sizes.room dim (list_at slots.old c)) }
+    ensures value { slots.new ≡ tabulate 0 (length slots.old) (λ c. tickets_staying row.now
+        (way_of (routing_of routing.now) (first + c) dim) sizes.room dim (nth_or_nil slots.old c)) }
+    ensures going { leavers.new ≡ tabulate 0 (length slots.old) (λ c. ticket_leaving row.now
+        (way_of (routing_of routing.now) (first + c) dim) sizes.room dim (nth_or_nil slots.old c)) }
 {
     for chip in 0..slots.chips() {
         let cut = routing.cuts.has(first + chip as u16, dim);
@@ -152,8 +152,8 @@ fn take_in_by_chip(slots: &mut Slots, leavers: &[Option<Ticket>], dim: u8)
     requires across { (c : ℕ) → c < length slots.old → bit_xor c (2 ^ dim) < length slots.old }
     requires numbers { All (HasMessage 65535) leavers.now }
     requires space { (c : ℕ) → c < length slots.old
-        → (slice_index_or leavers.now (bit_xor c (2 ^ dim)) None ≡ None) ⊎ (length (list_at slots.old c) < 15) }
-    ensures value { slots.new ≡ each_from 0 (length slots.old) (λ c. list_at slots.old c
+        → (slice_index_or leavers.now (bit_xor c (2 ^ dim)) None ≡ None) ⊎ (length (nth_or_nil slots.old c) < 15) }
+    ensures value { slots.new ≡ tabulate 0 (length slots.old) (λ c. nth_or_nil slots.old c
         ++ option_to_list (slice_index_or leavers.now (bit_xor c (2 ^ dim)) None)) }
 {
     for chip in 0..leavers.len() {
@@ -176,11 +176,11 @@ fn let_leave(
 ) -> Option<Ticket>
     requires chip { chip < length slots.old }
     requires dim { dim < 12 }
-    requires kept { HaveMessages (length row.now) (list_at slots.old chip) }
-    ensures value { list_at slots.new chip
-        ≡ tickets_staying row.now (record { cut = cut; rule = rule }) sizes.room dim (list_at slots.old chip) }
+    requires kept { HaveMessages (length row.now) (nth_or_nil slots.old chip) }
+    ensures value { nth_or_nil slots.new chip
+        ≡ tickets_staying row.now (record { cut = cut; rule = rule }) sizes.room dim (nth_or_nil slots.old chip) }
     ensures going { result
-        ≡ ticket_leaving row.now (record { cut = cut; rule = rule }) sizes.room dim (list_at slots.old chip) }
+        ≡ ticket_leaving row.now (record { cut = cut; rule = rule }) sizes.room dim (nth_or_nil slots.old chip) }
     ensures others { IsWritten chip slots.old slots.new }
 {
     if cut {

@@ -10,7 +10,7 @@ ghost use Rattle.cm_model.specs.Processor.{Processor};
 ghost use Rattle.cm_model.specs.Delivery.{HasDelivered, HasHandedOver};
 ghost use Rattle.cm_model.specs.Chip.{IsPlane};
 ghost use Rattle.cm_model.specs.Letters.{can_receive, chip_after_delivery, is_among, messages_sent};
-ghost use Rattle.cm_model.specs.Array.{Chips, chip_at, list_at};
+ghost use Rattle.cm_model.specs.Array.{Chips, chip_at, nth_or_nil};
 ghost use Rattle.cm_crossing.specs.Standing.{message_of_ticket, standing, all_standing, HaveMessages, AreTogether};
 ghost use Rattle.cm_model.specs.OneChip.{delivered_here, kept_here};
 ghost use Rattle.cm_crossing.specs.Standing.{HasMessage, IsWritten, AreLaidOut};
@@ -49,9 +49,9 @@ fn carry_over(row: &[Message], spare: &mut Vec<Message>, slots: &mut Slots, here
     requires here { here < length slots.old }
     requires few { vec_len spare.old + 15 ≤ 65535 }
     requires capacity { vec_len spare.old + 15 ≤ vec_capacity spare.old }
-    requires kept { HaveMessages (length row.now) (list_at slots.old here) }
-    ensures items { spare.new.items ≡ spare.old.items ++ standing row.now (list_at slots.old here) }
-    ensures value { AreLaidOut row.now spare.new.items (list_at slots.old here) (list_at slots.new here) }
+    requires kept { HaveMessages (length row.now) (nth_or_nil slots.old here) }
+    ensures items { spare.new.items ≡ spare.old.items ++ standing row.now (nth_or_nil slots.old here) }
+    ensures value { AreLaidOut row.now spare.new.items (nth_or_nil slots.old here) (nth_or_nil slots.new here) }
     ensures others { IsWritten here slots.old slots.new }
     ensures len { vec_len spare.new ≤ vec_len spare.old + 15 }
     ensures capacity { vec_capacity spare.old ≤ vec_capacity spare.new }
@@ -75,8 +75,8 @@ fn carry_over(row: &[Message], spare: &mut Vec<Message>, slots: &mut Slots, here
 /// The messages of a chip as they stand side by side.
 pub(crate) fn read_out<'a>(row: &'a [Message], slots: &Slots, here: usize) -> &'a [Message]
     requires here { here < length slots.now }
-    requires together { AreTogether row.now (list_at slots.now here) }
-    ensures value { result.now ≡ standing row.now (list_at slots.now here) }
+    requires together { AreTogether row.now (nth_or_nil slots.now here) }
+    ensures value { result.now ≡ standing row.now (nth_or_nil slots.now here) }
 {
     let Some(first) = slots.ticket(here, 0) else {
         return &[];
@@ -101,15 +101,15 @@ pub(crate) fn store_injected(
     requires at { at < length slots.old }
     requires few { vec_len row.old + length senders ≤ 65535 }
     requires capacity { vec_len row.old + length senders ≤ vec_capacity row.old }
-    requires kept { HaveMessages (length row.old.items) (list_at slots.old at) }
-    requires room { length (list_at slots.old at) + length senders ≤ 15 }
+    requires kept { HaveMessages (length row.old.items) (nth_or_nil slots.old at) }
+    requires room { length (nth_or_nil slots.old at) + length senders ≤ 15 }
     requires dims { dims ≤ 12 }
     requires log_room { length senders ≤ log_room log.old }
     ensures taken { IsPlane result (λ p. is_among p senders) }
     ensures items { row.new.items ≡ row.old.items ++ messages_sent dims clock here chip.now senders }
-    ensures value { standing row.new.items (list_at slots.new at)
-        ≡ standing row.old.items (list_at slots.old at) ++ messages_sent dims clock here chip.now senders }
-    ensures kept { HaveMessages (length row.new.items) (list_at slots.new at) }
+    ensures value { standing row.new.items (nth_or_nil slots.new at)
+        ≡ standing row.old.items (nth_or_nil slots.old at) ++ messages_sent dims clock here chip.now senders }
+    ensures kept { HaveMessages (length row.new.items) (nth_or_nil slots.new at) }
     ensures others { IsWritten at slots.old slots.new }
     ensures log { log.new.items ≡ log.old.items ++ map event.Injected (messages_sent dims clock here chip.now senders) }
     ensures log_len { vec_len log.new ≡ vec_len log.old + length senders }
@@ -132,14 +132,14 @@ pub(crate) fn stand(row: &mut Vec<Message>, slots: &mut Slots, here: usize, mess
     requires here { here < length slots.old }
     requires few { vec_len row.old < 65535 }
     requires capacity { vec_len row.old < vec_capacity row.old }
-    requires kept { HaveMessages (length row.old.items) (list_at slots.old here) }
-    requires room { length (list_at slots.old here) < 15 }
+    requires kept { HaveMessages (length row.old.items) (nth_or_nil slots.old here) }
+    requires room { length (nth_or_nil slots.old here) < 15 }
     ensures items { row.new.items ≡ row.old.items ++ message.now ∷ [] }
-    ensures value { standing row.new.items (list_at slots.new here)
-        ≡ standing row.old.items (list_at slots.old here) ++ message.now ∷ [] }
-    ensures kept { HaveMessages (length row.new.items) (list_at slots.new here) }
+    ensures value { standing row.new.items (nth_or_nil slots.new here)
+        ≡ standing row.old.items (nth_or_nil slots.old here) ++ message.now ∷ [] }
+    ensures kept { HaveMessages (length row.new.items) (nth_or_nil slots.new here) }
     ensures others { IsWritten here slots.old slots.new }
-    ensures long { length (list_at slots.new here) ≡ length (list_at slots.old here) + 1 }
+    ensures long { length (nth_or_nil slots.new here) ≡ length (nth_or_nil slots.old here) + 1 }
     ensures len { vec_len row.new ≡ vec_len row.old + 1 }
     ensures capacity { vec_capacity row.old ≤ vec_capacity row.new }
 {
@@ -193,23 +193,24 @@ pub(crate) fn deliver_at(
     log: &mut Vec<Event>,
 )
     requires stands { chip < length slots.old }
-    requires kept { HaveMessages (length row.now) (list_at slots.old chip) }
+    requires kept { HaveMessages (length row.now) (nth_or_nil slots.old chip) }
     requires chip { chip < length run.now }
     requires before { AreBefore chip deliveries.old }
-    requires room { length deliveries.old + length (list_at slots.old chip) ≤ 128 }
-    requires log_room { length (list_at slots.old chip) ≤ log_room log.old }
-    ensures value { standing row.now (list_at slots.new chip)
-        ≡ kept_here (standing row.now (list_at slots.old chip)) (chip_at (run_after deliveries.old run.now) chip) }
-    ensures kept { HaveMessages (length row.now) (list_at slots.new chip) }
-    ensures fewer { length (list_at slots.new chip) ≤ length (list_at slots.old chip) }
+    requires room { length deliveries.old + length (nth_or_nil slots.old chip) ≤ 128 }
+    requires log_room { length (nth_or_nil slots.old chip) ≤ log_room log.old }
+    ensures value { standing row.now (nth_or_nil slots.new chip)
+        ≡ kept_here (standing row.now (nth_or_nil slots.old chip)) (chip_at (run_after deliveries.old run.now) chip) }
+    ensures kept { HaveMessages (length row.now) (nth_or_nil slots.new chip) }
+    ensures fewer { length (nth_or_nil slots.new chip) ≤ length (nth_or_nil slots.old chip) }
     ensures others { IsWritten chip slots.old slots.new }
     ensures chip { run_after deliveries.new run.now ≡ slice_set (run_after deliveries.old run.now) chip
-        (chip_after_delivery (delivered_here (standing row.now (list_at slots.old chip))
+        (chip_after_delivery (delivered_here (standing row.now (nth_or_nil slots.old chip))
         (chip_at (run_after deliveries.old run.now) chip)) (chip_at (run_after deliveries.old run.now) chip)) }
     ensures before { AreBefore (chip + 1) deliveries.new }
     ensures log { log.new.items ≡ log.old.items ++ map (λ m. event.Delivered here m)
-        (delivered_here (standing row.now (list_at slots.old chip)) (chip_at (run_after deliveries.old run.now) chip)) }
-    ensures len { vec_len log.new ≤ vec_len log.old + length (list_at slots.old chip) }
+        (delivered_here (standing row.now (nth_or_nil slots.old chip))
+        (chip_at (run_after deliveries.old run.now) chip)) }
+    ensures len { vec_len log.new ≤ vec_len log.old + length (nth_or_nil slots.old chip) }
     ensures capacity { vec_capacity log.old ≤ vec_capacity log.new }
 {
     let mut receivers = deliveries.receivers(run, chip);
@@ -229,13 +230,13 @@ pub(crate) fn deliver_at(
 /// many as stand there, if there is none. Nothing is written meanwhile, so that where its slots lie is found once.
 fn next_given(row: &[Message], slots: &Slots, here: usize, from: usize, receivers: Plane) -> usize
     requires stands { here < length slots.now }
-    requires kept { HaveMessages (length row.now) (list_at slots.now here) }
-    requires from { from ≤ length (list_at slots.now here) }
-    ensures passed { (j : ℕ) (t : Ticket) → from ≤ j → j < result → Some t ≡ slice_get (list_at slots.now here) j
+    requires kept { HaveMessages (length row.now) (nth_or_nil slots.now here) }
+    requires from { from ≤ length (nth_or_nil slots.now here) }
+    ensures passed { (j : ℕ) (t : Ticket) → from ≤ j → j < result → Some t ≡ slice_get (nth_or_nil slots.now here) j
         → (before chip : List Processor) → IsPlane receivers (can_receive chip) → (seen : List Message)
         → HasDelivered before seen chip → HasHandedOver false before seen (message_of_ticket row.now t) chip }
     ensures from { from ≤ result }
-    ensures within { result ≤ length (list_at slots.now here) }
+    ensures within { result ≤ length (nth_or_nil slots.now here) }
 {
     let mut place = from;
     while let Some(ticket) = slots.ticket(here, place) {

@@ -11,7 +11,7 @@ use Rattle.cm_model.specs.declared.message.Event.TheVariants.{Injected, Delivere
 use Rattle.cm_model.specs.declared.found.Found.{Found}
 use Rattle.cm_model.specs.declared.found.Found.TheVariants as found
 use Rattle.cm_model.specs.Account.{Triple, standing_triple, delivered_triple, account_at, account}
-use Rattle.cm_model.specs.Array.{list_at}
+use Rattle.cm_model.specs.Array.{nth_or_nil}
 use Rattle.cm_model.specs.Found.{same_tag, delivery_place, found_in, IsWhereabouts, StandsAt, WasDelivered}
 use Rattle.cm_model.specs.Keeping.{BornBefore}
 use Rattle.cm_model.specs.Machine.{Machine}
@@ -63,15 +63,15 @@ born_events clock (Delivered c m ∷ events) all =
     (born_events clock events (All-tail (IsBornLine clock) line (filter_map delivered_triple events) all))
 
 born_in_log : (n : ℕ) (machine : Machine) (c : ℕ) → BornBefore n machine → c < 2 ^ n
-    → All (IsOfBorn machine.clock) (list_at machine.logs c)
+    → All (IsOfBorn machine.clock) (nth_or_nil machine.logs c)
 unfolding account
 born_in_log n machine c born inside =
     let lines : All (IsBornLine machine.clock) (account_at machine (0 + c)) =
     each_part (IsBornLine machine.clock) (account_at machine) 0 (2 ^ n) c born inside in
     let same : 0 + c ≡ c = omega arith in
-    born_events machine.clock (list_at machine.logs c)
-    (second_part (IsBornLine machine.clock) (map (standing_triple c) (list_at machine.buffers c))
-    (filter_map delivered_triple (list_at machine.logs c))
+    born_events machine.clock (nth_or_nil machine.logs c)
+    (second_part (IsBornLine machine.clock) (map (standing_triple c) (nth_or_nil machine.buffers c))
+    (filter_map delivered_triple (nth_or_nil machine.logs c))
     (subst (λ (b : ℕ). All (IsBornLine machine.clock) (account_at machine b)) same lines))
 
 delivered_born : (clock : ℕ) (tag : Tag) (event : Event) (place : Place) → IsOfBorn clock event

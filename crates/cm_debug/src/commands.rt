@@ -4,7 +4,7 @@ ghost use Rattle.std.specs.Prelude.{◌≡◌, ◌≢◌, ◌<◌, ◌^◌, ◌+
 ghost use Rattle.std.specs.Prelude.{IsErrOf, IsFalse, IsTrue, OnErr, OnOk};
 ghost use Rattle.cm_bits.specs.Bit.{bit_number};
 ghost use Rattle.cm_model.specs.Processor.{ZERO, flag, field_value};
-ghost use Rattle.cm_model.specs.Array.{list_at, processor_of, wire};
+ghost use Rattle.cm_model.specs.Array.{nth_or_nil, processor_of, wire};
 ghost use Rattle.cm_model.specs.Found.{found_in};
 ghost use Rattle.cm_array.specs.Pokes.{machine_with_memory_bit, machine_with_flag};
 ghost use Rattle.cm_session.specs.Answer.{line, buffer_lines, log_lines, found_line, refused_line};
@@ -185,7 +185,7 @@ fn push_events<const N: usize, const CAP: usize>(
 ) -> Result<(), AllocError>
     requires chip { chip < 2 ^ N }
     ensures ok { OnOk result (text.new.items
-        ≡ text.old.items ++ log_lines (list_at machine.old.machine.logs chip)) }
+        ≡ text.old.items ++ log_lines (nth_or_nil machine.old.machine.logs chip)) }
     ensures machine { machine.new.machine ≡ machine.old.machine }
 {
     let _ = machine.deal_out();

@@ -9,8 +9,8 @@ use Rattle.cm_bits.specs.Bit.{bit}
 use Rattle.cm_model.specs.Processor.{memory_bit, flag}
 use Rattle.cm_model.specs.Chip.{blank_chip, processor_at}
 use Rattle.std.proofs.lemmas.Simd.{length-replicate}
-use Rattle.cm_model.specs.Each.{each_from}
-use Rattle.cm_model.proofs.Each.{get_or-each_below, length-each_from, same_each_below}
+use Rattle.cm_model.specs.Each.{tabulate}
+use Rattle.cm_model.proofs.Each.{get_or-each_below, length-tabulate, same_each_below}
 use Rattle.cm_rows.specs.Rows.{IsApart}
 use Rattle.cm_model.specs.Whole.{IsChip}
 use Rattle.cm_element.specs.Runs.{chip_column, chip_of_rows, chips_of, AreRows}
@@ -23,7 +23,7 @@ get_or-chip_column rows stride count c i h = get_or-each_below count (λ i. get_
 
 pub length-chip_column : (rows : List ℕ) (stride count c : ℕ) → length (chip_column rows stride count c) ≡ count
 unfolding chip_column
-length-chip_column rows stride count c = length-each_from 0 count (λ i. get_or rows (i * stride + c) 0)
+length-chip_column rows stride count c = length-tabulate 0 count (λ i. get_or rows (i * stride + c) 0)
 
 pub chip_at-chips_of : (memory flags : List ℕ) (stride chips c : ℕ) → c < chips
     → get_or (chips_of memory flags stride chips) c [] ≡ chip_of_rows memory flags stride c
@@ -32,7 +32,7 @@ chip_at-chips_of memory flags stride chips c h = get_or-each_below chips (chip_o
 
 pub length-chips_of : (memory flags : List ℕ) (stride chips : ℕ) → length (chips_of memory flags stride chips) ≡ chips
 unfolding chips_of
-length-chips_of memory flags stride chips = length-each_from 0 chips (chip_of_rows memory flags stride)
+length-chips_of memory flags stride chips = length-tabulate 0 chips (chip_of_rows memory flags stride)
 
 -- a row ends before the next one begins
 pub next_row : (i j stride : ℕ) → i < j → i * stride + stride ≤ j * stride
@@ -107,7 +107,7 @@ chip_column-zeros rows n stride count c is =
     ∙ get_or-zeros n (i * stride + c) ∙ sym (get_or-zeros count i))
 
 pub blank_rows : (memory flags : List ℕ) (n m stride chips : ℕ) → memory ≡ replicate n 0 → flags ≡ replicate m 0
-    → chips_of memory flags stride chips ≡ each_from 0 chips (λ c. blank_chip)
+    → chips_of memory flags stride chips ≡ tabulate 0 chips (λ c. blank_chip)
 unfolding chips_of
 blank_rows memory flags n m stride chips memory_is flags_is =
     same_each_below [] chips (chip_of_rows memory flags stride) (λ c. blank_chip)

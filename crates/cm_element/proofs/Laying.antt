@@ -3,10 +3,10 @@ use Rattle.std.proofs.Common.{◌≡◌, ◌⊎◌, inl, inr, ℕ, ◌+◌, ◌-
 use Rattle.std.proofs.Common.{ap, ◌∙◌, ⊎_elim, arith, length-take, length-drop}
 use Rattle.std.proofs.lemmas.Bool.{cases_lt}
 use Rattle.std.proofs.lemmas.List.{get_or-take, get_or-drop, get_or_past}
-use Rattle.cm_model.specs.Each.{each_from}
+use Rattle.cm_model.specs.Each.{tabulate}
 use Rattle.cm_model.specs.Array.{Chips, chip_at}
 use Rattle.cm_model.specs.Whole.{IsChip}
-use Rattle.cm_model.proofs.Each.{same_each_below, get_or-each_below, length-each_from}
+use Rattle.cm_model.proofs.Each.{same_each_below, get_or-each_below, length-tabulate}
 use Rattle.cm_element.specs.declared.run.lay.Band.{Band}
 use Rattle.cm_element.specs.Laid.{AreLaid, ArePutRows, AreLaidRows}
 use Rattle.cm_element.specs.Planes.{chip_of}
@@ -110,7 +110,7 @@ others_more here row count first old new part wide put before i k inside out = �
 -- the planes of a chip whose words were put into rows
 chip_column-put : (here : Band) (rows count c : ℕ) (word : ℕ → ℕ → ℕ) (old new : List ℕ)
     → ArePutRows here rows count word old new → c < count
-    → chip_column new here.stride rows (here.first + c) ≡ each_from 0 rows (λ i. word i c)
+    → chip_column new here.stride rows (here.first + c) ≡ tabulate 0 rows (λ i. word i c)
 unfolding chip_column
 chip_column-put here rows count c word old new put few =
     same_each_below 0 rows (λ i. get_or new (i * here.stride + (here.first + c)) 0) (λ i. word i c)
@@ -157,7 +157,7 @@ other_chip here count memory flags memory_new flags_new chips word flag_word is 
 pub chips_put : (here : Band) (count : ℕ) (memory flags memory_new flags_new : List ℕ) (chips : ℕ)
     (word flag_word : ℕ → ℕ → ℕ) (first : ℕ) (from : Chips)
     → AreWordsPut here count memory flags memory_new flags_new chips word flag_word
-    → ((c : ℕ) → c < count → chip_of (each_from 0 4096 (λ i. word i c)) (each_from 0 16 (λ i. flag_word i c))
+    → ((c : ℕ) → c < count → chip_of (tabulate 0 4096 (λ i. word i c)) (tabulate 0 16 (λ i. flag_word i c))
     ≡ chip_at from (first + c))
     → AreLaid here.first first count from (chips_of memory flags here.stride chips)
     (chips_of memory_new flags_new here.stride chips)
@@ -269,16 +269,16 @@ chips_turned here count memory flags memory_from flags_from memory_new flags_new
 
 pub length-chips_beside : (memory flags : List ℕ) (count : ℕ) → length (chips_beside memory flags count) ≡ count
 unfolding chips_beside
-length-chips_beside memory flags count = length-each_from 0 count (chip_beside memory flags)
+length-chips_beside memory flags count = length-tabulate 0 count (chip_beside memory flags)
 
 -- each is whole, if its flag ZERO is 0
 pub IsChip-chips_beside : (memory flags : List ℕ) (count c : ℕ) → c < count → get_or flags (c * 16 + 8) 0 ≡ 0
     → IsChip (chip_at (chips_beside memory flags count) c)
 IsChip-chips_beside memory flags count c h zero =
     rw (chip_at-chips_beside memory flags count c h)
-    (planes_are_whole (each_from 0 4096 (λ a. get_or memory (c * 4128 + a) 0))
-    (each_from 0 16 (λ f. get_or flags (c * 16 + f) 0)) (record {
-      memory_planes = length-each_from 0 4096 (λ a. get_or memory (c * 4128 + a) 0);
-      flag_planes = length-each_from 0 16 (λ f. get_or flags (c * 16 + f) 0);
+    (planes_are_whole (tabulate 0 4096 (λ a. get_or memory (c * 4128 + a) 0))
+    (tabulate 0 16 (λ f. get_or flags (c * 16 + f) 0)) (record {
+      memory_planes = length-tabulate 0 4096 (λ a. get_or memory (c * 4128 + a) 0);
+      flag_planes = length-tabulate 0 16 (λ f. get_or flags (c * 16 + f) 0);
       zero = get_or-each_below 16 (λ f. get_or flags (c * 16 + f) 0) 8 0 (omega arith) ∙ zero;
     }))

@@ -8,7 +8,7 @@ use Rattle.cm_model.specs.Processor.{ZERO, memory_bit, flag, blank_processor}
 use Rattle.cm_model.specs.Chip.{processor_at, no_processor, blank_chip}
 use Rattle.cm_model.specs.Whole.{IsChip}
 use Rattle.cm_model.proofs.Bits.{bit-zero}
-use Rattle.cm_model.proofs.Each.{get_or-each_below, length-each_from, same_each_below}
+use Rattle.cm_model.proofs.Each.{get_or-each_below, length-tabulate, same_each_below}
 use Rattle.cm_element.specs.Planes.{processor_in, chip_of}
 
 pub processor_at-chip_of : (memory flags : List ℕ) (p : ℕ) → p < 16
@@ -40,7 +40,7 @@ pub record ArePlanes (memory flags : List ℕ) : Type 0 where
 pub planes_are_whole : (memory flags : List ℕ) → ArePlanes memory flags → IsChip (chip_of memory flags)
 unfolding chip_of
 planes_are_whole memory flags planes = record {
-  count = length-each_from 0 16 (processor_in memory flags);
+  count = length-tabulate 0 16 (processor_in memory flags);
   each = λ p h. rw (processor_at-chip_of memory flags p h) (record {
     memory = length-map memory (λ plane. bit plane p) ∙ planes.memory_planes;
     flags = length-map flags (λ plane. bit plane p) ∙ planes.flag_planes;

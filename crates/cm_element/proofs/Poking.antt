@@ -6,11 +6,11 @@ use Rattle.std.proofs.lemmas.Bool.{cases_Bool, eqb-true, eqb-false}
 use Rattle.std.proofs.lemmas.Nat.{one_shl}
 use Rattle.std.proofs.lemmas.Nat.Bits.{bit_at-pow_same, bit_at-pow_other}
 use Rattle.cm_bits.specs.Bit.{bit}
-use Rattle.cm_model.specs.Each.{each_from}
+use Rattle.cm_model.specs.Each.{tabulate}
 use Rattle.cm_model.specs.Processor.{Processor}
 use Rattle.cm_model.specs.Chip.{IsPlane, with_memory_bit, with_flag, no_processor}
 use Rattle.cm_model.proofs.Bits.{bit-bit_and, bit-bit_or, bit-bit_not}
-use Rattle.cm_model.proofs.Each.{is_each, length-each_from, get_or-each_below}
+use Rattle.cm_model.proofs.Each.{is_each, length-tabulate, get_or-each_below}
 use Rattle.cm_element.specs.Planes.{processor_in, chip_of}
 use Rattle.cm_element.proofs.Planes.{processor_at-chip_of}
 use Rattle.cm_element.proofs.Storing.{row-set}
@@ -58,17 +58,17 @@ bit-cleared plane k p h below =
 
 -- another processor in place of one
 pub put_there : (old new : ℕ → Processor) (p : ℕ) (processor : Processor) → p < 16 → processor ≡ new p
-    → ((q : ℕ) → q < 16 → q ≢ p → old q ≡ new q) → each_from 0 16 new ≡ set (each_from 0 16 old) p processor
+    → ((q : ℕ) → q < 16 → q ≢ p → old q ≡ new q) → tabulate 0 16 new ≡ set (tabulate 0 16 old) p processor
 put_there old new p processor below here others =
-    let long : length (each_from 0 16 old) ≡ 16 = length-each_from 0 16 old in
-    let inside : p < length (each_from 0 16 old) = omega arith in
-    sym (is_each no_processor 16 new (set (each_from 0 16 old) p processor)
-    (length-set (each_from 0 16 old) p processor ∙ long)
+    let long : length (tabulate 0 16 old) ≡ 16 = length-tabulate 0 16 old in
+    let inside : p < length (tabulate 0 16 old) = omega arith in
+    sym (is_each no_processor 16 new (set (tabulate 0 16 old) p processor)
+    (length-set (tabulate 0 16 old) p processor ∙ long)
     (λ q h. ⊎_elim
     (λ (e : (q == p) ≡ true). let same : q ≡ p = eqb-true q p e in
-    rw same (get_or-set_same (each_from 0 16 old) p processor no_processor inside ∙ here))
+    rw same (get_or-set_same (tabulate 0 16 old) p processor no_processor inside ∙ here))
     (λ (e : (q == p) ≡ false). let other : q ≢ p = eqb-false q p e in
-    get_or-set_other (each_from 0 16 old) p q processor no_processor other
+    get_or-set_other (tabulate 0 16 old) p q processor no_processor other
     ∙ get_or-each_below 16 old q no_processor h ∙ others q h other)
     (cases_Bool (q == p))))
 

@@ -7,7 +7,7 @@ use Rattle.std.proofs.lemmas.Bool.{cases_lt}
 use Rattle.std.proofs.lemmas.Nat.{mul-le, div-mul-add, mod-mul-add, div-add-mod'}
 use Rattle.std.proofs.lemmas.List.{get_or_past, set-get_or}
 use Rattle.std.proofs.lemmas.Simd.{length-replicate}
-use Rattle.cm_model.proofs.Each.{get_or-each_below, length-each_from, same_each_below}
+use Rattle.cm_model.proofs.Each.{get_or-each_below, length-tabulate, same_each_below}
 use Rattle.cm_element.specs.Sparse.{spread, in_use, AreMemorySlots}
 use Rattle.cm_element.proofs.Columns.{next_row, row_within, get_or-zeros}
 
@@ -16,7 +16,7 @@ use Rattle.cm_element.proofs.Columns.{next_row, row_within, get_or-zeros}
 pub length-spread : (words slots : List ℕ) (stride : ℕ) → length (spread words slots stride) ≡ 4096 * stride
 unfolding spread
 length-spread words slots stride =
-    length-each_from 0 (4096 * stride) (λ k. get_or words (get_or slots (k / stride) 0 * stride + k % stride) 0)
+    length-tabulate 0 (4096 * stride) (λ k. get_or words (get_or slots (k / stride) 0 * stride + k % stride) 0)
 
 pub get_or-spread : (words slots : List ℕ) (stride i c : ℕ) → i < 4096 → c < stride
     → get_or (spread words slots stride) (i * stride + c) 0 ≡ get_or words (get_or slots i 0 * stride + c) 0

@@ -9,7 +9,7 @@ use Rattle.cm_model.specs.Processor.{memory_bit, flag, entry}
 use Rattle.cm_model.specs.Instruction.{holds, memory_output, flag_output, flags_after, takes_incoming, processor_after}
 use Rattle.cm_model.specs.Chip.{chip_after, processor_at, no_processor}
 use Rattle.cm_model.proofs.Bits.{bit-zero}
-use Rattle.cm_model.specs.Each.{each_from}
+use Rattle.cm_model.specs.Each.{tabulate}
 use Rattle.cm_model.specs.Array.{Chips, chip_at}
 use Rattle.cm_model.proofs.Each.{same_each_below}
 use Rattle.cm_model.proofs.Incoming.{same_chip}
@@ -221,7 +221,7 @@ pub rows_stepped : (nano : Nano) (memory flags memory_new flags_new : List ℕ) 
     → ((c : ℕ) → c < chips → chip_of_rows memory_new flags_new stride c
     ≡ chip_after nano (incoming c) (chip_of_rows memory flags stride c))
     → chips_of memory_new flags_new stride chips
-    ≡ each_from 0 chips (λ c. chip_after nano (incoming c) (get_or (chips_of memory flags stride chips) c []))
+    ≡ tabulate 0 chips (λ c. chip_after nano (incoming c) (get_or (chips_of memory flags stride chips) c []))
 unfolding chips_of
 rows_stepped nano memory flags memory_new flags_new stride chips incoming each =
     same_each_below [] chips (chip_of_rows memory_new flags_new stride)
@@ -233,7 +233,7 @@ pub rows_stepped_along : (nano : Nano) (memory flags memory_new flags_new : List
     → ((c : ℕ) → c < chips → chip_of_rows memory_new flags_new stride c
     ≡ chip_after nano (along_chain nano (chip_of_rows memory flags stride c)) (chip_of_rows memory flags stride c))
     → chips_of memory_new flags_new stride chips
-    ≡ each_from 0 chips (λ c. chip_after nano (along_chain nano (get_or (chips_of memory flags stride chips) c []))
+    ≡ tabulate 0 chips (λ c. chip_after nano (along_chain nano (get_or (chips_of memory flags stride chips) c []))
     (get_or (chips_of memory flags stride chips) c []))
 rows_stepped_along nano memory flags memory_new flags_new stride chips each =
     rows_stepped nano memory flags memory_new flags_new stride chips
@@ -243,8 +243,8 @@ rows_stepped_along nano memory flags memory_new flags_new stride chips each =
 
 -- what comes in counts for nothing where it is not taken
 pub whatever_comes_in : (nano : Nano) (chips : Chips) (incoming : ℕ → ℕ → Bool) → takes_incoming nano ≡ false
-    → each_from 0 (length chips) (λ c. chip_after nano (along_chain nano (chip_at chips c)) (chip_at chips c))
-    ≡ each_from 0 (length chips) (λ c. chip_after nano (incoming c) (chip_at chips c))
+    → tabulate 0 (length chips) (λ c. chip_after nano (along_chain nano (chip_at chips c)) (chip_at chips c))
+    ≡ tabulate 0 (length chips) (λ c. chip_after nano (incoming c) (chip_at chips c))
 whatever_comes_in nano chips incoming alone =
     same_each_below [] (length chips) (λ c. chip_after nano (along_chain nano (chip_at chips c)) (chip_at chips c))
     (λ c. chip_after nano (incoming c) (chip_at chips c))

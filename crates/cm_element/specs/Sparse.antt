@@ -1,10 +1,10 @@
 -- Rows by address of which only those in use are kept: ours.
 use Rattle.std.specs.Prelude.{◌≡◌, ◌≢◌, ℕ, ◌+◌, ◌*◌, ◌/◌, ◌%◌, ◌<◌, ◌≤◌, ◌^◌, List, [], ◌∷◌, zero, suc, length, slice_index}
-use Rattle.cm_model.specs.Each.{each_from}
+use Rattle.cm_model.specs.Each.{tabulate}
 
 -- all rows one after another: that of an address is the one in its slot, in each so many words
 unfoldable pub spread : List ℕ → List ℕ → ℕ → List ℕ
-spread words slots stride = each_from 0 (4096 * stride)
+spread words slots stride = tabulate 0 (4096 * stride)
     (λ k. slice_index words (slice_index slots (k / stride) * stride + k % stride))
 
 -- how many slots are other than 0

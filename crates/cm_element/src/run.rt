@@ -2,7 +2,7 @@
 
 ghost use Rattle.std.specs.Prelude.{◌≡◌, ◌≢◌, ℕ, ◌<◌, ◌≤◌, Bool, false, true, length, slice_index, IfOk};
 ghost use Rattle.cm_bits.specs.Bit.{bit};
-ghost use Rattle.cm_model.specs.Each.{each_from};
+ghost use Rattle.cm_model.specs.Each.{tabulate};
 ghost use Rattle.cm_model.specs.Processor.{NEWS, memory_bit, flag};
 ghost use Rattle.cm_model.specs.Instruction.{takes_incoming};
 ghost use Rattle.cm_model.specs.Chip.{IsPlane, processor_at, blank_chip, chip_after};
@@ -66,7 +66,7 @@ impl Model for Run {
 impl Run {
     /// So many chips with all bits and flags 0. Memory is taken three times, however many chips there are.
     pub fn blank(alloc: Global, chips: u16) -> Result<Run, NoMemory>
-        ensures value { IfOk result (λ run. run ≡ each_from 0 chips (λ c. blank_chip)) }
+        ensures value { IfOk result (λ run. run ≡ tabulate 0 chips (λ c. blank_chip)) }
     {
         let chips = usize::from(chips);
         let stride = stride_of(chips);
@@ -153,10 +153,10 @@ impl Run {
     /// along the chain of each chip; nothing else comes in.
     pub fn step(&mut self, nano: &Nano)
         requires apart { nano.now.write ≢ NEWS }
-        ensures value { self.new ≡ each_from 0 (length self.old)
+        ensures value { self.new ≡ tabulate 0 (length self.old)
             (λ c. chip_after nano.now (along_chain nano.now (chip_at self.old c)) (chip_at self.old c)) }
         ensures alone { takes_incoming nano.now ≡ false → (incoming : ℕ → ℕ → Bool)
-            → self.new ≡ each_from 0 (length self.old) (λ c. chip_after nano.now (incoming c) (chip_at self.old c)) }
+            → self.new ≡ tabulate 0 (length self.old) (λ c. chip_after nano.now (incoming c) (chip_at self.old c)) }
     {
         step_rows(
             &mut self.memory,
@@ -189,7 +189,7 @@ impl Run {
     pub fn take(&mut self, nano: &Nano, incoming: &mut [Plane])
         requires taken { takes_incoming nano.now ≡ true }
         requires incoming { length incoming.old ≡ length self.old }
-        ensures value { self.new ≡ each_from 0 (length self.old)
+        ensures value { self.new ≡ tabulate 0 (length self.old)
             (λ c. chip_after nano.now (bit (slice_index incoming.old c)) (chip_at self.old c)) }
     {
         take_rows(

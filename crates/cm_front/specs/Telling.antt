@@ -1,6 +1,6 @@
 -- What a front end tells of all processors and of the whole machine, in lines. Ours.
 use Rattle.std.specs.Prelude.{ℕ, ◌+◌, ◌/◌, ◌%◌, ◌^◌, ◌==◌, ◌||◌, if◌then◌else◌, List, [], ◌∷◌, ◌++◌, length, sum, codes, decimal}
-use Rattle.cm_model.specs.Each.{each_from}
+use Rattle.cm_model.specs.Each.{tabulate}
 use Rattle.cm_model.specs.Machine.{Machine}
 use Rattle.cm_language.specs.Listing.{hex_digit}
 use Rattle.cm_session.specs.Answer.{line}
@@ -13,11 +13,11 @@ numbers_lines count width numbers = line (codes "numbers" ∷ decimal count ∷ 
 
 -- how many messages stand in all routers
 abbrev pub standing_count : ℕ → Machine → ℕ
-standing_count n machine = sum (each_from 0 (2 ^ n) (standing_count_at machine))
+standing_count n machine = sum (tabulate 0 (2 ^ n) (standing_count_at machine))
 
 -- how many processors ask
 abbrev pub asking : ℕ → Machine → ℕ
-asking n machine = sum (each_from 0 (2 ^ n) (asking_at machine))
+asking n machine = sum (tabulate 0 (2 ^ n) (asking_at machine))
 
 -- both
 abbrev pub standing_counts_line : ℕ → Machine → List ℕ

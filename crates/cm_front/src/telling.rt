@@ -2,7 +2,7 @@
 
 ghost use Rattle.std.specs.Prelude.{◌≡◌, ◌≤◌, ◌<◌, ◌+◌, ◌/◌, ◌%◌, ◌^◌, ◌++◌, ◌∷◌, [], OnOk, length, sum};
 ghost use Rattle.cm_bits.specs.Bit.{bit, bit_number};
-ghost use Rattle.cm_model.specs.Each.{each_from};
+ghost use Rattle.cm_model.specs.Each.{tabulate};
 ghost use Rattle.cm_language.specs.Listing.{hex_digit};
 ghost use Rattle.cm_image_format.specs.Whole.{text_of};
 ghost use Rattle.cm_lab.specs.declared.order.Order.TheVariants.{Chips};
@@ -136,7 +136,7 @@ fn asking<const N: usize, const CAP: usize>(machine: &Machine<N, CAP>) -> u64
 
 /// How many bits of a plane are 1.
 fn ones(plane: Plane) -> u64
-    ensures value { result ≡ sum (each_from 0 16 (λ p. bit_number (bit plane p))) }
+    ensures value { result ≡ sum (tabulate 0 16 (λ p. bit_number (bit plane p))) }
     ensures within { result ≤ 16 }
 {
     let mut total = 0;

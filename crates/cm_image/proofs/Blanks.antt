@@ -5,10 +5,10 @@ use Rattle.std.specs.Int.{w8, w16}
 use Rattle.std.specs.List.{flat_map}
 use Rattle.std.proofs.lemmas.List.{get_or-replicate, replicate-append-replicate}
 use Rattle.cm_model.specs.declared.message.Message.{Message}
-use Rattle.cm_model.specs.Each.{each_from}
+use Rattle.cm_model.specs.Each.{tabulate}
 use Rattle.cm_model.specs.Processor.{Processor, memory_bit, flag, blank_processor}
 use Rattle.cm_model.specs.Chip.{no_processor, processor_at, blank_chip}
-use Rattle.cm_model.specs.Array.{chip_at, list_at}
+use Rattle.cm_model.specs.Array.{chip_at, nth_or_nil}
 use Rattle.cm_model.specs.Machine.{blank_machine}
 use Rattle.cm_model.proofs.Bits.{bit-zero}
 use Rattle.cm_model.proofs.Each.{get_or-each_below, same_each_below}
@@ -46,7 +46,7 @@ no_flag_plane f l =
 
 -- none of its planes is listed
 none_listed : (k : ℕ) → k ≤ 4096 → planes_below blank_chip k ≡ []
-unfolding planes_below each_from
+unfolding planes_below tabulate
 none_listed zero l = refl
 none_listed (suc k) l =
     let next : suc k ≡ k + 1 = omega arith in
@@ -60,7 +60,7 @@ none_listed (suc k) l =
     } ∷ []) [])))
 
 zero_flags : flags_text blank_chip 16 ≡ replicate 32 0
-unfolding flags_text each_from number_bytes
+unfolding flags_text tabulate number_bytes
 zero_flags =
     ap (flat_map (number_bytes w16)) (same_each_below 0 16 (flag_plane_of blank_chip) (λ f. 0) no_flag_plane)
 
@@ -74,8 +74,8 @@ blank_chip_text =
 
 -- ---- all chips
 
-all_zeros : (a k : ℕ) → flat_map chip_text (each_from a k (λ c. image_of_chip blank_chip [])) ≡ replicate (k * 35) 0
-unfolding each_from
+all_zeros : (a k : ℕ) → flat_map chip_text (tabulate a k (λ c. image_of_chip blank_chip [])) ≡ replicate (k * 35) 0
+unfolding tabulate
 all_zeros a zero = refl
 all_zeros a (suc k) =
     let more : 35 + k * 35 ≡ suc k * 35 = omega arith in
@@ -90,7 +90,7 @@ unfolding blank_machine
 blank_chips_text n =
     ap (flat_map chip_text)
     (same_each_below no_chip (2 ^ n)
-    (λ c. image_of_chip (chip_at (blank_machine n).chips c) (list_at (blank_machine n).buffers c))
+    (λ c. image_of_chip (chip_at (blank_machine n).chips c) (nth_or_nil (blank_machine n).buffers c))
     (λ c. image_of_chip blank_chip [])
     (λ c h. λ i. image_of_chip (get_or-each_below (2 ^ n) (λ b. blank_chip) c [] h i)
     (get_or-each_below {X = List Message} (2 ^ n) (λ b. []) c [] h i)))

@@ -10,10 +10,10 @@ use Rattle.cm_model.specs.declared.message.Message.{Message}
 use Rattle.cm_model.specs.declared.message.Event.{Event}
 use Rattle.cm_model.specs.Processor.{Processor, blank_processor}
 use Rattle.cm_model.specs.Chip.{each_processor, processor_at, no_processor, blank_chip}
-use Rattle.cm_model.specs.Array.{chip_at, list_at, each_chip}
+use Rattle.cm_model.specs.Array.{chip_at, nth_or_nil, each_chip}
 use Rattle.cm_model.specs.Wiring.{Routing}
 use Rattle.cm_model.specs.Machine.{Machine, blank_machine}
-use Rattle.cm_model.proofs.Each.{length-each_from, get_or-each_below, same_each_below, is_each}
+use Rattle.cm_model.proofs.Each.{length-tabulate, get_or-each_below, same_each_below, is_each}
 use Rattle.cm_model.proofs.Bits.{bit-zero}
 use Rattle.cm_element.specs.Wide.{with_memory_plane, with_flag_plane}
 use Rattle.cm_element.specs.Planes.{processor_in, chip_of}
@@ -185,14 +185,14 @@ flags_none n c m flags h blank =
     ap (λ (chips : List (List Processor)). record m { chips = chips }) same
 
 pub messages_all : (c : ℕ) (m : Machine) (ms : List Message) → c < length m.buffers
-    → fold (with_message c) m ms ≡ record m { buffers = set m.buffers c (list_at m.buffers c ++ ms) }
+    → fold (with_message c) m ms ≡ record m { buffers = set m.buffers c (nth_or_nil m.buffers c ++ ms) }
 messages_all c m [] h =
     ap (λ (buffers : List (List Message)). record m { buffers = buffers })
-    (sym (ap (λ (b : List Message). set m.buffers c b) (append-nil (list_at m.buffers c)) ∙ set-get_or m.buffers c []))
+    (sym (ap (λ (b : List Message). set m.buffers c b) (append-nil (nth_or_nil m.buffers c)) ∙ set-get_or m.buffers c []))
 messages_all c m (x ∷ xs) h =
-    let buffer : List Message = list_at m.buffers c in
+    let buffer : List Message = nth_or_nil m.buffers c in
     let pushed : List Message = buffer ++ x ∷ [] in
-    let same : set (set m.buffers c pushed) c (list_at (set m.buffers c pushed) c ++ xs)
+    let same : set (set m.buffers c pushed) c (nth_or_nil (set m.buffers c pushed) c ++ xs)
     ≡ set m.buffers c (buffer ++ x ∷ xs) =
     ap (λ (b : List Message). set (set m.buffers c pushed) c (b ++ xs)) (get_or-set_same m.buffers c pushed [] h)
     ∙ (set-set m.buffers c pushed (pushed ++ xs)
@@ -212,7 +212,7 @@ chip_built n c m image h blank =
     listed_all c m (replicate 4096 0) image.flags image.memory (omega (arith, h, blank.chip_count)) in
     let is : chip ≡ chip_from image =
     ap (λ (planes : List ℕ). chip_of planes image.flags) (sym (planes_of-put 4096 image.memory refl)) in
-    let buffer : list_at m.buffers c ++ image.messages ≡ image.messages =
+    let buffer : nth_or_nil m.buffers c ++ image.messages ≡ image.messages =
     ap (λ (b : List Message). b ++ image.messages) (blank.buffers c (omega arith) h) in
     ap (λ (z : Machine). fold (with_message c) z image.messages) with_planes
     ∙ (messages_all c (record m { chips = set m.chips c chip }) image.messages (omega (arith, h, blank.buffer_count))
@@ -235,8 +235,8 @@ blank_from-next n c m image blank = record {
 pub blank_from-blank_at : (n clock : ℕ) (routing : Routing) → IsBlankFrom n 0 (blank_at n clock routing)
 unfolding blank_machine
 blank_from-blank_at n clock routing = record {
-  chip_count = length-each_from 0 (2 ^ n) (λ c. blank_chip);
-  buffer_count = length-each_from 0 (2 ^ n) (λ c. []);
+  chip_count = length-tabulate 0 (2 ^ n) (λ c. blank_chip);
+  buffer_count = length-tabulate 0 (2 ^ n) (λ c. []);
   chips = λ d l h. get_or-each_below (2 ^ n) (λ c. blank_chip) d [] h;
   buffers = λ d l h. get_or-each_below (2 ^ n) (λ c. []) d [] h;
 }
@@ -303,9 +303,9 @@ pub machine_built : (n : ℕ) (image : Image) → length image.chips ≡ 2 ^ n
 unfolding blank_machine machine_of_image
 machine_built n image long =
     let chips : 0 + length image.chips ≡ length (blank_at n image.clock image.routing).chips =
-    omega (arith, long, length-each_from 0 (2 ^ n) (λ c. blank_chip)) in
+    omega (arith, long, length-tabulate 0 (2 ^ n) (λ c. blank_chip)) in
     let buffers : 0 + length image.chips ≡ length (blank_at n image.clock image.routing).buffers =
-    omega (arith, long, length-each_from {X = List Message} 0 (2 ^ n) (λ c. [])) in
+    omega (arith, long, length-tabulate {X = List Message} 0 (2 ^ n) (λ c. [])) in
     chips_all image.chips (blank_at n image.clock image.routing) 0 chips buffers
     ∙ (λ i. (
       record {

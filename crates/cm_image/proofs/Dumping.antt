@@ -9,9 +9,9 @@ use Rattle.std.proofs.lemmas.List.{append-nil, length-append, length_push, get_o
 use Rattle.std.proofs.lemmas.List.Concat.{flat_map-append}
 use Rattle.std.proofs.lemmas.List.FromFn.{map-range_with_len_more, filter_of_map_range_with_len_more}
 use Rattle.cm_model.specs.declared.message.Message.{Message}
-use Rattle.cm_model.specs.Each.{each_from}
+use Rattle.cm_model.specs.Each.{tabulate}
 use Rattle.cm_model.specs.Processor.{Processor}
-use Rattle.cm_model.specs.Array.{Chips, chip_at, list_at}
+use Rattle.cm_model.specs.Array.{Chips, chip_at, nth_or_nil}
 use Rattle.cm_model.specs.Machine.{Machine}
 use Rattle.cm_message.specs.Bytes.{number_bytes, message_text}
 use Rattle.cm_image_format.specs.Header.{MAGIC, Head, head_text}
@@ -22,17 +22,17 @@ use Rattle.cm_image.specs.Planes.{AreInUse, flags_text, planes_below, listed_bel
 
 -- ---- what is made of each number
 
-pub made_zero : {X : Type 0} (g : X → List ℕ) (f : ℕ → X) (text : List ℕ) → text ≡ text ++ flat_map g (each_from 0 0 f)
-unfolding each_from
+pub made_zero : {X : Type 0} (g : X → List ℕ) (f : ℕ → X) (text : List ℕ) → text ≡ text ++ flat_map g (tabulate 0 0 f)
+unfolding tabulate
 made_zero g f text = sym (append-nil text)
 
 pub made_more : {X : Type 0} (g : X → List ℕ) (f : ℕ → X) (first n j : ℕ) → first + n ≡ j
-    → flat_map g (each_from first (n + 1) f) ≡ flat_map g (each_from first n f) ++ g (f j)
-unfolding each_from
+    → flat_map g (tabulate first (n + 1) f) ≡ flat_map g (tabulate first n f) ++ g (f j)
+unfolding tabulate
 made_more g f first n j is =
     ap (flat_map g) (map-range_with_len_more f first n j is)
-    ∙ (flat_map-append g (each_from first n f) (f j ∷ [])
-    ∙ ap (λ xs. flat_map g (each_from first n f) ++ xs) (append-nil (g (f j))))
+    ∙ (flat_map-append g (tabulate first n f) (f j ∷ [])
+    ∙ ap (λ xs. flat_map g (tabulate first n f) ++ xs) (append-nil (g (f j))))
 
 -- one part more behind what there was
 pub grown : (text front part before after : List ℕ) → before ≡ text ++ front → after ≡ before ++ part
@@ -81,12 +81,12 @@ plane_entry chip address = record { at = address; plane = memory_plane_of chip a
 pub planes_more : (chip : List Processor) (n : ℕ)
     → planes_below chip (n + 1)
     ≡ planes_below chip n ++ cond (not (memory_plane_of chip n == 0)) (plane_entry chip n ∷ []) []
-unfolding planes_below each_from
+unfolding planes_below tabulate
 planes_more chip n = filter_of_map_range_with_len_more (λ (x : Listed). not (x.plane == 0)) (plane_entry chip) 0 n
     n (omega arith)
 
 pub planes_none : (chip : List Processor) → 0 ≡ length (planes_below chip 0)
-unfolding planes_below each_from
+unfolding planes_below tabulate
 planes_none chip = refl
 
 one_counted : (b : Bool) (e : Listed) → length (cond (not b) (e ∷ []) []) ≡ (if b then 0 else 1)
@@ -124,7 +124,7 @@ listed_step chip n =
 -- ---- addresses in use
 
 pub none_in_use : (count : ℕ) (chips : Chips) → AreInUse count chips 0 []
-unfolding listed_below planes_below each_from
+unfolding listed_below planes_below tabulate
 none_in_use count chips = record { few = omega arith; within = λ i h. absurd (omega (arith, h)); listed = λ c h. refl }
 
 -- an address at which all planes are 0
@@ -202,10 +202,10 @@ chip_written chip buffer text a b c d e count first second is third fourth fifth
 -- ---- all chips
 
 abbrev pub image_at : Machine → ℕ → ChipImage
-image_at machine c = image_of_chip (chip_at machine.chips c) (list_at machine.buffers c)
+image_at machine c = image_of_chip (chip_at machine.chips c) (nth_or_nil machine.buffers c)
 
 pub chips_none : (machine : Machine) (first : ℕ) (text : List ℕ) → text ≡ text ++ chips_text machine first 0
-unfolding each_from
+unfolding tabulate
 chips_none machine first text = sym (append-nil text)
 
 pub chips_more : (machine : Machine) (text before after : List ℕ) (first n c : ℕ) → first + n ≡ c

@@ -8,9 +8,9 @@ use Rattle.std.proofs.lemmas.List.{length-append}
 use Rattle.std.proofs.lemmas.List.FromFn.{length-map-range_with_len}
 use Rattle.cm_bits.specs.Wire.{Wire}
 use Rattle.cm_model.specs.declared.message.Message.{Message}
-use Rattle.cm_model.specs.Each.{each_from}
+use Rattle.cm_model.specs.Each.{tabulate}
 use Rattle.cm_model.specs.Processor.{Processor}
-use Rattle.cm_model.specs.Array.{chip_at, list_at}
+use Rattle.cm_model.specs.Array.{chip_at, nth_or_nil}
 use Rattle.cm_model.specs.Machine.{Machine}
 use Rattle.cm_message.specs.Bytes.{number_bytes, message_text}
 use Rattle.cm_image_format.specs.Header.{Head, head_text}
@@ -52,9 +52,9 @@ unfolding number_bytes
 one n = refl
 
 flags_thirty_two : (chip : List Processor) → length (flags_text chip 16) ≡ 32
-unfolding flags_text each_from
+unfolding flags_text tabulate
 flags_thirty_two chip =
-    length-flat_map_same (number_bytes w16) 2 (each_from 0 16 (flag_plane_of chip)) two
+    length-flat_map_same (number_bytes w16) 2 (tabulate 0 16 (flag_plane_of chip)) two
     ∙ ap (λ k. k * 2) (length-map-range_with_len (flag_plane_of chip) 0 16)
 
 listed_fours : (chip : List Processor) → length (listed_below chip 4096) ≡ length (planes_below chip 4096) * 4
@@ -89,9 +89,9 @@ length-chips_none machine = ap length (sym (chips_none machine 0 []))
 
 pub length-chips_more : (machine : Machine) (c : ℕ) → length (chips_text machine 0 (c + 1))
     ≡ length (chips_text machine 0 c)
-    + length (chip_text (image_of_chip (chip_at machine.chips c) (list_at machine.buffers c)))
+    + length (chip_text (image_of_chip (chip_at machine.chips c) (nth_or_nil machine.buffers c)))
 length-chips_more machine c =
-    let last : List ℕ = chip_text (image_of_chip (chip_at machine.chips c) (list_at machine.buffers c)) in
+    let last : List ℕ = chip_text (image_of_chip (chip_at machine.chips c) (nth_or_nil machine.buffers c)) in
     ap length (sym (chips_more machine [] (chips_text machine 0 c) (chips_text machine 0 c ++ last) 0 c c
     (omega arith) refl refl))
     ∙ length-append (chips_text machine 0 c) last

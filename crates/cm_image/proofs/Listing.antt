@@ -3,7 +3,7 @@ use Rattle.std.proofs.Common.{◌≡◌, ℕ, zero, suc, ◌+◌, ◌*◌, ◌<�
 use Rattle.std.proofs.Common.{take, set, length, get_or, append_assoc}
 use Rattle.std.proofs.lemmas.List.{length-set}
 use Rattle.std.proofs.lemmas.Grind.{take-set_at}
-use Rattle.cm_model.specs.Each.{each_from}
+use Rattle.cm_model.specs.Each.{tabulate}
 use Rattle.cm_model.specs.Processor.{Processor}
 use Rattle.cm_image_format.specs.Whole.{memory_plane_of}
 use Rattle.cm_image.specs.Planes.{listings, plane_listing, listed_below, planes_below}
@@ -43,7 +43,7 @@ listings_step planes n =
 -- where they are those of a chip, these are listed
 pub same_listings : (chip : List Processor) (planes : List ℕ) (n : ℕ)
     → ((a : ℕ) → a < n → get_or planes a 0 ≡ memory_plane_of chip a) → listings planes n ≡ listed_below chip n
-unfolding listings listed_below planes_below each_from
+unfolding listings listed_below planes_below tabulate
 same_listings chip planes zero same = refl
 same_listings chip planes (suc n) same =
     let one : suc n ≡ n + 1 = omega arith in

@@ -6,7 +6,7 @@ use Rattle.std.specs.List.{flat_map}
 use Rattle.std.proofs.lemmas.List.{nil_from_length, length_push}
 use Rattle.cm_model.specs.declared.message.Message.{Message}
 use Rattle.cm_model.specs.Processor.{Processor}
-use Rattle.cm_model.specs.Array.{Chips, list_at}
+use Rattle.cm_model.specs.Array.{Chips, nth_or_nil}
 use Rattle.cm_model.specs.Wiring.{Routing, plain_routing}
 use Rattle.cm_model.specs.Machine.{Machine, blank_machine}
 use Rattle.cm_model.specs.Unlogged.{standing_messages, has_tag_twice}
@@ -113,7 +113,7 @@ full_read n cap clock c m whole waiting more_wait bytes after more rest flags h 
     ap (λ (k : ℕ). set (with_near m.chips waiting first) k chip) (sym behind)
     ∙ sym (near_more m.chips waiting chip first within)
     ∙ ap (λ (k : ℕ). with_near m.chips (waiting ++ chip ∷ []) k) (sym next) in
-    let buffer : messages.0 ≡ list_at m.buffers c ++ messages.0 =
+    let buffer : messages.0 ≡ nth_or_nil m.buffers c ++ messages.0 =
     ap (λ (b : List Message). b ++ messages.0) (sym (blank.buffers c (omega arith) h)) in
     let built : with_chip_image c (with_waiting c m waiting) image ≡ with_waiting (c + 1) whole more_wait =
     (λ i. record m { chips = chips i; buffers = set m.buffers c (buffer i) })

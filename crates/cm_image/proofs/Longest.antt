@@ -5,9 +5,9 @@ use Rattle.std.specs.List.{range_with_len}
 use Rattle.std.proofs.lemmas.List.Filters.{length-filter_both}
 use Rattle.std.proofs.lemmas.List.FromFn.{length-map-range_with_len}
 use Rattle.cm_bits.specs.Wire.{Wire}
-use Rattle.cm_model.specs.Each.{each_from}
+use Rattle.cm_model.specs.Each.{tabulate}
 use Rattle.cm_model.specs.Processor.{Processor}
-use Rattle.cm_model.specs.Array.{chip_at, list_at}
+use Rattle.cm_model.specs.Array.{chip_at, nth_or_nil}
 use Rattle.cm_model.specs.Machine.{Machine}
 use Rattle.cm_model.specs.Wiring.{Routing}
 use Rattle.cm_model.specs.Laws.{CutsAreFew}
@@ -20,7 +20,7 @@ use Rattle.cm_image.proofs.Lengths.{length-chip_text, length-chips_none, length-
 use Rattle.cm_image.proofs.Lengths.{length-listed_cuts}
 
 few_planes : (chip : List Processor) (count : ℕ) → length (planes_below chip count) ≤ count
-unfolding planes_below each_from
+unfolding planes_below tabulate
 few_planes chip count =
     let entry : ℕ → Listed = λ address. record { at = address; plane = memory_plane_of chip address } in
     omega (
@@ -40,7 +40,7 @@ short_routing routing = short_choice (version_of routing == 1) routing.cuts
 -- chips of which none is longer
 short_chips : (machine : Machine) (n each : ℕ)
     → ((c : ℕ) → c < 2 ^ n
-    → length (chip_text (image_of_chip (chip_at machine.chips c) (list_at machine.buffers c))) ≤ each)
+    → length (chip_text (image_of_chip (chip_at machine.chips c) (nth_or_nil machine.buffers c))) ≤ each)
     → (k : ℕ) → k ≤ 2 ^ n → length (chips_text machine 0 k) ≤ k * each
 short_chips machine n each one zero h = omega (arith, length-chips_none machine)
 short_chips machine n each one (suc k) h =
@@ -58,10 +58,10 @@ pub texts_short : CutsAreFew → TextsAreShort
 texts_short few n cap machine has =
     let each : ℕ = 35 + 4096 * 4 + cap * 18 in
     let one : (c : ℕ) → c < 2 ^ n
-    → length (chip_text (image_of_chip (chip_at machine.chips c) (list_at machine.buffers c))) ≤ each =
+    → length (chip_text (image_of_chip (chip_at machine.chips c) (nth_or_nil machine.buffers c))) ≤ each =
     λ c h. omega (
       arith,
-      length-chip_text (chip_at machine.chips c) (list_at machine.buffers c),
+      length-chip_text (chip_at machine.chips c) (nth_or_nil machine.buffers c),
       few_planes (chip_at machine.chips c) 4096,
       has.whole.room c h,
     ) in

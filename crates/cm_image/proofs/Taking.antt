@@ -5,7 +5,7 @@ use Rattle.std.specs.Int.{w8, w16}
 use Rattle.std.proofs.lemmas.Bool.{le-leb, cases_eq}
 use Rattle.std.proofs.lemmas.List.{take_more_set, take_all, length-set, length_push, get_or-set_same, get_or-set_other}
 use Rattle.cm_model.specs.declared.message.Message.{Message}
-use Rattle.cm_model.specs.Array.{list_at}
+use Rattle.cm_model.specs.Array.{nth_or_nil}
 use Rattle.cm_model.specs.Machine.{Machine}
 use Rattle.cm_array.specs.Pokes.{machine_with_plane, machine_with_message}
 use Rattle.cm_image_format.specs.declared.fault.ImageFault.{ImageFault}
@@ -115,7 +115,7 @@ pub record IsStanding (n c clock count i : ℕ) (machine : Machine) (rest : List
   pub same : fill same_place (λ k. message_part n clock) (with_message c) (count - i) 0 machine rest
       ≡ fill same_place (λ k. message_part n clock) (with_message c) count 0 first bytes
   pub buffer_count : length machine.buffers ≡ 2 ^ n
-  pub standing : length (list_at machine.buffers c) ≡ i
+  pub standing : length (nth_or_nil machine.buffers c) ≡ i
   pub counter : machine.clock ≡ clock
 
 pub no_more : (cap count : ℕ) → count ≤ cap → must Count (λ k. nat_le k cap) count ≡ None
@@ -126,7 +126,7 @@ pub messages_on : (n c clock count i : ℕ) (m : Message) (machine after_one fir
     → message_part n clock rest ≡ Ok (m, after) → after_one ≡ machine_with_message machine c m
     → IsStanding n c clock count (i + 1) after_one after first bytes
 messages_on n c clock count i m machine after_one first rest after bytes below h standing is put =
-    let buffer : List Message = list_at machine.buffers c in
+    let buffer : List Message = nth_or_nil machine.buffers c in
     subst (λ (z : Machine). IsStanding n c clock count (i + 1) z after first bytes) (sym put) (record {
       same = sym (fill_on same_place (λ k. message_part n clock) (with_message c) count i 0 machine rest after m h is)
           ∙ standing.same;

@@ -5,10 +5,10 @@ use Rattle.std.specs.Int.{w16}
 use Rattle.std.proofs.lemmas.Bool.{cases_eq, cases_lt, cond-true, cond-false, eq-eqb, ne_eqb, le-leb}
 use Rattle.std.proofs.lemmas.List.{drop-drop, take-append-drop}
 use Rattle.std.proofs.lemmas.List.FromFn.{map-range_with_len_more}
-use Rattle.cm_model.specs.Each.{each_from}
+use Rattle.cm_model.specs.Each.{tabulate}
 use Rattle.cm_model.specs.Array.{Chips}
 use Rattle.cm_model.specs.Machine.{Machine}
-use Rattle.cm_model.proofs.Each.{same_each_below, is_each, length-each_from}
+use Rattle.cm_model.proofs.Each.{same_each_below, is_each, length-tabulate}
 use Rattle.cm_element.specs.Near.{with_near}
 use Rattle.cm_element.specs.Planes.{chip_of}
 use Rattle.cm_element.specs.Runs.{chip_beside, chips_beside}
@@ -20,8 +20,8 @@ use Rattle.cm_image.specs.Tile.{IsPlaneTile, AreListedFrom, with_waiting}
 use Rattle.cm_image.proofs.Filling.{counted_is}
 use Rattle.cm_image.proofs.Taking.{next_address}
 
-each_more : {X : Type 0} (count : ℕ) (f : ℕ → X) → each_from 0 (count + 1) f ≡ each_from 0 count f ++ f count ∷ []
-unfolding each_from
+each_more : {X : Type 0} (count : ℕ) (f : ℕ → X) → tabulate 0 (count + 1) f ≡ tabulate 0 count f ++ f count ∷ []
+unfolding tabulate
 each_more count f = map-range_with_len_more f 0 count count (omega arith)
 
 -- ---- listed planes
@@ -32,44 +32,44 @@ listing plane a = record { at = a; plane = plane a }
 -- one after another, they are read as a list
 many_listed : (count s end : ℕ) (bytes : List ℕ) (plane : ℕ → ℕ) → s + count ≡ end → AreListedFrom bytes end plane
     → many next_address listed_part count s (drop (4 * s) bytes)
-    ≡ Ok (each_from s count (listing plane), drop (4 * end) bytes)
-unfolding many each_from
+    ≡ Ok (tabulate s count (listing plane), drop (4 * end) bytes)
+unfolding many tabulate
 many_listed zero s end bytes plane is listed = ap (λ (k : ℕ). Ok ([], drop (4 * k) bytes)) (omega (arith, is))
 many_listed (suc count) s end bytes plane is listed =
     rw (listed s (omega (arith, is)), many_listed count (s + 1) end bytes plane (omega (arith, is)) listed) refl
 
-no_plane : (count s a d : ℕ) (plane : ℕ → ℕ) → a < s → fold (plane_or a) d (each_from s count (listing plane)) ≡ d
-unfolding each_from
+no_plane : (count s a d : ℕ) (plane : ℕ → ℕ) → a < s → fold (plane_or a) d (tabulate s count (listing plane)) ≡ d
+unfolding tabulate
 no_plane zero s a d plane h = refl
 no_plane (suc count) s a d plane h =
-    ap (λ (z : ℕ). fold (plane_or a) z (each_from (s + 1) count (listing plane)))
+    ap (λ (z : ℕ). fold (plane_or a) z (tabulate (s + 1) count (listing plane)))
     (cond-false _ (plane s) d (ne_eqb s a (λ e. omega (arith, e, h))))
     ∙ no_plane count (s + 1) a d plane (omega (arith, h))
 
 plane_listed : (count s a d : ℕ) (plane : ℕ → ℕ) → s ≤ a → a < s + count
-    → fold (plane_or a) d (each_from s count (listing plane)) ≡ plane a
-unfolding each_from
+    → fold (plane_or a) d (tabulate s count (listing plane)) ≡ plane a
+unfolding tabulate
 plane_listed zero s a d plane l h = absurd (omega (arith, l, h))
 plane_listed (suc count) s a d plane l h =
     ⊎_elim
-    (λ (e : s ≡ a). ap (λ (z : ℕ). fold (plane_or a) z (each_from (s + 1) count (listing plane)))
+    (λ (e : s ≡ a). ap (λ (z : ℕ). fold (plane_or a) z (tabulate (s + 1) count (listing plane)))
     (cond-true _ (plane s) d (eq-eqb s a e))
     ∙ no_plane count (s + 1) a (plane s) plane (omega (arith, e)) ∙ ap plane e)
     (λ (e : s ≡ a → ⊥). plane_listed count (s + 1) a (plane_or a d (listing plane s)) plane (omega (arith, e, l)) (omega (arith, h)))
     (cases_eq s a)
 
-planes_of-listed : (plane : ℕ → ℕ) → planes_of (each_from 0 4096 (listing plane)) ≡ each_from 0 4096 plane
+planes_of-listed : (plane : ℕ → ℕ) → planes_of (tabulate 0 4096 (listing plane)) ≡ tabulate 0 4096 plane
 unfolding plane_at
 planes_of-listed plane =
-    same_each_below 0 4096 (plane_at (each_from 0 4096 (listing plane))) plane
+    same_each_below 0 4096 (plane_at (tabulate 0 4096 (listing plane))) plane
     (λ a h. plane_listed 4096 0 a 0 plane (omega arith) h)
 
 -- behind their count, those of all addresses are the planes of a chip
 pub memory_listed : (count end : ℕ) (bytes after : List ℕ) (plane : ℕ → ℕ) → count ≡ 4096 → 2 + 4 * count ≡ end
     → number_at w16 bytes ≡ Ok (count, drop 2 bytes) → after ≡ drop 2 bytes → AreListedFrom after count plane
-    → made planes_of memory_part bytes ≡ Ok (each_from 0 4096 plane, drop end bytes)
+    → made planes_of memory_part bytes ≡ Ok (tabulate 0 4096 plane, drop end bytes)
 memory_listed count end bytes after plane is long counted same listed =
-    let all : memory_part bytes ≡ Ok (each_from 0 count (listing plane), drop (4 * count) (drop 2 bytes)) =
+    let all : memory_part bytes ≡ Ok (tabulate 0 count (listing plane), drop (4 * count) (drop 2 bytes)) =
     counted_is w16 (must Count (λ k. nat_le k 4096)) next_address listed_part 0 count bytes (drop 2 bytes) counted
     (rw (le-leb count 4096 (omega (arith, is))) refl)
     ∙ many_listed count 0 count (drop 2 bytes) plane (omega arith)
@@ -77,7 +77,7 @@ memory_listed count end bytes after plane is long counted same listed =
     let rest : drop (4 * count) (drop 2 bytes) ≡ drop end bytes =
     drop-drop (4 * count) 2 bytes ∙ ap (λ (k : ℕ). drop k bytes) long in
     rw (all, rest) (ap (λ (planes : List ℕ). Ok (planes, drop end bytes))
-    (ap (λ (k : ℕ). planes_of (each_from 0 k (listing plane))) is ∙ planes_of-listed plane))
+    (ap (λ (k : ℕ). planes_of (tabulate 0 k (listing plane))) is ∙ planes_of-listed plane))
 
 -- ---- chips that wait
 
@@ -91,10 +91,10 @@ nothing_waits end m =
 
 pub length-chips_beside : (memory flags : List ℕ) (count : ℕ) → length (chips_beside memory flags count) ≡ count
 unfolding chips_beside
-length-chips_beside memory flags count = length-each_from 0 count (chip_beside memory flags)
+length-chips_beside memory flags count = length-tabulate 0 count (chip_beside memory flags)
 
 pub no_chips : (memory flags : List ℕ) → chips_beside memory flags 0 ≡ []
-unfolding chips_beside each_from
+unfolding chips_beside tabulate
 no_chips memory flags = refl
 
 -- how many of them wait, and that none does
@@ -128,12 +128,12 @@ pub chips_pushed : (memory later_memory flags later_flags one : List ℕ) (count
     → ((f : ℕ) → f < 16 → get_or later_flags (count * 16 + f) 0 ≡ get_or one f 0) → length one ≡ 16
     → chips_beside later_memory later_flags (count + 1)
     ≡ chips_beside memory flags count
-    ++ chip_of (each_from 0 4096 (λ a. get_or later_memory (count * 4128 + a) 0)) one ∷ []
+    ++ chip_of (tabulate 0 4096 (λ a. get_or later_memory (count * 4128 + a) 0)) one ∷ []
 unfolding chips_beside
 chips_pushed memory later_memory flags later_flags one count planes others here long =
     let last : chip_beside later_memory later_flags count
-    ≡ chip_of (each_from 0 4096 (λ a. get_or later_memory (count * 4128 + a) 0)) one =
-    ap (chip_of (each_from 0 4096 (λ a. get_or later_memory (count * 4128 + a) 0)))
+    ≡ chip_of (tabulate 0 4096 (λ a. get_or later_memory (count * 4128 + a) 0)) one =
+    ap (chip_of (tabulate 0 4096 (λ a. get_or later_memory (count * 4128 + a) 0)))
     (sym (is_each 0 16 (λ f. get_or later_flags (count * 16 + f) 0) one long (λ f h. sym (here f h)))) in
     each_more count (chip_beside later_memory later_flags)
     ∙ (λ i. chips_kept memory later_memory flags later_flags count planes others i ++ last i ∷ [])

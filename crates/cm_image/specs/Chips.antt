@@ -2,7 +2,7 @@
 use Rattle.std.specs.Prelude.{◌≡◌, ℕ, ◌+◌, ◌-◌, ◌≤◌, ◌<◌, ◌^◌, List, [], Ok, fold, length, slice_set, replicate}
 use Rattle.cm_model.specs.declared.message.Message.{Message}
 use Rattle.cm_model.specs.Chip.{blank_chip}
-use Rattle.cm_model.specs.Array.{chip_at, list_at}
+use Rattle.cm_model.specs.Array.{chip_at, nth_or_nil}
 use Rattle.cm_model.specs.Wiring.{Routing}
 use Rattle.cm_model.specs.Machine.{Machine, blank_machine}
 use Rattle.cm_element.specs.Planes.{chip_of}
@@ -41,7 +41,7 @@ pub record IsBlankFrom (n c : ℕ) (machine : Machine) : Type 0 where
   pub chip_count : length machine.chips ≡ 2 ^ n
   pub buffer_count : length machine.buffers ≡ 2 ^ n
   pub chips : (d : ℕ) → c ≤ d → d < 2 ^ n → chip_at machine.chips d ≡ blank_chip
-  pub buffers : (d : ℕ) → c ≤ d → d < 2 ^ n → list_at machine.buffers d ≡ []
+  pub buffers : (d : ℕ) → c ≤ d → d < 2 ^ n → nth_or_nil machine.buffers d ≡ []
 
 -- the blank machine at a count of petit cycles, which routes so
 abbrev pub blank_at : ℕ → ℕ → Routing → Machine

@@ -2,9 +2,9 @@
 use Rattle.std.specs.Prelude.{◌≡◌, ℕ, ◌<◌, ◌≤◌, ◌==◌, List, [], length, slice_index, slice_set, if◌then◌else◌}
 use Rattle.std.specs.List.{flat_map}
 use Rattle.std.specs.Int.{w16}
-use Rattle.cm_model.specs.Each.{each_from}
+use Rattle.cm_model.specs.Each.{tabulate}
 use Rattle.cm_model.specs.Processor.{Processor}
-use Rattle.cm_model.specs.Array.{Chips, chip_at, list_at}
+use Rattle.cm_model.specs.Array.{Chips, chip_at, nth_or_nil}
 use Rattle.cm_model.specs.Machine.{Machine}
 use Rattle.cm_message.specs.Bytes.{number_bytes}
 use Rattle.cm_image_format.specs.Image.{Listed, listed_text, chip_text}
@@ -16,12 +16,12 @@ put_plane planes x = slice_set planes x.at x.plane
 
 -- the flag planes of a chip below a number
 unfoldable pub flags_text : List Processor → ℕ → List ℕ
-flags_text chip count = flat_map (number_bytes w16) (each_from 0 count (flag_plane_of chip))
+flags_text chip count = flat_map (number_bytes w16) (tabulate 0 count (flag_plane_of chip))
 
 -- the memory planes of a chip below an address, without those that are 0
 unfoldable pub planes_below : List Processor → ℕ → List Listed
 planes_below chip count =
-    without_zeros (each_from 0 count (λ address. record { at = address; plane = memory_plane_of chip address }))
+    without_zeros (tabulate 0 count (λ address. record { at = address; plane = memory_plane_of chip address }))
 
 -- how they are listed
 unfoldable pub listed_below : List Processor → ℕ → List ℕ
@@ -38,7 +38,7 @@ listing_at chip address = plane_listing address (memory_plane_of chip address)
 -- those of a list below an address, one after another
 unfoldable pub listings : List ℕ → ℕ → List ℕ
 listings planes count =
-    flat_map (λ address. plane_listing address (slice_index planes address)) (each_from 0 count (λ address. address))
+    flat_map (λ address. plane_listing address (slice_index planes address)) (tabulate 0 count (λ address. address))
 
 -- addresses below this one, at which alone planes of so many chips are listed
 pub record AreInUse (count : ℕ) (chips : Chips) (below : ℕ) (addresses : List ℕ) : Type 0 where
@@ -56,4 +56,4 @@ pub record AreCounted (count : ℕ) (chips : Chips) (below : ℕ) (counts : List
 abbrev pub chips_text : Machine → ℕ → ℕ → List ℕ
 chips_text machine first count =
     flat_map chip_text
-    (each_from first count (λ c. image_of_chip (chip_at machine.chips c) (list_at machine.buffers c)))
+    (tabulate first count (λ c. image_of_chip (chip_at machine.chips c) (nth_or_nil machine.buffers c)))

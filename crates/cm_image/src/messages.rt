@@ -1,7 +1,7 @@
 //! The messages of a chip of an image.
 
 ghost use Rattle.std.specs.Prelude.{◌≡◌, ◌≤◌, ◌<◌, ◌^◌, [], true, IfOk, IfErr, IsOk, Ok, Err, fold, length};
-ghost use Rattle.cm_model.specs.Array.{list_at};
+ghost use Rattle.cm_model.specs.Array.{nth_or_nil};
 ghost use Rattle.cm_image_format.specs.Reading.{Gives, made};
 ghost use Rattle.cm_image_format.specs.Cuts.{chip_number_part};
 ghost use Rattle.cm_image_format.specs.Image.{processor_part, message_part, messages_part};
@@ -91,7 +91,7 @@ pub(crate) fn take_messages<'a, const N: usize, const CAP: usize>(
     requires cube { chips ≡ 2 ^ N }
     requires chip { chip < chips }
     requires buffer_count { length builder.old.buffers ≡ 2 ^ N }
-    requires none { list_at builder.old.buffers chip ≡ [] }
+    requires none { nth_or_nil builder.old.buffers chip ≡ [] }
     requires clock { builder.old.clock ≡ clock }
     ensures ok { IfOk result (λ rest. made (λ messages. fold (with_message chip) builder.old messages)
         (messages_part N CAP clock) bytes.now ≡ Ok (builder.new, rest.now)) }

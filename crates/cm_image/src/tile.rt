@@ -3,7 +3,7 @@
 ghost use Rattle.std.specs.Prelude.{◌≡◌, ℕ, ◌+◌, ◌*◌, ◌-◌, ◌^◌, ◌<◌, ◌≤◌, ◌++◌, [], ◌∷◌, true, false, IfOk, Ok, drop};
 ghost use Rattle.std.specs.Prelude.{length, slice_index, vec_capacity};
 ghost use Rattle.std.specs.Int.{w16};
-ghost use Rattle.cm_model.specs.Each.{each_from};
+ghost use Rattle.cm_model.specs.Each.{tabulate};
 ghost use Rattle.cm_element.specs.Planes.{chip_of};
 ghost use Rattle.cm_image_format.specs.Reading.{number_at, made, many};
 ghost use Rattle.cm_image_format.specs.Image.{listed_part, memory_part};
@@ -139,7 +139,7 @@ fn lengthen(words: &mut Vec<Plane>, len: usize)
 fn take_memory(memory: &mut [Plane], place: usize, bytes: &[u8]) -> bool
     requires room { place + 4096 ≤ length memory.old }
     ensures full { result ≡ true → made planes_of memory_part bytes.now
-        ≡ Ok (each_from 0 4096 (λ a. slice_index memory.new (place + a)), drop 16386 bytes.now) }
+        ≡ Ok (tabulate 0 4096 (λ a. slice_index memory.new (place + a)), drop 16386 bytes.now) }
     ensures long { result ≡ true → 16386 ≤ length bytes.now }
     ensures below { (i : ℕ) → i < place → slice_index memory.new i ≡ slice_index memory.old i }
 {

@@ -9,10 +9,10 @@ use Rattle.std.specs.List.{All, filter, range_with_len}
 use Rattle.cm_bits.specs.Bit.{bit}
 use Rattle.cm_model.specs.declared.message.Message.{Message}
 use Rattle.cm_model.specs.Processor.{Processor, memory_bit, flag}
-use Rattle.cm_model.specs.Each.{each_from}
+use Rattle.cm_model.specs.Each.{tabulate}
 use Rattle.cm_model.specs.Chip.{processor_at, no_processor}
 use Rattle.cm_model.specs.Whole.{IsProcessor, IsChip}
-use Rattle.cm_model.proofs.Each.{length-each_from, get_or-each_below, is_each}
+use Rattle.cm_model.proofs.Each.{length-tabulate, get_or-each_below, is_each}
 use Rattle.cm_model.proofs.Values.{plane_number-is}
 use Rattle.cm_model.proofs.Bits.{bit-zero}
 use Rattle.cm_image_format.specs.declared.fault.ImageFault.TheVariants.{Count, Value}
@@ -31,7 +31,7 @@ memory_again : (chip : List Processor) (buffer : List Message) (p : ℕ) → p <
 unfolding image_of_chip
 memory_again chip buffer p h long =
     bits_of_planes (processor_at chip p).memory 4096 p
-    (plane_at (filter is_some (each_from 0 4096 (entry (memory_plane_of chip))))) long
+    (plane_at (filter is_some (tabulate 0 4096 (entry (memory_plane_of chip))))) long
     (λ address below. ap (λ (plane : ℕ). bit plane p) (plane_at-listing (memory_plane_of chip) 4096 address below)
     ∙ bit-plane_number (λ q. memory_bit (processor_at chip q) address) p h)
 
@@ -80,7 +80,7 @@ memory_bit-chip_from : (image : ChipImage) (p address : ℕ) → p < 16 → addr
 memory_bit-chip_from image p address h l =
     ap (λ (q : Processor). memory_bit q address) (processor_at-chip_from image p h)
     ∙ (get_or-map (λ plane. bit plane p) (planes_of image.memory) address 0 false
-    (omega (arith, length-each_from 0 4096 (plane_at image.memory)))
+    (omega (arith, length-tabulate 0 4096 (plane_at image.memory)))
     ∙ ap (λ (plane : ℕ). bit plane p) (get_or-each_below 4096 (plane_at image.memory) address 0 l))
 
 -- the flag planes from one on
@@ -93,7 +93,7 @@ flag_plane_at s (plane ∷ flags) (suc i) good h =
     let there : s + 1 + i ≡ s + suc i = omega arith in
     subst (λ (k : ℕ). IsFlagPlane k (get_or flags i 0)) there (flag_plane_at (s + 1) flags i good.1 (omega (arith, h)))
 
-flags_had : (image : ChipImage) → AreFlags image.flags → each_from 0 16 (flag_plane_of (chip_from image)) ≡ image.flags
+flags_had : (image : ChipImage) → AreFlags image.flags → tabulate 0 16 (flag_plane_of (chip_from image)) ≡ image.flags
 flags_had image good =
     let long : length image.flags ≡ 16 = good.0 in
     sym (is_each 0 16 (flag_plane_of (chip_from image)) image.flags long
@@ -102,7 +102,7 @@ flags_had image good =
     (λ p h. sym (flag-chip_from image p f h (omega arith)))))
 
 memory_had : (image : ChipImage) → IsMemory image.memory
-    → filter is_some (each_from 0 4096 (entry (memory_plane_of (chip_from image)))) ≡ image.memory
+    → filter is_some (tabulate 0 4096 (entry (memory_plane_of (chip_from image)))) ≡ image.memory
 memory_had image good =
     relisted-each (memory_plane_of (chip_from image)) 4096 image.memory refl good.1
     (λ address below. sym (plane_number-is (plane_at image.memory address)
@@ -126,8 +126,8 @@ AllFrom-range f first (suc count) each = (
 )
 
 AllFrom-each : (f : ℕ → ℕ) (count : ℕ) → ((k : ℕ) → k < count → IsFlagPlane k (f k))
-    → AllFrom (λ k plane. k + 1) IsFlagPlane 0 (each_from 0 count f)
-unfolding each_from
+    → AllFrom (λ k plane. k + 1) IsFlagPlane 0 (tabulate 0 count f)
+unfolding tabulate
 AllFrom-each f count each = AllFrom-range f 0 count (λ k h l. each k (omega arith))
 
 flag_test : (b : Bool) (plane : ℕ) → (b ≡ true → plane ≡ 0) → (not b || plane == 0) ≡ true
@@ -138,9 +138,9 @@ zero_plane : (chip : List Processor) → IsChip chip → flag_plane_of chip 8 �
 zero_plane chip is =
     sym (plane_number-is 0 (λ p. flag (processor_at chip p) 8) (lit< tt) (λ p h. bit-zero p ∙ sym (is.each p h).zero))
 
-AreFlags-chip : (chip : List Processor) → IsChip chip → AreFlags (each_from 0 16 (flag_plane_of chip))
+AreFlags-chip : (chip : List Processor) → IsChip chip → AreFlags (tabulate 0 16 (flag_plane_of chip))
 AreFlags-chip chip is = (
-  length-each_from 0 16 (flag_plane_of chip),
+  length-tabulate 0 16 (flag_plane_of chip),
   AllFrom-each (flag_plane_of chip) 16 (λ f below. (
     plane_number-lt (λ p. flag (processor_at chip p) f),
     must_pass Value (not (f == 8) || flag_plane_of chip f == 0)
@@ -149,14 +149,14 @@ AreFlags-chip chip is = (
   )),
 )
 
-IsMemory-chip : (chip : List Processor) → IsMemory (filter is_some (each_from 0 4096 (entry (memory_plane_of chip))))
+IsMemory-chip : (chip : List Processor) → IsMemory (filter is_some (tabulate 0 4096 (entry (memory_plane_of chip))))
 IsMemory-chip chip =
-    let all : List Listed = each_from 0 4096 (entry (memory_plane_of chip)) in
+    let all : List Listed = tabulate 0 4096 (entry (memory_plane_of chip)) in
     let most : length (filter is_some all) ≤ 4096 = omega (
       arith,
       length-filter is_some all,
       count_by-le-length is_some all,
-      length-each_from 0 4096 (entry (memory_plane_of chip)),
+      length-tabulate 0 4096 (entry (memory_plane_of chip)),
     ) in (
       (
         omega arith,
@@ -193,13 +193,13 @@ IsChipImage-image_of_chip n cap clock chip buffer is messages =
 pub IsChip-chip_from : (image : ChipImage) → AreFlags image.flags → IsChip (chip_from image)
 unfolding chip_from
 IsChip-chip_from image good = record {
-  count = length-each_from 0 16 (λ q. record {
+  count = length-tabulate 0 16 (λ q. record {
     memory = map (λ plane. bit plane q) (planes_of image.memory);
     flags = map (λ plane. bit plane q) image.flags;
   });
   each = λ p h. subst (λ (q : Processor). IsProcessor q) (sym (processor_at-chip_from image p h)) (record {
     memory = length-map (planes_of image.memory) (λ plane. bit plane p)
-        ∙ length-each_from 0 4096 (plane_at image.memory);
+        ∙ length-tabulate 0 4096 (plane_at image.memory);
     flags = length-map image.flags (λ plane. bit plane p) ∙ good.0;
     zero =
         let eighth = flag_plane_at 0 image.flags 8 good.1 (omega (arith, good.0)) in

@@ -8,14 +8,14 @@ use Rattle.std.proofs.lemmas.Simd.{map-map}
 use Rattle.std.specs.List.{All, range_with_len}
 use Rattle.cm_model.specs.declared.message.Message.{Message}
 use Rattle.cm_model.specs.declared.message.Event.{Event}
-use Rattle.cm_model.specs.Each.{each_from}
+use Rattle.cm_model.specs.Each.{tabulate}
 use Rattle.cm_model.specs.Processor.{Processor}
 use Rattle.cm_model.specs.Whole.{IsChip}
-use Rattle.cm_model.specs.Array.{each_chip, chip_at, list_at}
+use Rattle.cm_model.specs.Array.{each_chip, chip_at, nth_or_nil}
 use Rattle.cm_model.specs.Machine.{Machine}
 use Rattle.cm_model.specs.Keeping.{IsMessage, IsEventOf}
 use Rattle.cm_model.specs.Unlogged.{IsUnlogged, has_tag_twice}
-use Rattle.cm_model.proofs.Each.{length-each_from, get_or-each_below, is_each}
+use Rattle.cm_model.proofs.Each.{length-tabulate, get_or-each_below, is_each}
 use Rattle.cm_model.proofs.Unlogged.{standing, none_injected, HasTagsOnce-standing, IsBorn, BornBefore-buffers, born_at}
 use Rattle.cm_image_format.specs.declared.fault.ImageFault.TheVariants.{Count}
 use Rattle.cm_image_format.specs.Image.{ChipImage}
@@ -28,15 +28,15 @@ use Rattle.cm_image_format.proofs.Chips.{chip_from-image_of_chip, image_of_chip-
 use Rattle.cm_image_format.proofs.Chips.{AreMessages-buffer, IsChipImage-image_of_chip, IsChip-chip_from}
 use Rattle.cm_image_format.proofs.Accounts.{messages_in-image_of}
 
-map-each_from : {X Y : Type 0} (h : X → Y) (first count : ℕ) (f : ℕ → X)
-    → map h (each_from first count f) ≡ each_from first count (λ k. h (f k))
-unfolding each_from
-map-each_from h first count f = map-map h f (range_with_len first count)
+map-tabulate : {X Y : Type 0} (h : X → Y) (first count : ℕ) (f : ℕ → X)
+    → map h (tabulate first count f) ≡ tabulate first count (λ k. h (f k))
+unfolding tabulate
+map-tabulate h first count f = map-map h f (range_with_len first count)
 
 abbrev chip_image : Machine → ℕ → ChipImage
-chip_image machine c = image_of_chip (chip_at machine.chips c) (list_at machine.buffers c)
+chip_image machine c = image_of_chip (chip_at machine.chips c) (nth_or_nil machine.buffers c)
 
-buffer_again : (machine : Machine) (c : ℕ) → (chip_image machine c).messages ≡ list_at machine.buffers c
+buffer_again : (machine : Machine) (c : ℕ) → (chip_image machine c).messages ≡ nth_or_nil machine.buffers c
 unfolding image_of_chip
 buffer_again machine c = refl
 
@@ -48,15 +48,15 @@ unfolding machine_of_image
 machine_of_image-image_of n cap machine is =
     let whole = is.whole in
     let chips : map chip_from (each_chip n (chip_image machine)) ≡ machine.chips =
-    map-each_from chip_from 0 (2 ^ n) (chip_image machine)
+    map-tabulate chip_from 0 (2 ^ n) (chip_image machine)
     ∙ sym (is_each [] (2 ^ n) (λ c. chip_from (chip_image machine c)) machine.chips whole.chip_count
-    (λ c h. sym (chip_from-image_of_chip (chip_at machine.chips c) (list_at machine.buffers c) (whole.whole c h)))) in
+    (λ c h. sym (chip_from-image_of_chip (chip_at machine.chips c) (nth_or_nil machine.buffers c) (whole.whole c h)))) in
     let buffers : map (λ (chip : ChipImage). chip.messages) (each_chip n (chip_image machine)) ≡ machine.buffers =
-    map-each_from (λ (chip : ChipImage). chip.messages) 0 (2 ^ n) (chip_image machine)
+    map-tabulate (λ (chip : ChipImage). chip.messages) 0 (2 ^ n) (chip_image machine)
     ∙ sym (is_each [] (2 ^ n) (λ c. (chip_image machine c).messages) machine.buffers whole.buffer_count
     (λ c h. sym (buffer_again machine c))) in
     let logs : map (λ (chip : ChipImage). []) (each_chip n (chip_image machine)) ≡ machine.logs =
-    map-each_from (λ (chip : ChipImage). []) 0 (2 ^ n) (chip_image machine) ∙ sym is.unlogged in
+    map-tabulate (λ (chip : ChipImage). []) 0 (2 ^ n) (chip_image machine) ∙ sym is.unlogged in
     λ i. record machine { chips = chips i; buffers = buffers i; logs = logs i }
 
 -- ---- an image is had again of its machine
@@ -70,7 +70,7 @@ unfolding machine_of_image
 chip_made image c h = get_or-map chip_from image.chips c no_image [] h
 
 buffer_made : (image : Image) (c : ℕ) → c < length image.chips
-    → list_at (machine_of_image image).buffers c ≡ (get_or image.chips c no_image).messages
+    → nth_or_nil (machine_of_image image).buffers c ≡ (get_or image.chips c no_image).messages
 unfolding machine_of_image
 buffer_made image c h = get_or-map (λ (chip : ChipImage). chip.messages) image.chips c no_image [] h
 
@@ -113,16 +113,16 @@ IsImage-image_of n cap machine is =
       most_room = is.most_room;
       clock = is.clock;
       routing = whole.routing;
-      count = length-each_from 0 (2 ^ n) (chip_image machine);
+      count = length-tabulate 0 (2 ^ n) (chip_image machine);
       each = AllFrom-All (IsChipImage n cap machine.clock) 0 chips
           (All-from_get_or (IsChipImage n cap machine.clock) chips no_image
-          (λ c h. let below : c < 2 ^ n = omega (arith, length-each_from 0 (2 ^ n) (chip_image machine)) in
+          (λ c h. let below : c < 2 ^ n = omega (arith, length-tabulate 0 (2 ^ n) (chip_image machine)) in
           subst (λ (chip : ChipImage). IsChipImage n cap machine.clock chip)
           (sym (get_or-each_below (2 ^ n) (chip_image machine) c no_image below))
           (IsChipImage-image_of_chip n cap
-          machine.clock (chip_at machine.chips c) (list_at machine.buffers c) (whole.whole c below)
-          (AreMessages-buffer n cap machine.clock (list_at machine.buffers c) is.most_room (whole.room c below)
-          (stored_messages n machine.clock (list_at machine.buffers c) (whole.messages c below)
+          machine.clock (chip_at machine.chips c) (nth_or_nil machine.buffers c) (whole.whole c below)
+          (AreMessages-buffer n cap machine.clock (nth_or_nil machine.buffers c) is.most_room (whole.room c below)
+          (stored_messages n machine.clock (nth_or_nil machine.buffers c) (whole.messages c below)
           (born_at n machine c whole.births below))))));
     }
 
@@ -147,7 +147,7 @@ counts n cap image is = (
 )
 
 stored_at : (n cap : ℕ) (image : Image) (c : ℕ) → IsImage n cap image → c < 2 ^ n
-    → All (IsStoredMessage n image.clock) (list_at (machine_of_image image).buffers c)
+    → All (IsStoredMessage n image.clock) (nth_or_nil (machine_of_image image).buffers c)
 stored_at n cap image c is h =
     subst (λ (ms : List Message). All (IsStoredMessage n image.clock) ms)
     (sym (buffer_made image c (omega (arith, is.count))))
@@ -188,10 +188,10 @@ IsStorable-machine_of_image n cap image is apart =
         messages = λ c h. λ k d l. (stored_at n cap image c is h k d l).message;
         routing = is.routing;
         events = λ c h. subst (λ (log : List Event). All (IsEventOf n c) log)
-            (sym (ap (λ (logs : List (List Event)). list_at logs c) none
+            (sym (ap (λ (logs : List (List Event)). nth_or_nil logs c) none
             ∙ get_or-each_below (2 ^ n) (λ b. []) c [] h)) (All-nil (IsEventOf n c));
         births = BornBefore-buffers n (machine_of_image image) none
-            (λ c h. λ k d l. subst (λ (t : ℕ). (get_or (list_at (machine_of_image image).buffers c) k d).tag.birth < t)
+            (λ c h. λ k d l. subst (λ (t : ℕ). (get_or (nth_or_nil (machine_of_image image).buffers c) k d).tag.birth < t)
             (sym clock) (stored_at n cap image c is h k d l).birth);
         tags = HasTagsOnce-standing n (machine_of_image image) none once;
         injected = none_injected n (machine_of_image image) none;

@@ -9,9 +9,9 @@ use Rattle.std.proofs.lemmas.List.{length-map, get_or-map}
 use Rattle.std.specs.List.{filter, range_with_len}
 use Rattle.cm_bits.specs.Bit.{bit}
 use Rattle.cm_model.specs.Processor.{value}
-use Rattle.cm_model.specs.Each.{each_from}
+use Rattle.cm_model.specs.Each.{tabulate}
 use Rattle.cm_model.specs.Chip.{plane_number}
-use Rattle.cm_model.proofs.Each.{length-each_from, get_or-each_below}
+use Rattle.cm_model.proofs.Each.{length-tabulate, get_or-each_below}
 use Rattle.cm_model.proofs.Messages.{value-lt}
 use Rattle.cm_image_format.specs.Image.{Listed}
 use Rattle.cm_image_format.specs.Whole.{plane_or, plane_at}
@@ -41,22 +41,22 @@ bit-value (true ∷ bits) (suc p) h =
 pub bit-plane_number : (f : ℕ → Bool) (p : ℕ) → p < 16 → bit (plane_number f) p ≡ f p
 unfolding plane_number
 bit-plane_number f p h =
-    bit-value (each_from 0 16 f) p (omega (arith, length-each_from 0 16 f)) ∙ get_or-each_below 16 f p false h
+    bit-value (tabulate 0 16 f) p (omega (arith, length-tabulate 0 16 f)) ∙ get_or-each_below 16 f p false h
 
 pub plane_number-lt : (f : ℕ → Bool) → plane_number f < 2 ^ 16
 unfolding plane_number
 plane_number-lt f =
-    subst (λ (k : ℕ). value (each_from 0 16 f) < 2 ^ k) (length-each_from 0 16 f) (value-lt (each_from 0 16 f))
+    subst (λ (k : ℕ). value (tabulate 0 16 f) < 2 ^ k) (length-tabulate 0 16 f) (value-lt (tabulate 0 16 f))
 
 -- bits that planes tell one after another
 pub bits_of_planes : (bits : List Bool) (k p : ℕ) (g : ℕ → ℕ) → length bits ≡ k
-    → ((i : ℕ) → i < k → bit (g i) p ≡ get_or bits i false) → map (λ plane. bit plane p) (each_from 0 k g) ≡ bits
+    → ((i : ℕ) → i < k → bit (g i) p ≡ get_or bits i false) → map (λ plane. bit plane p) (tabulate 0 k g) ≡ bits
 bits_of_planes bits k p g long same =
-    let planes : length (map (λ plane. bit plane p) (each_from 0 k g)) ≡ k =
-    length-map (each_from 0 k g) (λ plane. bit plane p) ∙ length-each_from 0 k g in
-    ext_get_or false (map (λ plane. bit plane p) (each_from 0 k g)) bits (planes ∙ sym long)
+    let planes : length (map (λ plane. bit plane p) (tabulate 0 k g)) ≡ k =
+    length-map (tabulate 0 k g) (λ plane. bit plane p) ∙ length-tabulate 0 k g in
+    ext_get_or false (map (λ plane. bit plane p) (tabulate 0 k g)) bits (planes ∙ sym long)
     (λ i h. let below : i < k = omega (arith, planes) in
-    get_or-map (λ plane. bit plane p) (each_from 0 k g) i 0 false (omega (arith, length-each_from 0 k g))
+    get_or-map (λ plane. bit plane p) (tabulate 0 k g) i 0 false (omega (arith, length-tabulate 0 k g))
     ∙ (ap (λ (plane : ℕ). bit plane p) (get_or-each_below k g i 0 below) ∙ same i below))
 
 -- ---- the planes that are not 0
@@ -111,8 +111,8 @@ comes_to f first (suc count) address h l =
 
 -- of the planes that are listed each address has its own
 pub plane_at-listing : (f : ℕ → ℕ) (count address : ℕ) → address < count
-    → plane_at (filter is_some (each_from 0 count (entry f))) address ≡ f address
-unfolding plane_at each_from
+    → plane_at (filter is_some (tabulate 0 count (entry f))) address ≡ f address
+unfolding plane_at tabulate
 plane_at-listing f count address h = comes_to f 0 count address (omega arith) (omega arith)
 
 -- what is listed is in order
@@ -129,8 +129,8 @@ AllListed f first (suc count) least h until fits =
     (λ e. AllListed f (first + 1) count least (omega arith) (omega arith) fits)
 
 pub AllListed-each : (f : ℕ → ℕ) (count : ℕ) → count ≡ 4096 → ((a : ℕ) → f a < 2 ^ 16)
-    → AllFrom (λ k x. x.at + 1) IsListed 0 (filter is_some (each_from 0 count (entry f)))
-unfolding each_from
+    → AllFrom (λ k x. x.at + 1) IsListed 0 (filter is_some (tabulate 0 count (entry f)))
+unfolding tabulate
 AllListed-each f count is fits = AllListed f 0 count 0 (omega arith) (omega arith) fits
 
 -- ---- of planes that are listed, those that are listed again
@@ -204,6 +204,6 @@ relisted h first (suc count) (x ∷ xs) until good same =
 
 pub relisted-each : (h : ℕ → ℕ) (count : ℕ) (xs : List Listed) → count ≡ 4096 → AllFrom (λ k x. x.at + 1) IsListed 0 xs
     → ((a : ℕ) → a < count → h a ≡ plane_at xs a)
-    → filter is_some (each_from 0 count (entry h)) ≡ xs
-unfolding plane_at each_from
+    → filter is_some (tabulate 0 count (entry h)) ≡ xs
+unfolding plane_at tabulate
 relisted-each h count xs is good same = relisted h 0 count xs (omega arith) good (λ a l m. same a (omega arith))

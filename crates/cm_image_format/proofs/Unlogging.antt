@@ -8,13 +8,13 @@ use Rattle.std.specs.List.{All, count_by, sum_by, filter_map, range_with_len}
 use Rattle.cm_model.specs.declared.message.Message.{Message}
 use Rattle.cm_model.specs.declared.message.Tag.{Tag}
 use Rattle.cm_model.specs.declared.message.Event.{Event}
-use Rattle.cm_model.specs.Array.{list_at}
+use Rattle.cm_model.specs.Array.{nth_or_nil}
 use Rattle.cm_model.specs.Machine.{Machine}
 use Rattle.cm_model.specs.Found.{same_tag}
 use Rattle.cm_model.specs.Account.{Triple, standing_triple, delivered_triple, account_at, account}
 use Rattle.cm_model.specs.Keeping.{IsEventOf, HasTagsOnce}
 use Rattle.cm_model.specs.Unlogged.{IsUnlogged, has_tag_twice}
-use Rattle.cm_model.proofs.Each.{length-each_from, get_or-each_below}
+use Rattle.cm_model.proofs.Each.{length-tabulate, get_or-each_below}
 use Rattle.cm_model.proofs.Counting.{sum_by-map, sum_by-flat_map}
 use Rattle.cm_model.proofs.Unlogged.{standing, counted_twice, none_injected, HasTagsOnce-standing}
 use Rattle.cm_model.proofs.Unlogged.{BornBefore-buffers, born_at}
@@ -45,14 +45,14 @@ sum_by-least f g a (suc k) least =
 
 -- what stands at a chip is a part of its account
 counted_at : (machine : Machine) (tag : Tag) (c : ℕ)
-    → count_by (of_tag tag) (list_at machine.buffers c) ≤ count_by (line_of_tag tag) (account_at machine c)
+    → count_by (of_tag tag) (nth_or_nil machine.buffers c) ≤ count_by (line_of_tag tag) (account_at machine c)
 counted_at machine tag c =
     omega (
       arith,
       sum_by-append (λ (triple : Triple). cond (same_tag triple.tag tag) 1 0)
-          (map (standing_triple c) (list_at machine.buffers c)) (filter_map delivered_triple (list_at machine.logs c)),
+          (map (standing_triple c) (nth_or_nil machine.buffers c)) (filter_map delivered_triple (nth_or_nil machine.logs c)),
       sum_by-map (λ (triple : Triple). cond (same_tag triple.tag tag) 1 0) (standing_triple c)
-          (list_at machine.buffers c),
+          (nth_or_nil machine.buffers c),
     )
 
 counted : (n : ℕ) (machine : Machine) (tag : Tag)
@@ -61,11 +61,11 @@ unfolding account
 counted n machine tag =
     omega (
       arith,
-      sum_by-flat_map (λ (m : Message). cond (same_tag m.tag tag) 1 0) (λ c. list_at machine.buffers c)
+      sum_by-flat_map (λ (m : Message). cond (same_tag m.tag tag) 1 0) (λ c. nth_or_nil machine.buffers c)
           (range_with_len 0 (2 ^ n)),
       sum_by-flat_map (λ (triple : Triple). cond (same_tag triple.tag tag) 1 0) (account_at machine)
           (range_with_len 0 (2 ^ n)),
-      sum_by-least (λ c. sum_by (λ (m : Message). cond (same_tag m.tag tag) 1 0) (list_at machine.buffers c))
+      sum_by-least (λ c. sum_by (λ (m : Message). cond (same_tag m.tag tag) 1 0) (nth_or_nil machine.buffers c))
           (λ c. sum_by (λ (triple : Triple). cond (same_tag triple.tag tag) 1 0) (account_at machine c)) 0 (2 ^ n)
           (counted_at machine tag),
     )
@@ -98,7 +98,7 @@ IsStorable-without_logs n cap machine is =
       whole = record {
         chip_count = is.whole.chip_count;
         buffer_count = is.whole.buffer_count;
-        log_count = length-each_from 0 (2 ^ n) (λ c. []);
+        log_count = length-tabulate 0 (2 ^ n) (λ c. []);
         whole = is.whole.whole;
         room = is.whole.room;
         messages = is.whole.messages;

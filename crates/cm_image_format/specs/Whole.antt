@@ -4,10 +4,10 @@ use Rattle.std.specs.List.{flat_map, filter}
 use Rattle.std.specs.Int.{w64}
 use Rattle.cm_bits.specs.Bit.{bit}
 use Rattle.cm_model.specs.declared.message.Message.{Message}
-use Rattle.cm_model.specs.Each.{each_from}
+use Rattle.cm_model.specs.Each.{tabulate}
 use Rattle.cm_model.specs.Processor.{Processor, memory_bit, flag}
 use Rattle.cm_model.specs.Chip.{each_processor, processor_at, plane_number}
-use Rattle.cm_model.specs.Array.{each_chip, chip_at, list_at}
+use Rattle.cm_model.specs.Array.{each_chip, chip_at, nth_or_nil}
 use Rattle.cm_model.specs.Wiring.{Routing}
 use Rattle.cm_model.specs.Machine.{Machine}
 pub use Rattle.cm_model.specs.Unlogged.{has_tag_twice}
@@ -36,8 +36,8 @@ memory_plane_of chip address = plane_number (λ p. memory_bit (processor_at chip
 -- what its image has of a chip with this buffer
 unfoldable pub image_of_chip : List Processor → List Message → ChipImage
 image_of_chip chip buffer = record {
-  flags = each_from 0 16 (flag_plane_of chip);
-  memory = without_zeros (each_from 0 4096 (λ address. record { at = address; plane = memory_plane_of chip address }));
+  flags = tabulate 0 16 (flag_plane_of chip);
+  memory = without_zeros (tabulate 0 4096 (λ address. record { at = address; plane = memory_plane_of chip address }));
   messages = buffer;
 }
 
@@ -51,7 +51,7 @@ plane_at listed address = fold (plane_or address) 0 listed
 
 -- the planes of all addresses
 abbrev pub planes_of : List Listed → List ℕ
-planes_of listed = each_from 0 4096 (plane_at listed)
+planes_of listed = tabulate 0 4096 (plane_at listed)
 
 -- the chip of an image
 unfoldable pub chip_from : ChipImage → List Processor
@@ -73,7 +73,7 @@ abbrev pub image_of : ℕ → Machine → Image
 image_of n machine = record {
   clock = machine.clock;
   routing = machine.routing;
-  chips = each_chip n (λ c. image_of_chip (chip_at machine.chips c) (list_at machine.buffers c));
+  chips = each_chip n (λ c. image_of_chip (chip_at machine.chips c) (nth_or_nil machine.buffers c));
 }
 
 -- how an image is written: the head, the counter, the cut wires, and chip after chip

@@ -7,10 +7,10 @@ use Rattle.std.specs.List.{All}
 use Rattle.cm_bits.specs.Bit.{bit_number}
 use Rattle.cm_bits.specs.Span.{Span}
 use Rattle.cm_bits.specs.declared.place.Place.{Place}
-use Rattle.cm_model.specs.Each.{each_from}
+use Rattle.cm_model.specs.Each.{tabulate}
 use Rattle.cm_model.specs.Place.{chip_columns, rows, columns, place_at}
 use Rattle.cm_model.specs.Processor.{flag, field_value}
-use Rattle.cm_model.specs.Array.{list_at, processor_of}
+use Rattle.cm_model.specs.Array.{nth_or_nil, processor_of}
 use Rattle.cm_model.specs.Machine.{Machine}
 use Rattle.cm_model.specs.Keeping.{IsMachine}
 use Rattle.cm_model.proofs.Each.{get_or-each_below}
@@ -26,7 +26,7 @@ use Rattle.cm_lab.proofs.ReadingBack.{numbers_read_back}
 
 -- of what a function of the place gives, row by row, that of a row and a column
 dot-of_grid : (n : ℕ) (told : Place → ℕ) (y x : ℕ) → y < rows n → x < columns n
-    → get_or (each_from 0 (processors n) (λ i. told (place_in n by_rows i))) (y * columns n + x) 0
+    → get_or (tabulate 0 (processors n) (λ i. told (place_in n by_rows i))) (y * columns n + x) 0
     ≡ told (place_at n y x)
 dot-of_grid n told y x row column =
     let inside : y * columns n + x < processors n =
@@ -42,7 +42,7 @@ dots_are_places n cap machine = record {
   numbers = λ field y x row column.
       dot-of_grid n (λ place. field_value (processor_of machine.chips place) field.at field.len) y x row column;
   buffers = λ y x row column.
-      get_or-each_below (2 ^ n) (λ c. length (list_at machine.buffers c)) (y * chip_columns n + x) 0
+      get_or-each_below (2 ^ n) (λ c. length (nth_or_nil machine.buffers c)) (y * chip_columns n + x) 0
       (subst (λ (k : ℕ). y * chip_columns n + x < k) (sym (chips_in_rows n))
       (mul-add-lt y (chip_columns n) x (chip_rows n) row column));
 }

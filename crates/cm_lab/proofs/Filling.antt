@@ -4,14 +4,14 @@ use Rattle.std.proofs.Common.{refl, sym, ap, ◌∙◌, ⊎_elim, arith, nat_lt,
 use Rattle.std.proofs.Common.{length-set, get_or-set_same, get_or-set_other}
 use Rattle.std.proofs.lemmas.Bool.{cases_lt, cases_Bool, eqb-true, eqb-false}
 use Rattle.std.proofs.lemmas.List.FromFn.{map-range_with_len_more}
-use Rattle.cm_model.specs.Each.{each_from}
-use Rattle.cm_model.proofs.Each.{is_each, same_each_below, length-each_from, get_or-each_below}
+use Rattle.cm_model.specs.Each.{tabulate}
+use Rattle.cm_model.proofs.Each.{is_each, same_each_below, length-tabulate, get_or-each_below}
 
 -- one more number
-pub each_from-more : {X : Type 0} (f : ℕ → X) (count : ℕ)
-    → each_from 0 (count + 1) f ≡ each_from 0 count f ++ f count ∷ []
-unfolding each_from
-each_from-more f count = map-range_with_len_more f 0 count count (omega arith)
+pub tabulate-more : {X : Type 0} (f : ℕ → X) (count : ℕ)
+    → tabulate 0 (count + 1) f ≡ tabulate 0 count f ++ f count ∷ []
+unfolding tabulate
+tabulate-more f count = map-range_with_len_more f 0 count count (omega arith)
 
 -- so many are new, and the others as they were
 abbrev pub filled : {X : Type 0} → (ℕ → X) → (ℕ → X) → ℕ → ℕ → X
@@ -25,45 +25,45 @@ filled-old new old done k h = ap (λ (b : Bool). if b then new k else old k) (le
 
 -- at first none are new
 pub each_filled-none : {X : Type 0} (d : X) (new old : ℕ → X) (count : ℕ) (xs : List X) → length xs ≡ count
-    → ((k : ℕ) → k < count → get_or xs k d ≡ old k) → xs ≡ each_from 0 count (filled new old 0)
+    → ((k : ℕ) → k < count → get_or xs k d ≡ old k) → xs ≡ tabulate 0 count (filled new old 0)
 each_filled-none d new old count xs long are =
     is_each d count (filled new old 0) xs long (λ k h. are k h ∙ sym (filled-old new old 0 k (omega arith)))
 
 -- at last all are
 pub each_filled-all : {X : Type 0} (d : X) (new old : ℕ → X) (count : ℕ)
-    → each_from 0 count (filled new old count) ≡ each_from 0 count new
+    → tabulate 0 count (filled new old count) ≡ tabulate 0 count new
 each_filled-all d new old count = same_each_below d count (filled new old count) new (λ k h. filled-new new old count k h)
 
 -- the next one is as it was
 pub get_or-each_filled : {X : Type 0} (d : X) (new old : ℕ → X) (count done : ℕ) → done < count
-    → get_or (each_from 0 count (filled new old done)) done d ≡ old done
+    → get_or (tabulate 0 count (filled new old done)) done d ≡ old done
 get_or-each_filled d new old count done h =
     get_or-each_below count (filled new old done) done d h ∙ filled-old new old done done (omega arith)
 
 -- and then it is new
 pub each_filled-more : {X : Type 0} (d : X) (new old : ℕ → X) (count done : ℕ) (x : X) → done < count → x ≡ new done
-    → set (each_from 0 count (filled new old done)) done x ≡ each_from 0 count (filled new old (done + 1))
+    → set (tabulate 0 count (filled new old done)) done x ≡ tabulate 0 count (filled new old (done + 1))
 each_filled-more d new old count done x h is =
-    is_each d count (filled new old (done + 1)) (set (each_from 0 count (filled new old done)) done x)
-    (length-set (each_from 0 count (filled new old done)) done x ∙ long)
+    is_each d count (filled new old (done + 1)) (set (tabulate 0 count (filled new old done)) done x)
+    (length-set (tabulate 0 count (filled new old done)) done x ∙ long)
     (λ k below. ⊎_elim (λ (e : (k == done) ≡ true). here k (eqb-true k done e))
     (λ (e : (k == done) ≡ false). ⊎_elim
-    (λ (l : k < done). get_or-set_other (each_from 0 count (filled new old done)) done k x d (eqb-false k done e)
+    (λ (l : k < done). get_or-set_other (tabulate 0 count (filled new old done)) done k x d (eqb-false k done e)
     ∙ get_or-each_below count (filled new old done) k d below ∙ filled-new new old done k l
     ∙ sym (filled-new new old (done + 1) k (omega arith)))
-    (λ (l : done ≤ k). get_or-set_other (each_from 0 count (filled new old done)) done k x d (eqb-false k done e)
+    (λ (l : done ≤ k). get_or-set_other (tabulate 0 count (filled new old done)) done k x d (eqb-false k done e)
     ∙ get_or-each_below count (filled new old done) k d below ∙ filled-old new old done k l
     ∙ sym (filled-old new old (done + 1) k (omega (arith, l, eqb-false k done e))))
     (cases_lt k done))
     (cases_Bool (k == done)))
   where
-    long : length (each_from 0 count (filled new old done)) ≡ count
-    long = length-each_from 0 count (filled new old done)
+    long : length (tabulate 0 count (filled new old done)) ≡ count
+    long = length-tabulate 0 count (filled new old done)
 
     here : (k : ℕ) → k ≡ done
-        → get_or (set (each_from 0 count (filled new old done)) done x) k d ≡ filled new old (done + 1) k
+        → get_or (set (tabulate 0 count (filled new old done)) done x) k d ≡ filled new old (done + 1) k
     here k same =
-        ap (λ (i : ℕ). get_or (set (each_from 0 count (filled new old done)) done x) i d) same
-        ∙ get_or-set_same (each_from 0 count (filled new old done)) done x d (omega (arith, long, h))
+        ap (λ (i : ℕ). get_or (set (tabulate 0 count (filled new old done)) done x) i d) same
+        ∙ get_or-set_same (tabulate 0 count (filled new old done)) done x d (omega (arith, long, h))
         ∙ is ∙ sym (filled-new new old (done + 1) done (omega arith))
         ∙ ap (filled new old (done + 1)) (sym same)

@@ -4,7 +4,7 @@ use Rattle.std.proofs.lemmas.List.{set-get_or, set-set}
 use Rattle.cm_model.specs.Processor.{Processor}
 use Rattle.cm_model.specs.Chip.{processor_at, no_processor}
 use Rattle.cm_model.specs.Whole.{IsChip}
-use Rattle.cm_model.specs.Each.{each_from}
+use Rattle.cm_model.specs.Each.{tabulate}
 use Rattle.cm_model.specs.Array.{Chips, chip_at}
 use Rattle.cm_element.specs.Wide.{with_memory_field}
 use Rattle.cm_array.specs.Parts.{Kept}
@@ -21,7 +21,7 @@ with_chips kept chips = record kept { machine = record kept.machine { chips = ch
 -- the processors of a chip, of which so many have their numbers
 abbrev pub chip_filled : ℕ → Order → ℕ → ℕ → List ℕ → ℕ → List Processor → ℕ → List Processor
 chip_filled n order at len numbers c chip done =
-    each_from 0 16
+    tabulate 0 16
     (filled (λ p. processor_with at len (number_for n order numbers c p) (processor_at chip p)) (processor_at chip) done)
 
 pub chip_filled-none : (n : ℕ) (order : Order) (at len : ℕ) (numbers : List ℕ) (c : ℕ) (chip : List Processor)
@@ -56,7 +56,7 @@ chip_filled-more n order at len numbers c chip p number below is =
 -- the chips of which so many have their numbers
 abbrev pub chips_filled : ℕ → Order → ℕ → ℕ → List ℕ → Chips → ℕ → Chips
 chips_filled n order at len numbers chips done =
-    each_from 0 (2 ^ n)
+    tabulate 0 (2 ^ n)
     (filled (λ c. chip_with_numbers n order at len numbers c (chip_at chips c)) (chip_at chips) done)
 
 pub chips_filled-none : (n : ℕ) (order : Order) (at len : ℕ) (numbers : List ℕ) (chips : Chips)

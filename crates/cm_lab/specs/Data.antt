@@ -4,7 +4,7 @@ use Rattle.cm_bits.specs.Bit.{bit_number}
 use Rattle.cm_bits.specs.declared.place.Place.{Place}
 use Rattle.cm_model.specs.Place.{columns, row_of, column_of, place_at}
 use Rattle.cm_model.specs.Processor.{Processor, flag, field_value}
-use Rattle.cm_model.specs.Each.{each_from}
+use Rattle.cm_model.specs.Each.{tabulate}
 use Rattle.cm_model.specs.Chip.{each_processor, processor_at}
 use Rattle.cm_model.specs.Letters.{with_field}
 use Rattle.cm_model.specs.Array.{Chips, each_chip, chip_at, processor_of}
@@ -34,12 +34,12 @@ width_in n by_rows = columns n
 -- the number that each processor has in the memory field of this length at this address
 unfoldable pub numbers_of : ℕ → Order → ℕ → ℕ → Chips → List ℕ
 numbers_of n order at len chips =
-    each_from 0 (processors n) (λ i. field_value (processor_of chips (place_in n order i)) at len)
+    tabulate 0 (processors n) (λ i. field_value (processor_of chips (place_in n order i)) at len)
 
 -- the flag of this number that each processor has, as 0 or 1
 unfoldable pub flags_of : ℕ → Order → ℕ → Chips → List ℕ
 flags_of n order number chips =
-    each_from 0 (processors n) (λ i. bit_number (flag (processor_of chips (place_in n order i)) number))
+    tabulate 0 (processors n) (λ i. bit_number (flag (processor_of chips (place_in n order i)) number))
 
 -- a processor with a number in the field
 abbrev pub processor_with : ℕ → ℕ → ℕ → Processor → Processor

@@ -5,7 +5,7 @@ use Rattle.cm_bits.specs.Bit.{bit_number}
 use Rattle.cm_bits.specs.Span.{Span}
 use Rattle.cm_model.specs.Place.{chip_columns, rows, columns, place_at}
 use Rattle.cm_model.specs.Processor.{flag, field_value}
-use Rattle.cm_model.specs.Array.{list_at, processor_of}
+use Rattle.cm_model.specs.Array.{nth_or_nil, processor_of}
 use Rattle.cm_model.specs.Machine.{Machine}
 use Rattle.cm_model.specs.Keeping.{IsMachine}
 use Rattle.cm_figures.specs.Pictures.{Dots, dot_at}
@@ -24,7 +24,7 @@ pub record AreDotsOfPlaces (n cap : ℕ) (machine : Machine) : Type 0 where
       → dot_at (machine_picture n cap (Number field) machine) y x
       ≡ field_value (processor_of machine.chips (place_at n y x)) field.at field.len
   pub buffers : (y x : ℕ) → y < chip_rows n → x < chip_columns n
-      → dot_at (machine_picture n cap Buffers machine) y x ≡ length (list_at machine.buffers (y * chip_columns n + x))
+      → dot_at (machine_picture n cap Buffers machine) y x ≡ length (nth_or_nil machine.buffers (y * chip_columns n + x))
 
 -- so it is of every machine
 abbrev pub DotsArePlaces : Type 0

@@ -2,7 +2,7 @@
 use Rattle.std.specs.Prelude.{◌≡◌, ℕ, suc, zero, ◌+◌, ◌-◌, ◌*◌, ◌/◌, ◌%◌, ◌^◌, ◌<◌, ◌==◌, Bool, true, nat_lt, if◌then◌else◌}
 use Rattle.std.specs.Prelude.{Option, Some, None, List, length}
 use Rattle.cm_model.specs.Place.{chip_columns, rows, columns}
-use Rattle.cm_model.specs.Array.{each_chip, list_at}
+use Rattle.cm_model.specs.Array.{each_chip, nth_or_nil}
 use Rattle.cm_model.specs.Machine.{Machine}
 use Rattle.cm_figures.specs.Pictures.{Dots}
 use Rattle.cm_lab.specs.declared.order.Order.TheVariants.{Rows as by_rows}
@@ -26,7 +26,7 @@ chip_rows n = 2 ^ (n - n / 2)
 
 -- how many messages stand at each chip
 unfoldable pub buffered : ℕ → Machine → List ℕ
-buffered n machine = each_chip n (λ c. length (list_at machine.buffers c))
+buffered n machine = each_chip n (λ c. length (nth_or_nil machine.buffers c))
 
 -- the picture of the grid with these dots
 abbrev pub grid_picture : ℕ → ℕ → List ℕ → Dots

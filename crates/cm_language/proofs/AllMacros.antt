@@ -11,13 +11,13 @@ use Rattle.cm_bits.specs.declared.field.Meets.TheVariants.{Same, Apart, Partly}
 use Rattle.cm_model.specs.declared.act.Nano.{Nano}
 use Rattle.cm_model.specs.declared.act.Act.TheVariants as act
 use Rattle.cm_model.specs.Processor.{Processor}
-use Rattle.cm_model.specs.Each.{each_from}
+use Rattle.cm_model.specs.Each.{tabulate}
 use Rattle.cm_model.specs.Chip.{processor_at}
 use Rattle.cm_model.specs.Array.{chip_at}
 use Rattle.cm_model.specs.Whole.{IsProcessor}
 use Rattle.cm_model.specs.Machine.{Machine, run_of}
 use Rattle.cm_model.specs.Keeping.{IsMachine}
-use Rattle.cm_model.proofs.Each.{length-each_from}
+use Rattle.cm_model.proofs.Each.{length-tabulate}
 use Rattle.cm_model.proofs.Runs.{run_of-acted}
 use Rattle.cm_language.specs.declared.macros.Macro.{Macro}
 use Rattle.cm_language.specs.declared.macros.Macro.TheVariants.{Add, Sub, Less, Equal, Move, Select, Const, Shift, Mul}
@@ -209,11 +209,11 @@ selected_is (Clear g) c p f a h = clear_step c g p h.ready (fixed_8 g a.fixed) (
 -- ---- one processor that it does not mean
 
 under_bits : (c : Context) (x y : Span) (r w tm tf : ℕ) → AllUnder c (each_bit c x y r w tm tf)
-unfolding each_from
+unfolding tabulate
 under_bits c x y r w tm tf = under-each c (λ i. nano c (x.at + i) (y.at + i) r w tm tf) (λ i. refl) (λ i. refl) 0 x.len
 
 under_number : (c : Context) (d : Span) (v : ℕ) → AllUnder c (number_bits c d v)
-unfolding each_from
+unfolding tabulate
 under_number c d v = under-each c _ (λ i. refl) (λ i. refl) 0 d.len
 
 all_under : (m : Macro) (c : Context) → is_conditional_product m c ≡ false → (p : Processor) → selected c p ≡ false
@@ -259,15 +259,15 @@ in_processor m c p f a h =
 -- ---- all processors
 
 home_bits : (c : Context) (x y : Span) (r tm tf : ℕ) → AllHome (each_bit c x y r 7 tm tf)
-unfolding each_from
+unfolding tabulate
 home_bits c x y r tm tf = home-each (λ i. nano c (x.at + i) (y.at + i) r 7 tm tf) (λ i. refl) 0 x.len
 
 home_still : (c : Context) (x y : Span) (r tm tf : ℕ) → AllHome (each_bit c x y r 8 tm tf)
-unfolding each_from
+unfolding tabulate
 home_still c x y r tm tf = home-each (λ i. nano c (x.at + i) (y.at + i) r 8 tm tf) (λ i. refl) 0 x.len
 
 home_number : (c : Context) (d : Span) (v : ℕ) → AllHome (number_bits c d v)
-unfolding each_from
+unfolding tabulate
 home_number c d v = home-each _ (λ i. refl) 0 d.len
 
 home_round : (d x y : Span) (j : ℕ) → AllHome (product_round d x y j)
@@ -293,8 +293,8 @@ all_home (Mul d x y) c e =
 all_home (Set f) c e = (free_of_others f e, tt)
 all_home (Clear f) c e = (free_of_others f e, tt)
 
-some_bits : (n : ℕ) (f : ℕ → Nano) → 1 ≤ n → 0 < length (each_from 0 n f)
-some_bits n f h = omega (arith, length-each_from 0 n f)
+some_bits : (n : ℕ) (f : ℕ → Nano) → 1 ≤ n → 0 < length (tabulate 0 n f)
+some_bits n f h = omega (arith, length-tabulate 0 n f)
 
 some_acts : (m : Macro) (c : Context) → HasFields m → 0 < length (nanos m c)
 some_acts (Add d s) c f = omega arith

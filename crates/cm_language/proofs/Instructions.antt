@@ -8,7 +8,7 @@ use Rattle.cm_bits.specs.Bit.{bit}
 use Rattle.cm_bits.specs.Span.{Span, IsField}
 use Rattle.cm_model.specs.declared.act.Nano.{Nano}
 use Rattle.cm_model.specs.declared.act.Act.TheVariants as act
-use Rattle.cm_model.specs.Each.{each_from}
+use Rattle.cm_model.specs.Each.{tabulate}
 use Rattle.cm_language.specs.declared.macros.Context.{Context}
 use Rattle.cm_language.specs.declared.macros.Context.TheVariants.{Always, On, Off}
 use Rattle.cm_language.specs.Acts.{nano, cond_of, set_flag, clear_flag, each_bit, number_bits, product_round, above}
@@ -110,7 +110,7 @@ is_clear c f h l = is_nano c 0 0 8 f 0xf0 0x00 h (omega arith) (omega arith) (wr
 -- one for each bit of two fields
 pub are_bits : (c : Context) (x y : Span) (read write mem flag : ℕ) → HasFlag c → x.at + x.len ≤ 4096
     → y.at + x.len ≤ 4096 → AreSmall read write mem flag → AreInstructions (each_bit c x y read write mem flag)
-unfolding each_from
+unfolding tabulate
 are_bits c x y read write mem flag h whole other small =
     are-each (λ i. nano c (x.at + i) (y.at + i) read write mem flag) 0 x.len
     (λ i low high. is_nano c (x.at + i) (y.at + i) read write mem flag h (omega arith) (omega arith) small)
@@ -122,7 +122,7 @@ constant_small false = small_by_test 8 8 0x00 0x00 refl
 
 -- those that store a number
 pub are_number_bits : (c : Context) (d : Span) (v : ℕ) → HasFlag c → IsField d → AreInstructions (number_bits c d v)
-unfolding each_from
+unfolding tabulate
 are_number_bits c d v h is =
     are-each (λ i. nano c (d.at + i) (d.at + i) 8 8 (if bit v i then 0xff else 0x00) 0x00) 0 d.len
     (λ i low high.

@@ -10,7 +10,7 @@ use Rattle.cm_bits.specs.Bit.{bit_number}
 use Rattle.cm_bits.specs.Span.{Span}
 use Rattle.cm_model.specs.declared.act.Nano.{Nano}
 use Rattle.cm_model.specs.Processor.{Processor, value}
-use Rattle.cm_model.specs.Each.{each_from}
+use Rattle.cm_model.specs.Each.{tabulate}
 use Rattle.cm_model.specs.Instruction.{processor_after}
 use Rattle.cm_model.specs.Letters.{bits_of, with_field}
 use Rattle.cm_model.proofs.Wholes.{length-bits_of}
@@ -100,7 +100,7 @@ factor_step p x j h =
 round_of_0 : (p q : Processor) (d x y : Span) (j total : ℕ) → Ready Always q
     → get_or q.memory (x.at + j) false ≡ false → Sofar p d total q
     → Sofar p d total (run (product_round d x y j) q)
-unfolding product_round each_from
+unfolding product_round tabulate
 round_of_0 p q d x y j total h zero_bit s =
     let fs : List Bool = set q.flags 6 false in
     let left : Processor = record { memory = q.memory; flags = fs } in

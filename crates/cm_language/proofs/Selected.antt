@@ -8,7 +8,7 @@ use Rattle.cm_bits.specs.Bit.{bit, bit_number}
 use Rattle.cm_bits.specs.Span.{Span, IsField}
 use Rattle.cm_model.specs.declared.act.Nano.{Nano}
 use Rattle.cm_model.specs.Processor.{Processor, value, entry}
-use Rattle.cm_model.specs.Each.{each_from}
+use Rattle.cm_model.specs.Each.{tabulate}
 use Rattle.cm_model.specs.Instruction.{processor_after}
 use Rattle.cm_model.specs.Letters.{with_field, bits_of}
 use Rattle.cm_language.specs.declared.macros.Context.{Context}
@@ -73,7 +73,7 @@ pub begun_ripple : (c : Context) (tm tf : ℕ) (z : Bool) (first : Nano) (d s : 
     → processor_after first false p ≡ record { memory = p.memory; flags = set p.flags 7 z }
     → run (first ∷ each_bit c d s 7 7 tm tf) p
     ≡ rippled tm tf p.memory p.flags d.at z (bits p d.at d.len) (bits p s.at d.len)
-unfolding each_from
+unfolding tabulate
 begun_ripple c tm tf z first d s p h behind free is =
     let fs : List Bool = set p.flags 7 z in
     let q : Processor = record { memory = p.memory; flags = fs } in
@@ -238,7 +238,7 @@ pub still : (c : Context) (t r : ℕ) (d s : Span) (p : Processor) → Ready c p
           d.at (choices (λ i. t) (get_or p.flags r false) 0 (bits p d.at d.len) (bits p s.at d.len));
       flags = p.flags;
     }
-unfolding each_from
+unfolding tabulate
 still c t r d s p h behind =
     let a : d.at + 0 ≡ d.at = omega arith in
     let b : s.at + 0 ≡ s.at = omega arith in
@@ -297,7 +297,7 @@ select_is c d s f p h fields =
 -- a number, bit by bit
 pub numbered : (c : Context) (d : Span) (v : ℕ) (p : Processor) → Ready c p
     → run (number_bits c d v) p ≡ record { memory = writes p.memory d.at (bits_of d.len v); flags = p.flags }
-unfolding each_from
+unfolding tabulate
 numbered c d v p h =
     let a : d.at + 0 ≡ d.at = omega arith in
     let z : Bool = get_or p.flags 8 false in

@@ -8,7 +8,7 @@ use Rattle.cm_model.specs.declared.act.Nano.{Nano}
 use Rattle.cm_model.specs.declared.act.Act.{Act}
 use Rattle.cm_model.specs.declared.act.Act.TheVariants as act
 use Rattle.cm_model.specs.Processor.{ZERO}
-use Rattle.cm_model.specs.Each.{each_from}
+use Rattle.cm_model.specs.Each.{tabulate}
 use Rattle.cm_language.specs.declared.macros.Macro.{Macro}
 use Rattle.cm_language.specs.declared.macros.Macro.TheVariants.{Add, Sub, Less, Equal, Move, Select, Const, Shift, Mul}
 use Rattle.cm_language.specs.declared.macros.Macro.TheVariants.{Set, Clear}
@@ -105,12 +105,12 @@ clear_flag context f = nano context 0 0 ZERO f TABLE_OF_A ALWAYS_0
 -- one instruction for each bit of two fields, with the same tables
 abbrev pub each_bit : Context → Span → Span → ℕ → ℕ → ℕ → ℕ → List Nano
 each_bit context x y read write mem_table flag_table =
-    each_from 0 x.len (λ i. nano context (x.at + i) (y.at + i) read write mem_table flag_table)
+    tabulate 0 x.len (λ i. nano context (x.at + i) (y.at + i) read write mem_table flag_table)
 
 -- the bits of a number into a field
 abbrev pub number_bits : Context → Span → ℕ → List Nano
 number_bits context d v =
-    each_from 0 d.len
+    tabulate 0 d.len
     (λ i. nano context (d.at + i) (d.at + i) ZERO ZERO (if bit v i then ALWAYS_1 else ALWAYS_0) ALWAYS_0)
 
 -- the field without its lowest bits, so many

@@ -4,7 +4,7 @@ use Rattle.cm_bits.specs.Bit.{bit}
 use Rattle.cm_model.specs.declared.act.Act.TheVariants.{Cycle}
 use Rattle.cm_model.specs.declared.message.Message.{Message}
 use Rattle.cm_model.specs.declared.message.Event.{Event}
-use Rattle.cm_model.specs.Each.{each_from}
+use Rattle.cm_model.specs.Each.{tabulate}
 use Rattle.cm_model.specs.Processor.{RECV}
 use Rattle.cm_model.specs.Array.{Chips, chip_at}
 use Rattle.cm_model.specs.Wiring.{Routing}
@@ -44,11 +44,11 @@ module _ (n cap : ℕ) (load : Load) (routing : Routing) (chips asked left ready
   pub one_cycle : n ≡ load.dims
       → record { chips = asked; sources = next; deepest = deeper }
       ≡ asking_after_places load t (record { chips = chips; sources = sources; deepest = deepest }) (places load.dims)
-      → events_of emptied ≡ each_from {X = List Event} 0 (2 ^ n) (λ c. [])
+      → events_of emptied ≡ tabulate {X = List Event} 0 (2 ^ n) (λ c. [])
       → machine_from_logs routing left crossed told ended ≡ after_act n cap (machine_from_logs routing asked buffers emptied begun) Cycle
       → begun ≡ t → ended ≡ begun + 1 → more ≡ injected_count (events_of told)
       → all ≡ latencies ++ latencies_in t (events_of told)
-      → ready ≡ each_from 0 (2 ^ n) (λ c. with_flag_plane (chip_at left c) RECV (bit 0))
+      → ready ≡ tabulate 0 (2 ^ n) (λ c. with_flag_plane (chip_at left c) RECV (bit 0))
       → after ≡ after_one cap load before
   unfolding after_one all_ready
   one_cycle dims asks empty goes starts ends takes tells fetched =

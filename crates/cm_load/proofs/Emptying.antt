@@ -6,7 +6,7 @@ use Rattle.std.specs.List.{range_with_len}
 use Rattle.std.proofs.lemmas.Bool.{cases_eq}
 use Rattle.std.proofs.lemmas.List.{get_or-set_same, get_or-set_other, length-map}
 use Rattle.cm_model.specs.declared.message.Event.{Event}
-use Rattle.cm_model.specs.Each.{each_from}
+use Rattle.cm_model.specs.Each.{tabulate}
 use Rattle.cm_router.specs.Logs.{Log, log_room, log_rooms_of, HaveLogRoom}
 use Rattle.cm_router.proofs.Rooms.{room_at, room_written, room_of_others}
 use Rattle.cm_petit.specs.Routers.{events_of}
@@ -38,14 +38,14 @@ alike_after read y (x ∷ xs) first each =
     ∷ alike_after read y xs (first + 1) (λ k d below. each (suc k) d (omega (arith, below))) i
 
 pub readings-alike : {X Y : Type 0} (read : X → Y) (y : Y) (xs : List X) (count : ℕ) → length xs ≡ count
-    → ((k : ℕ) (d : X) → k < length xs → read (get_or xs k d) ≡ y) → map read xs ≡ each_from 0 count (λ c. y)
-unfolding each_from
+    → ((k : ℕ) (d : X) → k < length xs → read (get_or xs k d) ≡ y) → map read xs ≡ tabulate 0 count (λ c. y)
+unfolding tabulate
 readings-alike read y xs count long each = alike_after read y xs 0 each
     ∙ ap (λ (n : ℕ). map (λ (c : ℕ). y) (range_with_len 0 n)) long
 
 pub all_empty : (logs : List Log) (count : ℕ) → length logs ≡ count
     → ((k : ℕ) (d : Log) → k < length logs → (get_or logs k d).items ≡ [])
-    → events_of logs ≡ each_from {X = List Event} 0 count (λ c. [])
+    → events_of logs ≡ tabulate {X = List Event} 0 count (λ c. [])
 all_empty logs count long each = readings-alike (λ (log : Log). log.items) [] logs count long each
 
 pub all_roomed : (logs : List Log) (more : ℕ) → ((k : ℕ) → k < length logs → more ≤ room_at logs k)

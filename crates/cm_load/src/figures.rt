@@ -2,7 +2,7 @@
 
 ghost use Rattle.std.specs.Prelude.{◌≡◌, ◌-◌, ◌≤◌, ◌^◌, [], IfOk, replicate, sum_by};
 ghost use Rattle.cm_bits.specs.Bit.{bit_number};
-ghost use Rattle.cm_model.specs.Each.{each_from};
+ghost use Rattle.cm_model.specs.Each.{tabulate};
 ghost use Rattle.cm_model.specs.Keeping.{AreSizes};
 ghost use Rattle.cm_router.specs.Routes.{routing_of};
 ghost use Rattle.cm_petit.specs.Routers.{events_of};
@@ -241,7 +241,7 @@ fn begin(
     requires skip { skip ≤ cycles }
     requires chips { chips ≡ 2 ^ load.now.dims }
     requires all { chips ≤ 4096 }
-    requires logs { events_of logs.old ≡ each_from 0 chips (λ c. []) }
+    requires logs { events_of logs.old ≡ tabulate 0 chips (λ c. []) }
     requires sources { sources.old ≡ replicate (places load.now.dims) no_source }
     ensures value { IfOk result (IsToldOf (loaded_for room load.now (routing_of routing.now) skip cycles)) }
 {
@@ -295,7 +295,7 @@ fn chip_count(n: u8) -> u16
 }
 
 fn blank_logs(alloc: Global, count: usize) -> Result<Vec<Vec<Event>>, NoMemory>
-    ensures value { IfOk result (λ logs. events_of logs.items ≡ each_from 0 count (λ c. [])) }
+    ensures value { IfOk result (λ logs. events_of logs.items ≡ tabulate 0 count (λ c. [])) }
 {
     Ok((0..count).map(|_| Vec::new(alloc)).collect(alloc)?)
 }

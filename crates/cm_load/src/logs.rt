@@ -2,7 +2,7 @@
 
 ghost use Rattle.std.specs.Prelude.{◌≡◌, ◌+◌, ◌<◌, ◌≤◌, [], OnOk, length, vec_len, vec_capacity};
 ghost use Rattle.cm_bits.specs.Bit.{bit};
-ghost use Rattle.cm_model.specs.Each.{each_from};
+ghost use Rattle.cm_model.specs.Each.{tabulate};
 ghost use Rattle.cm_model.specs.Processor.{RECV};
 ghost use Rattle.cm_model.specs.Array.{chip_at};
 ghost use Rattle.cm_element.specs.Wide.{with_flag_plane};
@@ -15,7 +15,7 @@ use cm_message::Event;
 
 /// Empties each log, and makes room in it for so many events.
 pub(crate) fn empty_logs(logs: &mut [Vec<Event>], room: usize) -> Result<(), NoMemory>
-    ensures empty { OnOk result (events_of logs.new ≡ each_from 0 (length logs.old) (λ c. [])) }
+    ensures empty { OnOk result (events_of logs.new ≡ tabulate 0 (length logs.old) (λ c. [])) }
     ensures log_room { OnOk result (HaveLogRoom room (log_rooms_of logs.new)) }
 {
     for c in 0..logs.len() {
@@ -37,7 +37,7 @@ fn empty_log(log: &mut Vec<Event>, room: usize) -> Result<(), NoMemory>
 pub(crate) fn fetch_all(run: &mut Run, chips: u16)
     requires count { length run.old ≡ chips }
     ensures value { run.new
-        ≡ each_from 0 chips (λ c. with_flag_plane (chip_at run.old c) RECV (bit 0)) }
+        ≡ tabulate 0 chips (λ c. with_flag_plane (chip_at run.old c) RECV (bit 0)) }
 {
     for chip in 0..chips {
         run.poke_flag_plane(chip, FlagNo::RECV, 0);

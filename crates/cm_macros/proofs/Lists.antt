@@ -12,22 +12,22 @@ use Rattle.cm_bits.specs.Span.{Span}
 use Rattle.cm_model.specs.declared.act.Nano.{Nano}
 use Rattle.cm_model.specs.declared.act.Act.{Act}
 use Rattle.cm_model.specs.declared.act.Act.TheVariants as act
-use Rattle.cm_model.specs.Each.{each_from}
-use Rattle.cm_model.proofs.Each.{length-each_from}
+use Rattle.cm_model.specs.Each.{tabulate}
+use Rattle.cm_model.proofs.Each.{length-tabulate}
 use Rattle.cm_language.specs.declared.macros.Context.{Context}
 use Rattle.cm_language.specs.declared.macros.Context.TheVariants.{Always, On}
 use Rattle.cm_language.specs.Acts.{nano, each_bit, above, lowest, number_bits, product, product_round, clear_flag}
 
 -- ---- instructions, bit by bit
 
-pub pushed_none : (xs : List Act) (f : ℕ → Nano) → xs ≡ xs ++ map act.Nano (each_from 0 0 f)
-unfolding each_from
+pub pushed_none : (xs : List Act) (f : ℕ → Nano) → xs ≡ xs ++ map act.Nano (tabulate 0 0 f)
+unfolding tabulate
 pushed_none xs f = sym (append-nil xs)
 
-pub pushed_more : (xs ys zs : List Act) (n : ℕ) (f : ℕ → Nano) (x : Nano) → ys ≡ xs ++ map act.Nano (each_from 0 n f)
+pub pushed_more : (xs ys zs : List Act) (n : ℕ) (f : ℕ → Nano) (x : Nano) → ys ≡ xs ++ map act.Nano (tabulate 0 n f)
     → zs ≡ ys ++ act.Nano x ∷ [] → x ≡ f n
-    → zs ≡ xs ++ map act.Nano (each_from 0 (n + 1) f)
-unfolding each_from
+    → zs ≡ xs ++ map act.Nano (tabulate 0 (n + 1) f)
+unfolding tabulate
 pushed_more xs ys zs n f x before grown is =
     grown ∙ (λ i. before i ++ act.Nano (is i) ∷ [])
     ∙ append_assoc xs (map act.Nano (map f (range_with_len 0 n))) (act.Nano (f n) ∷ [])
@@ -58,7 +58,7 @@ rounds_more xs ys zs n f before grown =
 
 pub length-round : (d x y : Span) (j : ℕ) → length (product_round d x y j) ≡ 2 + (d.len - j)
 unfolding product_round
-length-round d x y j = omega (arith, length-each_from {X = Nano} 0 (d.len - j))
+length-round d x y j = omega (arith, length-tabulate {X = Nano} 0 (d.len - j))
 
 pub length-rounds_more : (d x y : Span) (n : ℕ) → length (flat_map (product_round d x y) (range_with_len 0 (n + 1)))
     ≡ length (flat_map (product_round d x y) (range_with_len 0 n)) + (2 + (d.len - n))
@@ -96,8 +96,8 @@ room_for_round d x y n h =
 
 -- ---- counts
 
-pub length_of_bits : (n : ℕ) (f : ℕ → Nano) → length (map act.Nano (each_from 0 n f)) ≡ n
-length_of_bits n f = length-map (each_from 0 n f) act.Nano ∙ length-each_from 0 n f
+pub length_of_bits : (n : ℕ) (f : ℕ → Nano) → length (map act.Nano (tabulate 0 n f)) ≡ n
+length_of_bits n f = length-map (tabulate 0 n f) act.Nano ∙ length-tabulate 0 n f
 
 pub length_of_product : (c : Context) (d x y : Span) (tail : List Nano)
     → length (map act.Nano (number_bits c d 0 ++ (product d x y ++ tail)))
@@ -108,7 +108,7 @@ length_of_product c d x y tail =
       arith,
       length-append (number_bits c d 0) (product d x y ++ tail),
       length-append (product d x y) tail,
-      length-each_from {X = Nano} 0 d.len,
+      length-tabulate {X = Nano} 0 d.len,
     )
 
 -- ---- a number that fits

@@ -4,7 +4,7 @@ use Rattle.std.specs.Prelude.{codes}
 use Rattle.std.specs.Fmt.{digits}
 use Rattle.cm_model.specs.declared.act.Act.{Act}
 use Rattle.cm_model.specs.declared.act.Act.TheVariants as act
-use Rattle.cm_model.specs.Each.{each_from}
+use Rattle.cm_model.specs.Each.{tabulate}
 use Rattle.cm_language.specs.declared.macros.Context.TheVariants.{Always, On}
 use Rattle.cm_language.specs.declared.fault.AsmKind.TheVariants as kind
 use Rattle.cm_language.specs.Acts.{nano}
@@ -28,7 +28,7 @@ not_x = act.Nano (nano Always 5 5 8 8 0x0f 0x00)
 a_line_is_said_as_often_as_it_is_carried_out :
     meaning_of (line (codes "field x 5 1") (line (codes "repeat 2") (line (codes "not x") (codes "end"))))
     ≡ Ok (record { fields = x ∷ []; acts = not_x ∷ not_x ∷ [] })
-unfolding meaning_of layout_after_lines reading_after_places each_from
+unfolding meaning_of layout_after_lines reading_after_places tabulate
 a_line_is_said_as_often_as_it_is_carried_out = refl
 
 lines_repeated_no_times_say_nothing :
@@ -45,7 +45,7 @@ a_constant_stands_for_its_number_above_it_too = refl
 a_phrase_is_said_under_the_context_that_stands :
     meaning_of (line (codes "field x 5 1") (line (codes "if 3") (codes "not x ; a comment")))
     ≡ Ok (record { fields = x ∷ []; acts = act.Nano (nano (On 3) 5 5 8 8 0x0f 0x00) ∷ [] })
-unfolding meaning_of layout_after_lines reading_after_places each_from
+unfolding meaning_of layout_after_lines reading_after_places tabulate
 a_phrase_is_said_under_the_context_that_stands = refl
 
 a_name_is_defined_once :

@@ -12,7 +12,7 @@ use Rattle.cm_model.specs.declared.act.Act.TheVariants as act
 use Rattle.cm_model.specs.declared.message.Message.{Message}
 use Rattle.cm_model.specs.declared.message.Event.{Event}
 use Rattle.cm_model.specs.declared.message.Event.TheVariants.{Injected, Delivered}
-use Rattle.cm_model.specs.Array.{chip_at, list_at}
+use Rattle.cm_model.specs.Array.{chip_at, nth_or_nil}
 use Rattle.cm_model.specs.Router.{Standing, leaves, after_dimension}
 use Rattle.cm_model.specs.Letters.{messages_sent}
 use Rattle.cm_model.specs.Steps.{Step, Instruct, Look, Inject, Cross, Deliver, IsStep, steps_of, all_steps}
@@ -25,7 +25,7 @@ use Rattle.cm_model.specs.Account.{new_events, newly_injected, all_injected, Sam
 use Rattle.cm_model.proofs.Each.{get_or-each_below}
 use Rattle.cm_model.proofs.Flips.{across_below}
 use Rattle.cm_model.proofs.Crossing.{step_of_record}
-use Rattle.cm_model.proofs.Opening.{buffer-opened, list_at-closed}
+use Rattle.cm_model.proofs.Opening.{buffer-opened, nth_or_nil-closed}
 use Rattle.cm_model.proofs.Counting.{AllInCube, sum_by-plus, sum_by-flat_map, sum_by-range}
 use Rattle.cm_model.proofs.Conserving.{one, chips_of, injected_count, amount, account-closed, amount-after_injection}
 use Rattle.cm_model.proofs.Conserving.{injected-after_injection, standing_count-after_dimension, AllInCube-filter}
@@ -55,8 +55,8 @@ AllInCube-records n c i (m ∷ ms) l = (l, AllInCube-records n c (i + 1) ms l)
 pub AllInCube-opened : (n : ℕ) (machine : Machine) → AllInCube n (opened n machine).standing
 unfolding opened
 AllInCube-opened n machine =
-    AllInCube-gathered n (λ c. records_from c 0 (list_at machine.buffers c)) 0 (2 ^ n)
-    (λ c l. AllInCube-records n c 0 (list_at machine.buffers c) (omega arith))
+    AllInCube-gathered n (λ c. records_from c 0 (nth_or_nil machine.buffers c)) 0 (2 ^ n)
+    (λ c l. AllInCube-records n c 0 (nth_or_nil machine.buffers c) (omega arith))
 
 AllInCube-crossed : (n d cycle : ℕ) (leaves : Standing → Bool) (set : List Standing) → d < n → AllInCube n set
     → AllInCube n (map (step_of_record leaves d cycle) set)
@@ -102,13 +102,13 @@ pub record Follows (n : ℕ) (a b : State) : Type 0 where
   pub cube : AllInCube n b.standing
   pub balance : (p : Triple → Bool)
       → amount p n b + injected_count p n a.logs ≡ amount p n a + injected_count p n b.logs
-  pub grows : (c : ℕ) → c < 2 ^ n → Extends (list_at a.logs c) (list_at b.logs c)
+  pub grows : (c : ℕ) → c < 2 ^ n → Extends (nth_or_nil a.logs c) (nth_or_nil b.logs c)
 
 same_log : (xs : List Event) → Extends xs xs
 same_log xs = ([], sym (append-nil xs))
 
 follows_itself : (n : ℕ) (a : State) → AllInCube n a.standing → Follows n a a
-follows_itself n a h = record { cube = h; balance = λ p. refl; grows = λ c l. same_log (list_at a.logs c) }
+follows_itself n a h = record { cube = h; balance = λ p. refl; grows = λ c l. same_log (nth_or_nil a.logs c) }
 
 follows_on : (n : ℕ) (a b c : State) → Follows n a b → Follows n b c → Follows n a c
 follows_on n a b c h k = record {
@@ -117,7 +117,7 @@ follows_on n a b c h k = record {
   grows = λ x l. (
     (h.grows x l).0 ++ (k.grows x l).0,
     (k.grows x l).1 ∙ (ap (λ z. z ++ (k.grows x l).0) (h.grows x l).1
-        ∙ append_assoc (list_at a.logs x) (h.grows x l).0 (k.grows x l).0),
+        ∙ append_assoc (nth_or_nil a.logs x) (h.grows x l).0 (k.grows x l).0),
   );
 }
 
@@ -132,7 +132,7 @@ after_injection_follows n cap state h = record {
   grows = λ c l. (
     map Injected (messages_sent n state.clock c (chip_at state.chips c) (taken_at cap state c)),
     get_or-each_below (2 ^ n)
-        (λ b. list_at state.logs b ++ map Injected
+        (λ b. nth_or_nil state.logs b ++ map Injected
         (messages_sent n state.clock b (chip_at state.chips b) (taken_at cap state b))) c [] l,
   );
 }
@@ -143,7 +143,7 @@ unfolding amount after_dimension
 after_dimension_follows n cap d state below h = record {
   cube = AllInCube-crossed n d state.cycle (leaves state.routing cap d state.standing) state.standing below h;
   balance = λ p. omega (arith, standing_count-after_dimension p state.routing cap d state.cycle state.standing);
-  grows = λ c l. same_log (list_at state.logs c);
+  grows = λ c l. same_log (nth_or_nil state.logs c);
 }
 
 after_delivery_follows : (n : ℕ) (state : State) → AllInCube n state.standing → Follows n state (after_delivery n state)
@@ -154,7 +154,7 @@ after_delivery_follows n state h = record {
   grows = λ c l. (
     map (λ m. Delivered c m) (delivered_at state.chips state.standing c),
     get_or-each_below (2 ^ n)
-        (λ b. list_at state.logs b ++ map (λ m. Delivered b m) (delivered_at state.chips state.standing b)) c [] l,
+        (λ b. nth_or_nil state.logs b ++ map (λ m. Delivered b m) (delivered_at state.chips state.standing b)) c [] l,
   );
 }
 
@@ -162,7 +162,7 @@ state_after_follows : (n cap : ℕ) (state : State) (step : Step) → IsStep n s
     → Follows n state (state_after n cap state step)
 unfolding amount
 state_after_follows n cap state (Instruct nano) s h =
-    record { cube = h; balance = λ p. refl; grows = λ c l. same_log (list_at state.logs c) }
+    record { cube = h; balance = λ p. refl; grows = λ c l. same_log (nth_or_nil state.logs c) }
 state_after_follows n cap state Look s h = follows_itself n state h
 state_after_follows n cap state Inject s h = after_injection_follows n cap state h
 state_after_follows n cap state (Cross d) s h = after_dimension_follows n cap d state s h
@@ -189,21 +189,21 @@ run_follows n cap machine acts =
     (AllInCube-opened n machine)
 
 grown_log : (n cap : ℕ) (machine : Machine) (acts : List Act) (c : ℕ) → c < 2 ^ n
-    → Extends (list_at machine.logs c) (list_at (state_left n cap machine acts).logs c)
+    → Extends (nth_or_nil machine.logs c) (nth_or_nil (state_left n cap machine acts).logs c)
 unfolding opened
 grown_log n cap machine acts c l = (run_follows n cap machine acts).grows c l
 
 -- the logs only grow
 pub logs_grow : (n cap : ℕ) (machine : Machine) (acts : List Act) (c : ℕ) → c < 2 ^ n →
-    list_at (run_of n cap machine acts).logs c ≡ list_at machine.logs c ++ new_events machine
+    nth_or_nil (run_of n cap machine acts).logs c ≡ nth_or_nil machine.logs c ++ new_events machine
     (run_of n cap machine acts) c
 unfolding run_of closed
 logs_grow n cap machine acts c l =
-    let grown : Extends (list_at machine.logs c) (list_at (state_left n cap machine acts).logs c) =
+    let grown : Extends (nth_or_nil machine.logs c) (nth_or_nil (state_left n cap machine acts).logs c) =
     grown_log n cap machine acts c l in
-    grown.1 ∙ ap (λ z. list_at machine.logs c ++ z)
-    (sym (ap (drop (length (list_at machine.logs c))) grown.1
-    ∙ drop_at (list_at machine.logs c) grown.0 (length (list_at machine.logs c)) refl))
+    grown.1 ∙ ap (λ z. nth_or_nil machine.logs c ++ z)
+    (sym (ap (drop (length (nth_or_nil machine.logs c))) grown.1
+    ∙ drop_at (nth_or_nil machine.logs c) grown.0 (length (nth_or_nil machine.logs c)) refl))
 
 -- what was injected before and what is new is all that was injected
 injected_grows : (p : Triple → Bool) (n cap : ℕ) (machine : Machine) (acts : List Act) →
@@ -212,14 +212,14 @@ injected_grows : (p : Triple → Bool) (n cap : ℕ) (machine : Machine) (acts :
 unfolding newly_injected
 injected_grows p n cap machine acts =
     let after : Machine = run_of n cap machine acts in
-    sum_by-range (λ c. count_by p (filter_map injected_triple (list_at after.logs c)))
-    (λ c. count_by p (filter_map injected_triple (list_at machine.logs c)) + count_by p
+    sum_by-range (λ c. count_by p (filter_map injected_triple (nth_or_nil after.logs c)))
+    (λ c. count_by p (filter_map injected_triple (nth_or_nil machine.logs c)) + count_by p
     (filter_map injected_triple (new_events machine after c))) 0 (2 ^ n)
     (λ c k l. ap (λ z. count_by p (filter_map injected_triple z)) (logs_grow n cap machine acts c (omega arith))
-    ∙ (ap (count_by p) (filter_map-append injected_triple (list_at machine.logs c) (new_events machine after c))
-    ∙ sum_by-append (one p) (filter_map injected_triple (list_at machine.logs c))
+    ∙ (ap (count_by p) (filter_map-append injected_triple (nth_or_nil machine.logs c) (new_events machine after c))
+    ∙ sum_by-append (one p) (filter_map injected_triple (nth_or_nil machine.logs c))
     (filter_map injected_triple (new_events machine after c))))
-    ∙ (sum_by-plus (λ c. count_by p (filter_map injected_triple (list_at machine.logs c)))
+    ∙ (sum_by-plus (λ c. count_by p (filter_map injected_triple (nth_or_nil machine.logs c)))
     (λ c. count_by p (filter_map injected_triple (new_events machine after c))) (chips_of n)
     ∙ ap (λ k. injected_count p n machine.logs + k)
     (sym (sum_by-flat_map (one p) (λ c. filter_map injected_triple (new_events machine after c)) (chips_of n))))
@@ -228,8 +228,8 @@ account_at-same : (n : ℕ) (machine : Machine) (c : ℕ) → c < 2 ^ n
     → account_at machine c ≡ account_at (closed n (opened n machine)) c
 unfolding closed opened
 account_at-same n machine c l =
-    ap (λ ms. map (standing_triple c) ms ++ filter_map delivered_triple (list_at machine.logs c))
-    (sym (list_at-closed n (opened n machine) c l ∙ buffer-opened n machine c l))
+    ap (λ ms. map (standing_triple c) ms ++ filter_map delivered_triple (nth_or_nil machine.logs c))
+    (sym (nth_or_nil-closed n (opened n machine) c l ∙ buffer-opened n machine c l))
 
 account-same : (p : Triple → Bool) (n : ℕ) (machine : Machine)
     → count_by p (account n machine) ≡ count_by p (account n (closed n (opened n machine)))
@@ -288,7 +288,7 @@ all_injected-count : (p : Triple → Bool) (n : ℕ) (machine : Machine)
     → count_by p (all_injected n machine) ≡ injected_count p n machine.logs
 unfolding all_injected
 all_injected-count p n machine =
-    sum_by-flat_map (one p) (λ c. filter_map injected_triple (list_at machine.logs c)) (chips_of n)
+    sum_by-flat_map (one p) (λ c. filter_map injected_triple (nth_or_nil machine.logs c)) (chips_of n)
 
 -- what was injected goes on to stand in the account
 pub injected_stand_in_the_account : (n cap : ℕ) (machine : Machine) (acts : List Act) →

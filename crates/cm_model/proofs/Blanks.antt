@@ -9,12 +9,12 @@ use Rattle.cm_model.specs.Processor.{Processor, blank_processor}
 use Rattle.cm_model.specs.Chip.{no_processor, blank_chip}
 use Rattle.cm_model.specs.Whole.{IsProcessor, IsChip}
 use Rattle.cm_model.specs.Wiring.{IsWireOf}
-use Rattle.cm_model.specs.Array.{list_at}
+use Rattle.cm_model.specs.Array.{nth_or_nil}
 use Rattle.cm_model.specs.Machine.{blank_machine}
 use Rattle.cm_model.specs.Account.{Triple, injected_triple, account_at, account, all_injected}
 use Rattle.cm_model.specs.Found.{same_tag}
 use Rattle.cm_model.specs.Keeping.{IsMessage, IsEventOf, IsMachine}
-use Rattle.cm_model.proofs.Each.{length-each_from, get_or-each_below}
+use Rattle.cm_model.proofs.Each.{length-tabulate, get_or-each_below}
 
 IsProcessor-blank : IsProcessor blank_processor
 unfolding blank_processor
@@ -28,7 +28,7 @@ IsProcessor-blank = record {
 IsChip-blank : IsChip blank_chip
 unfolding blank_chip
 IsChip-blank = record {
-  count = length-each_from 0 16 (λ p. blank_processor);
+  count = length-tabulate 0 16 (λ p. blank_processor);
   each = λ p l. subst (λ (q : Processor). IsProcessor q)
       (sym (get_or-each_below 16 (λ k. blank_processor) p no_processor l)) IsProcessor-blank;
 }
@@ -39,11 +39,11 @@ nothing_gathered : {X : Type 0} (f : ℕ → List X) (a k : ℕ) → ((c : ℕ) 
 nothing_gathered f a zero h = refl
 nothing_gathered f a (suc k) h = rw (h a (omega arith), nothing_gathered f (a + 1) k (λ c l. h c (omega arith))) refl
 
-no_buffer : (n c : ℕ) → c < 2 ^ n → list_at (blank_machine n).buffers c ≡ []
+no_buffer : (n c : ℕ) → c < 2 ^ n → nth_or_nil (blank_machine n).buffers c ≡ []
 unfolding blank_machine
 no_buffer n c l = get_or-each_below {X = List Message} (2 ^ n) (λ b. []) c [] l
 
-no_log : (n c : ℕ) → c < 2 ^ n → list_at (blank_machine n).logs c ≡ []
+no_log : (n c : ℕ) → c < 2 ^ n → nth_or_nil (blank_machine n).logs c ≡ []
 unfolding blank_machine
 no_log n c l = get_or-each_below {X = List Event} (2 ^ n) (λ b. []) c [] l
 
@@ -54,16 +54,16 @@ no_account n = nothing_gathered (account_at (blank_machine n)) 0 (2 ^ n)
 
 none_injected : (n : ℕ) → all_injected n (blank_machine n) ≡ []
 unfolding all_injected
-none_injected n = nothing_gathered (λ c. filter_map injected_triple (list_at (blank_machine n).logs c)) 0 (2 ^ n)
+none_injected n = nothing_gathered (λ c. filter_map injected_triple (nth_or_nil (blank_machine n).logs c)) 0 (2 ^ n)
     (λ c l. rw (no_log n c (omega arith)) refl)
 
 -- at whatever count of petit cycles
 pub IsMachine-blank_at : (n cap clock : ℕ) → IsMachine n cap (record (blank_machine n) { clock = clock })
 unfolding blank_machine account all_injected
 IsMachine-blank_at n cap clock = record {
-  chip_count = length-each_from 0 (2 ^ n) (λ c. blank_chip);
-  buffer_count = length-each_from {X = List Message} 0 (2 ^ n) (λ c. []);
-  log_count = length-each_from {X = List Event} 0 (2 ^ n) (λ c. []);
+  chip_count = length-tabulate 0 (2 ^ n) (λ c. blank_chip);
+  buffer_count = length-tabulate {X = List Message} 0 (2 ^ n) (λ c. []);
+  log_count = length-tabulate {X = List Event} 0 (2 ^ n) (λ c. []);
   whole = λ c l. subst (λ (chip : List Processor). IsChip chip)
       (sym (get_or-each_below (2 ^ n) (λ b. blank_chip) c [] l)) IsChip-blank;
   room = λ c l. subst (λ (ms : List Message). length ms ≤ cap) (sym (no_buffer n c l)) (omega arith);

@@ -11,7 +11,7 @@ use Rattle.std.specs.List.{filter, filter_map, flat_map, list_any, sum_by, count
 use Rattle.cm_model.specs.declared.message.Message.{Message}
 use Rattle.cm_model.specs.declared.message.Event.{Event}
 use Rattle.cm_model.specs.declared.message.Event.TheVariants.{Injected, Delivered}
-use Rattle.cm_model.specs.Array.{Chips, each_chip, chip_at, list_at}
+use Rattle.cm_model.specs.Array.{Chips, each_chip, chip_at, nth_or_nil}
 use Rattle.cm_model.specs.Wiring.{Routing}
 use Rattle.cm_model.specs.Router.{Standing, is_at, standing_at, leaves, record_across, after_dimension}
 use Rattle.cm_model.specs.Order.{in_order, queue, messages_of}
@@ -25,7 +25,7 @@ use Rattle.cm_model.proofs.Each.{get_or-each_below}
 use Rattle.cm_model.proofs.Flips.{xor_across}
 use Rattle.cm_model.proofs.Crossing.{step_of_record}
 use Rattle.cm_model.proofs.Delivering.{filter_twice}
-use Rattle.cm_model.proofs.Opening.{list_at-closed}
+use Rattle.cm_model.proofs.Opening.{nth_or_nil-closed}
 use Rattle.cm_model.proofs.Counting.{AllInCube, sum_by-plus, sum_by-map, sum_by-flat_map, sum_by-same, sum_by-none}
 use Rattle.cm_model.proofs.Counting.{sum_by-range, sum_by-in_order, sum_by_chips}
 
@@ -52,11 +52,11 @@ standing_count p set = sum_by (λ r. one p (triple_of r)) set
 
 -- how many lines of deliveries pass
 abbrev pub delivered_count : (Triple → Bool) → ℕ → List (List Event) → ℕ
-delivered_count p n logs = sum_by (λ c. count_by p (filter_map delivered_triple (list_at logs c))) (chips_of n)
+delivered_count p n logs = sum_by (λ c. count_by p (filter_map delivered_triple (nth_or_nil logs c))) (chips_of n)
 
 -- how many lines of injections pass
 abbrev pub injected_count : (Triple → Bool) → ℕ → List (List Event) → ℕ
-injected_count p n logs = sum_by (λ c. count_by p (filter_map injected_triple (list_at logs c))) (chips_of n)
+injected_count p n logs = sum_by (λ c. count_by p (filter_map injected_triple (nth_or_nil logs c))) (chips_of n)
 
 -- how many lines of a state's account pass
 unfoldable pub amount : (Triple → Bool) → ℕ → State → ℕ
@@ -66,18 +66,18 @@ amount p n state = standing_count p state.standing + delivered_count p n state.l
 
 account_at-closed : (p : Triple → Bool) (n : ℕ) (state : State) (c : ℕ) → c < 2 ^ n →
     count_by p (account_at (closed n state) c) ≡ sum_by (λ r. one p (standing_triple c r.message))
-    (standing_at c state.standing) + count_by p (filter_map delivered_triple (list_at state.logs c))
+    (standing_at c state.standing) + count_by p (filter_map delivered_triple (nth_or_nil state.logs c))
 unfolding closed queue
 account_at-closed p n state c l =
-    let here : sum_by (one p) (map (standing_triple c) (list_at (closed n state).buffers c))
+    let here : sum_by (one p) (map (standing_triple c) (nth_or_nil (closed n state).buffers c))
     ≡ sum_by (λ r. one p (standing_triple c r.message)) (standing_at c state.standing) =
-    sum_by-map (one p) (standing_triple c) (list_at (closed n state).buffers c)
-    ∙ (ap (sum_by (λ m. one p (standing_triple c m))) (list_at-closed n state c l)
+    sum_by-map (one p) (standing_triple c) (nth_or_nil (closed n state).buffers c)
+    ∙ (ap (sum_by (λ m. one p (standing_triple c m))) (nth_or_nil-closed n state c l)
     ∙ (sum_by-map (λ m. one p (standing_triple c m)) (λ r. r.message) (in_order (standing_at c state.standing))
     ∙ sum_by-in_order (λ r. one p (standing_triple c r.message)) (standing_at c state.standing))) in
-    sum_by-append (one p) (map (standing_triple c) (list_at (closed n state).buffers c))
-    (filter_map delivered_triple (list_at state.logs c))
-    ∙ ap (λ k. k + count_by p (filter_map delivered_triple (list_at state.logs c))) here
+    sum_by-append (one p) (map (standing_triple c) (nth_or_nil (closed n state).buffers c))
+    (filter_map delivered_triple (nth_or_nil state.logs c))
+    ∙ ap (λ k. k + count_by p (filter_map delivered_triple (nth_or_nil state.logs c))) here
 
 pub account-closed : (p : Triple → Bool) (n : ℕ) (state : State) → AllInCube n state.standing
     → count_by p (account n (closed n state)) ≡ amount p n state
@@ -86,10 +86,10 @@ account-closed p n state h =
     sum_by-flat_map (one p) (account_at (closed n state)) (chips_of n)
     ∙ (sum_by-range (λ c. sum_by (one p) (account_at (closed n state) c))
     (λ c. sum_by (λ r. one p (standing_triple c r.message)) (standing_at c state.standing) + count_by p
-    (filter_map delivered_triple (list_at state.logs c))) 0 (2 ^ n)
+    (filter_map delivered_triple (nth_or_nil state.logs c))) 0 (2 ^ n)
     (λ c k l. account_at-closed p n state c (omega arith))
     ∙ (sum_by-plus (λ c. sum_by (λ r. one p (standing_triple c r.message)) (standing_at c state.standing))
-    (λ c. count_by p (filter_map delivered_triple (list_at state.logs c))) (chips_of n)
+    (λ c. count_by p (filter_map delivered_triple (nth_or_nil state.logs c))) (chips_of n)
     ∙ ap (λ k. k + delivered_count p n state.logs)
     (sum_by_chips n (λ c r. one p (standing_triple c r.message)) state.standing h)))
 
@@ -119,17 +119,17 @@ no_injection b (m ∷ ms) = no_injection b ms
 -- what more events add to a count over all logs
 pub more_events : (p : Triple → Bool) (n : ℕ) (h : ℕ → Event → Option Triple) (logs : List (List Event)) (more : ℕ
     → List Event) →
-    sum_by (λ c. count_by p (filter_map (h c) (list_at (each_chip n (λ b. list_at logs b ++ more b)) c))) (chips_of n)
-    ≡ sum_by (λ c. count_by p (filter_map (h c) (list_at logs c))) (chips_of n) + sum_by
+    sum_by (λ c. count_by p (filter_map (h c) (nth_or_nil (each_chip n (λ b. nth_or_nil logs b ++ more b)) c))) (chips_of n)
+    ≡ sum_by (λ c. count_by p (filter_map (h c) (nth_or_nil logs c))) (chips_of n) + sum_by
     (λ c. count_by p (filter_map (h c) (more c))) (chips_of n)
 more_events p n h logs more =
-    sum_by-range (λ c. count_by p (filter_map (h c) (list_at (each_chip n (λ b. list_at logs b ++ more b)) c)))
-    (λ c. count_by p (filter_map (h c) (list_at logs c)) + count_by p (filter_map (h c) (more c))) 0 (2 ^ n)
+    sum_by-range (λ c. count_by p (filter_map (h c) (nth_or_nil (each_chip n (λ b. nth_or_nil logs b ++ more b)) c)))
+    (λ c. count_by p (filter_map (h c) (nth_or_nil logs c)) + count_by p (filter_map (h c) (more c))) 0 (2 ^ n)
     (λ c k l. ap (λ z. count_by p (filter_map (h c) z))
-    (get_or-each_below (2 ^ n) (λ b. list_at logs b ++ more b) c [] (omega arith))
-    ∙ (ap (count_by p) (filter_map-append (h c) (list_at logs c) (more c))
-    ∙ sum_by-append (one p) (filter_map (h c) (list_at logs c)) (filter_map (h c) (more c))))
-    ∙ sum_by-plus (λ c. count_by p (filter_map (h c) (list_at logs c))) (λ c. count_by p (filter_map (h c) (more c)))
+    (get_or-each_below (2 ^ n) (λ b. nth_or_nil logs b ++ more b) c [] (omega arith))
+    ∙ (ap (count_by p) (filter_map-append (h c) (nth_or_nil logs c) (more c))
+    ∙ sum_by-append (one p) (filter_map (h c) (nth_or_nil logs c)) (filter_map (h c) (more c))))
+    ∙ sum_by-plus (λ c. count_by p (filter_map (h c) (nth_or_nil logs c))) (λ c. count_by p (filter_map (h c) (more c)))
     (chips_of n)
 
 -- ---- injection

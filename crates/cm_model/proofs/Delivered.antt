@@ -10,7 +10,7 @@ use Rattle.cm_model.specs.declared.message.Event.{Event}
 use Rattle.cm_model.specs.declared.message.Event.TheVariants.{Delivered}
 use Rattle.cm_model.specs.Processor.{Processor}
 use Rattle.cm_model.specs.Chip.{processor_at}
-use Rattle.cm_model.specs.Array.{chip_at, list_at}
+use Rattle.cm_model.specs.Array.{chip_at, nth_or_nil}
 use Rattle.cm_model.specs.Letters.{is_for, can_receive, has_arrived, chip_after_delivery, AreDeliveries, HasReceived}
 use Rattle.cm_model.specs.Machine.{Machine}
 use Rattle.cm_model.specs.Buffers.{delivered_in, machine_after_delivery}
@@ -77,7 +77,7 @@ pub delivered_are_received : (n cap : ℕ) (machine : Machine) (c : ℕ) (m : Me
     → Contains (delivered_in machine c) m → IsReceived machine (machine_after_delivery n machine) c m
 unfolding machine_after_delivery
 delivered_are_received n cap machine c m l h inside =
-    let here : List Message = list_at machine.buffers c in
+    let here : List Message = nth_or_nil machine.buffers c in
     let chip : List Processor = chip_at machine.chips c in
     let out : List Message = delivered_in machine c in
     let apart : AreDeliveries (can_receive chip) out = deliveries_are_apart (can_receive chip) here in
@@ -88,16 +88,16 @@ delivered_are_received n cap machine c m l h inside =
     found_once (is_for m.proc) out m (apart.apart m.proc) inside (eq-eqb m.proc m.proc refl) in
     let chips : chip_at (machine_after_delivery n machine).chips c ≡ chip_after_delivery out chip =
     get_or-each_below (2 ^ n) (λ b. chip_after_delivery (delivered_in machine b) (chip_at machine.chips b)) c [] l in
-    let logs : list_at (machine_after_delivery n machine).logs c
-    ≡ list_at machine.logs c ++ map (λ q. Delivered c q) out =
+    let logs : nth_or_nil (machine_after_delivery n machine).logs c
+    ≡ nth_or_nil machine.logs c ++ map (λ q. Delivered c q) out =
     get_or-each_below (2 ^ n)
-    (λ b. list_at machine.logs b ++ map (λ q. Delivered b q) (delivered_in machine b)) c [] l in
+    (λ b. nth_or_nil machine.logs b ++ map (λ q. Delivered b q) (delivered_in machine b)) c [] l in
     record {
       stood = stands;
       arrived = eqb-true m.rel 0 home;
       received = subst (λ (z : List Processor). HasReceived m (processor_at z m.proc)) (sym chips)
           (payloads_are_received chip out m.proc m (h.whole c l) good.proc good.payload mine);
       told = subst (λ (z : List Event). Contains z (Delivered c m)) (sym logs)
-          (Contains-append_right (list_at machine.logs c) (map (λ q. Delivered c q) out) (Delivered c m)
+          (Contains-append_right (nth_or_nil machine.logs c) (map (λ q. Delivered c q) out) (Delivered c m)
           (holds_image (λ q. Delivered c q) out m inside));
     }

@@ -7,7 +7,7 @@ use Rattle.std.proofs.lemmas.List.Folds.{Any-from_list_any}
 use Rattle.std.specs.List.{All, Any, flat_map, filter_map, cons_option, find, list_any, range_with_len}
 use Rattle.cm_bits.specs.declared.place.Place.{Place}
 use Rattle.cm_model.specs.declared.message.Tag.{Tag}
-use Rattle.cm_model.specs.Array.{list_at}
+use Rattle.cm_model.specs.Array.{nth_or_nil}
 use Rattle.cm_model.specs.Machine.{Machine}
 use Rattle.cm_model.specs.Found.{same_tag, router_of, delivery_place, delivery_places}
 use Rattle.cm_model.specs.Found.{found_from, found_in, IsWhereabouts}
@@ -94,25 +94,25 @@ none_of_chips f a (suc k) e c l m = none_of_next f a k c (f a) refl e l m (λ g.
 
 -- the test whether a message of a tag stands at a chip
 abbrev stands_there : Machine → Tag → ℕ → Bool
-stands_there machine tag c = list_any (λ m. same_tag m.tag tag) (list_at machine.buffers c)
+stands_there machine tag c = list_any (λ m. same_tag m.tag tag) (nth_or_nil machine.buffers c)
 
 found_there : (n : ℕ) (machine : Machine) (tag : Tag) (o : Option ℕ) (places : List Place)
     → IsFirstOf (stands_there machine tag) 0 (2 ^ n) o → delivery_places n machine tag ≡ places →
     IsWhereabouts n machine tag (found_from o places)
 found_there n machine tag (Some c) places h e =
-    (omega (arith, h.1), Any-from_list_any (λ m. same_tag m.tag tag) (list_at machine.buffers c) h.2)
+    (omega (arith, h.1), Any-from_list_any (λ m. same_tag m.tag tag) (nth_or_nil machine.buffers c) h.2)
 found_there n machine tag None (place ∷ places) h e =
-    let found = first_of_chips (λ c. filter_map (delivery_place tag) (list_at machine.logs c)) 0 (2 ^ n) place places e
+    let found = first_of_chips (λ c. filter_map (delivery_place tag) (nth_or_nil machine.logs c)) 0 (2 ^ n) place places e
     in (
       found.0,
       omega (arith, found.1),
-      first_of_filter (delivery_place tag) (list_at machine.logs found.0) place found.2 found.3,
+      first_of_filter (delivery_place tag) (nth_or_nil machine.logs found.0) place found.2 found.3,
     )
 found_there n machine tag None [] h e =
     λ c l. record {
-      stands = none_of (λ m. same_tag m.tag tag) (list_at machine.buffers c) (h c (omega arith) (omega arith));
-      delivered = none_of_filter (delivery_place tag) (list_at machine.logs c)
-          (none_of_chips (λ b. filter_map (delivery_place tag) (list_at machine.logs b)) 0 (2 ^ n) e c (omega arith)
+      stands = none_of (λ m. same_tag m.tag tag) (nth_or_nil machine.buffers c) (h c (omega arith) (omega arith));
+      delivered = none_of_filter (delivery_place tag) (nth_or_nil machine.logs c)
+          (none_of_chips (λ b. filter_map (delivery_place tag) (nth_or_nil machine.logs b)) 0 (2 ^ n) e c (omega arith)
           (omega arith));
     }
 

@@ -11,7 +11,7 @@ use Rattle.cm_model.specs.declared.message.Event.TheVariants.{Injected, Delivere
 use Rattle.cm_model.specs.Processor.{Processor}
 use Rattle.cm_model.specs.Chip.{chip_after}
 use Rattle.cm_model.specs.Whole.{IsChip}
-use Rattle.cm_model.specs.Array.{each_chip, chip_at, incoming, after_nano, list_at}
+use Rattle.cm_model.specs.Array.{each_chip, chip_at, incoming, after_nano, nth_or_nil}
 use Rattle.cm_model.specs.Letters.{chip_after_injection, chip_after_delivery, can_receive}
 use Rattle.cm_model.specs.Steps.{Step, Instruct, Look, Inject, Cross, Deliver, IsStep, steps_of}
 use Rattle.cm_model.specs.Machine.{Machine, run_of}
@@ -22,7 +22,7 @@ use Rattle.cm_model.specs.OneChip.{kept}
 use Rattle.cm_model.specs.Buffers.{after_steps, after_act, after_acts}
 use Rattle.cm_model.specs.Account.{account, all_injected, HasLines}
 use Rattle.cm_model.specs.Keeping.{IsMessage, IsEventOf, BornBefore, HasTagsOnce, IsSound, IsMachine}
-use Rattle.cm_model.proofs.Each.{length-each_from, get_or-each_below}
+use Rattle.cm_model.proofs.Each.{length-tabulate, get_or-each_below}
 use Rattle.cm_model.proofs.Flips.{across_below}
 use Rattle.cm_model.proofs.Injecting.{AllBelow-taken}
 use Rattle.cm_model.proofs.Runs.{run_of-one, run_of-acted}
@@ -39,12 +39,12 @@ made_whole : (n : ℕ) (f : ℕ → List Processor) → ((c : ℕ) → c < 2 ^ n
 made_whole n f h c l = subst (λ (chip : List Processor). IsChip chip) (sym (get_or-each_below (2 ^ n) f c [] l)) (h c l)
 
 made_messages : (n : ℕ) (f : ℕ → List Message) → ((c : ℕ) → c < 2 ^ n → All (IsMessage n) (f c)) → (c : ℕ) → c < 2 ^ n
-    → All (IsMessage n) (list_at (each_chip n f) c)
+    → All (IsMessage n) (nth_or_nil (each_chip n f) c)
 made_messages n f h c l =
     subst (λ (ms : List Message). All (IsMessage n) ms) (sym (get_or-each_below (2 ^ n) f c [] l)) (h c l)
 
 made_events : (n : ℕ) (f : ℕ → List Event) → ((c : ℕ) → c < 2 ^ n → All (IsEventOf n c) (f c)) → (c : ℕ) → c < 2 ^ n
-    → All (IsEventOf n c) (list_at (each_chip n f) c)
+    → All (IsEventOf n c) (nth_or_nil (each_chip n f) c)
 made_events n f h c l = subst (λ (es : List Event). All (IsEventOf n c) es) (sym (get_or-each_below (2 ^ n) f c [] l))
     (h c l)
 
@@ -54,7 +54,7 @@ unfolding after_nano
 sound-nano n cap machine nano h =
     let f : ℕ → List Processor = λ c. chip_after nano (incoming n nano machine.chips c) (chip_at machine.chips c) in
     record {
-      chip_count = length-each_from 0 (2 ^ n) f;
+      chip_count = length-tabulate 0 (2 ^ n) f;
       buffer_count = h.buffer_count;
       log_count = h.log_count;
       whole = made_whole n f
@@ -70,25 +70,25 @@ sound-injection : (n cap : ℕ) (machine : Machine) → IsSound n cap machine
 unfolding machine_after_injection
 sound-injection n cap machine h =
     let chips : ℕ → List Processor = λ c. chip_after_injection (taken_in cap machine c) (chip_at machine.chips c) in
-    let buffers : ℕ → List Message = λ c. list_at machine.buffers c ++ sent_in n cap machine c in
-    let logs : ℕ → List Event = λ c. list_at machine.logs c ++ map Injected (sent_in n cap machine c) in
+    let buffers : ℕ → List Message = λ c. nth_or_nil machine.buffers c ++ sent_in n cap machine c in
+    let logs : ℕ → List Event = λ c. nth_or_nil machine.logs c ++ map Injected (sent_in n cap machine c) in
     record {
-      chip_count = length-each_from 0 (2 ^ n) chips;
-      buffer_count = length-each_from 0 (2 ^ n) buffers;
-      log_count = length-each_from 0 (2 ^ n) logs;
+      chip_count = length-tabulate 0 (2 ^ n) chips;
+      buffer_count = length-tabulate 0 (2 ^ n) buffers;
+      log_count = length-tabulate 0 (2 ^ n) logs;
       whole = made_whole n chips
           (λ c l. IsChip-after_injection (taken_in cap machine c) (chip_at machine.chips c) (h.whole c l));
       room = HasRoom-after_injection n cap machine h.room;
       messages = made_messages n buffers
-          (λ c l. All-append (IsMessage n) (list_at machine.buffers c) (sent_in n cap machine c) (h.messages c l)
+          (λ c l. All-append (IsMessage n) (nth_or_nil machine.buffers c) (sent_in n cap machine c) (h.messages c l)
           (AllMessages-sent n machine.clock c (chip_at machine.chips c) (taken_in cap machine c) l
-          (AllBelow-taken cap (length (list_at machine.buffers c)) (chip_at machine.chips c))));
+          (AllBelow-taken cap (length (nth_or_nil machine.buffers c)) (chip_at machine.chips c))));
       routing = h.routing;
       events = made_events n logs
-          (λ c l. All-append (IsEventOf n c) (list_at machine.logs c) (map Injected (sent_in n cap machine c))
+          (λ c l. All-append (IsEventOf n c) (nth_or_nil machine.logs c) (map Injected (sent_in n cap machine c))
           (h.events c l)
           (AllEvents-sent n machine.clock c (chip_at machine.chips c) (taken_in cap machine c) l
-          (AllBelow-taken cap (length (list_at machine.buffers c)) (chip_at machine.chips c))));
+          (AllBelow-taken cap (length (nth_or_nil machine.buffers c)) (chip_at machine.chips c))));
     }
 
 sound-dimension : (n cap d : ℕ) (machine : Machine) → d < n → IsSound n cap machine
@@ -96,18 +96,18 @@ sound-dimension : (n cap d : ℕ) (machine : Machine) → d < n → IsSound n ca
 unfolding machine_after_dimension
 sound-dimension n cap d machine below h =
     let buffers : ℕ → List Message =
-    λ c. buffer_after_dimension (way_of machine.routing c d) cap d (list_at machine.buffers c)
+    λ c. buffer_after_dimension (way_of machine.routing c d) cap d (nth_or_nil machine.buffers c)
     (sent_across machine.routing cap d machine.buffers (bit_xor c (2 ^ d))) in
     record {
       chip_count = h.chip_count;
-      buffer_count = length-each_from 0 (2 ^ n) buffers;
+      buffer_count = length-tabulate 0 (2 ^ n) buffers;
       log_count = h.log_count;
       whole = h.whole;
       room = HasRoom-after_dimension n cap d machine below h.room;
       messages = made_messages n buffers
           (λ c l. AllMessages-after_dimension (way_of machine.routing c d) (way_of machine.routing (bit_xor c (2 ^ d)) d) n cap d
-          (list_at machine.buffers c)
-          (list_at machine.buffers (bit_xor c (2 ^ d))) below
+          (nth_or_nil machine.buffers c)
+          (nth_or_nil machine.buffers (bit_xor c (2 ^ d))) below
           (h.messages c l) (h.messages (bit_xor c (2 ^ d)) (across_below n d c below l)));
       events = h.events;
       routing = h.routing;
@@ -119,23 +119,23 @@ unfolding machine_after_delivery
 sound-delivery n cap machine h =
     let chips : ℕ → List Processor = λ c. chip_after_delivery (delivered_in machine c) (chip_at machine.chips c) in
     let buffers : ℕ → List Message =
-    λ c. kept (can_receive (chip_at machine.chips c)) [] (list_at machine.buffers c) in
-    let logs : ℕ → List Event = λ c. list_at machine.logs c ++ map (λ m. Delivered c m) (delivered_in machine c) in
+    λ c. kept (can_receive (chip_at machine.chips c)) [] (nth_or_nil machine.buffers c) in
+    let logs : ℕ → List Event = λ c. nth_or_nil machine.logs c ++ map (λ m. Delivered c m) (delivered_in machine c) in
     record {
-      chip_count = length-each_from 0 (2 ^ n) chips;
-      buffer_count = length-each_from 0 (2 ^ n) buffers;
-      log_count = length-each_from 0 (2 ^ n) logs;
+      chip_count = length-tabulate 0 (2 ^ n) chips;
+      buffer_count = length-tabulate 0 (2 ^ n) buffers;
+      log_count = length-tabulate 0 (2 ^ n) logs;
       whole = made_whole n chips
           (λ c l. IsChip-after_delivery (delivered_in machine c) (chip_at machine.chips c) (h.whole c l));
       room = HasRoom-after_delivery n cap machine h.room;
       messages = made_messages n buffers
-          (λ c l. AllMessages-kept n (can_receive (chip_at machine.chips c)) [] (list_at machine.buffers c)
+          (λ c l. AllMessages-kept n (can_receive (chip_at machine.chips c)) [] (nth_or_nil machine.buffers c)
           (h.messages c l));
       routing = h.routing;
       events = made_events n logs
-          (λ c l. All-append (IsEventOf n c) (list_at machine.logs c)
+          (λ c l. All-append (IsEventOf n c) (nth_or_nil machine.logs c)
           (map (λ m. Delivered c m) (delivered_in machine c)) (h.events c l)
-          (AllEvents-delivered n c (can_receive (chip_at machine.chips c)) [] (list_at machine.buffers c)
+          (AllEvents-delivered n c (can_receive (chip_at machine.chips c)) [] (nth_or_nil machine.buffers c)
           (h.messages c l)));
     }
 

@@ -9,7 +9,7 @@ use Rattle.cm_model.specs.declared.act.Act.{Act}
 use Rattle.cm_model.specs.declared.message.Message.{Message}
 use Rattle.cm_model.specs.declared.message.Event.{Event}
 use Rattle.cm_model.specs.declared.message.Event.TheVariants.{Injected, Delivered}
-use Rattle.cm_model.specs.Array.{chip_at, list_at}
+use Rattle.cm_model.specs.Array.{chip_at, nth_or_nil}
 use Rattle.cm_model.specs.Letters.{can_receive}
 use Rattle.cm_model.specs.Steps.{Step, Instruct, Look, Inject, Cross, Deliver, all_steps}
 use Rattle.cm_model.specs.Buffers.{sent_in, machine_after_injection, delivered_in, machine_after_dimension}
@@ -39,24 +39,24 @@ added n cap machine c (Cross d) = []
 added n cap machine c Deliver = map (λ m. Delivered c m) (delivered_in machine c)
 
 log_after : (n cap : ℕ) (machine : Machine) (step : Step) (c : ℕ) → c < 2 ^ n
-    → list_at (after_step n cap machine step).logs c ≡ list_at machine.logs c ++ added n cap machine c step
+    → nth_or_nil (after_step n cap machine step).logs c ≡ nth_or_nil machine.logs c ++ added n cap machine c step
 unfolding machine_after_injection machine_after_delivery machine_after_dimension
-log_after n cap machine (Instruct nano) c l = sym (append-nil (list_at machine.logs c))
-log_after n cap machine Look c l = sym (append-nil (list_at machine.logs c))
+log_after n cap machine (Instruct nano) c l = sym (append-nil (nth_or_nil machine.logs c))
+log_after n cap machine Look c l = sym (append-nil (nth_or_nil machine.logs c))
 log_after n cap machine Inject c l =
-    get_or-each_below (2 ^ n) (λ b. list_at machine.logs b ++ map Injected (sent_in n cap machine b)) c [] l
-log_after n cap machine (Cross d) c l = sym (append-nil (list_at machine.logs c))
+    get_or-each_below (2 ^ n) (λ b. nth_or_nil machine.logs b ++ map Injected (sent_in n cap machine b)) c [] l
+log_after n cap machine (Cross d) c l = sym (append-nil (nth_or_nil machine.logs c))
 log_after n cap machine Deliver c l =
-    get_or-each_below (2 ^ n) (λ b. list_at machine.logs b ++ map (λ m. Delivered b m) (delivered_in machine b)) c [] l
+    get_or-each_below (2 ^ n) (λ b. nth_or_nil machine.logs b ++ map (λ m. Delivered b m) (delivered_in machine b)) c [] l
 
 log_after_all : (n cap : ℕ) (machine : Machine) (steps : List Step) (c : ℕ) → c < 2 ^ n
-    → Extends (list_at machine.logs c) (list_at (after_steps n cap machine steps).logs c)
-log_after_all n cap machine [] c l = ([], sym (append-nil (list_at machine.logs c)))
+    → Extends (nth_or_nil machine.logs c) (nth_or_nil (after_steps n cap machine steps).logs c)
+log_after_all n cap machine [] c l = ([], sym (append-nil (nth_or_nil machine.logs c)))
 log_after_all n cap machine (step ∷ steps) c l =
     let rest = log_after_all n cap (after_step n cap machine step) steps c l in (
       added n cap machine c step ++ rest.0,
       rest.1 ∙ (ap (λ z. z ++ rest.0) (log_after n cap machine step c l)
-          ∙ append_assoc (list_at machine.logs c) (added n cap machine c step) rest.0),
+          ∙ append_assoc (nth_or_nil machine.logs c) (added n cap machine c step) rest.0),
     )
 
 -- ---- a delivery among what a step adds
@@ -110,11 +110,11 @@ record HasMoment (n cap : ℕ) (machine : Machine) (steps : List Step) (c i d : 
       (after_steps n cap machine (take (suc count) steps)) c i m
 
 delivery_here : (n cap : ℕ) (machine : Machine) (steps : List Step) (c i d : ℕ) (m : Message) → IsSound n cap machine
-    → c < 2 ^ n → length (list_at machine.logs c) ≤ i
-    → IsAt (list_at (machine_after_delivery n machine).logs c) i (Delivered d m)
+    → c < 2 ^ n → length (nth_or_nil machine.logs c) ≤ i
+    → IsAt (nth_or_nil (machine_after_delivery n machine).logs c) i (Delivered d m)
     → HasMoment n cap machine (Deliver ∷ steps) c i d m
 delivery_here n cap machine steps c i d m h l old there =
-    let log : List Event = list_at machine.logs c in
+    let log : List Event = nth_or_nil machine.logs c in
     let out : List Message = delivered_in machine c in
     let told : IsAt (log ++ map (λ q. Delivered c q) out) i (Delivered d m) =
     subst (λ (events : List Event). IsAt events i (Delivered d m)) (log_after n cap machine Deliver c l) there in
@@ -127,24 +127,24 @@ delivery_here n cap machine steps c i d m h l old there =
       moment = record {
         next = refl;
         receives = All-contains (λ q. can_receive (chip_at machine.chips c) q.proc ≡ true) out m
-            (deliveries_are_apart (can_receive (chip_at machine.chips c)) (list_at machine.buffers c)).received
+            (deliveries_are_apart (can_receive (chip_at machine.chips c)) (nth_or_nil machine.buffers c)).received
             one.inside;
         received = delivered_are_received n cap machine c m l h one.inside;
         untold = old;
-        told = subst (λ (b : ℕ). IsAt (list_at (machine_after_delivery n machine).logs c) i (Delivered b m))
+        told = subst (λ (b : ℕ). IsAt (nth_or_nil (machine_after_delivery n machine).logs c) i (Delivered b m))
             one.here there;
       };
     }
 
 moment_first : (n cap : ℕ) (machine : Machine) (step : Step) (steps : List Step) (c i d : ℕ) (m : Message)
-    → IsSound n cap machine → c < 2 ^ n → length (list_at machine.logs c) ≤ i
-    → IsAt (list_at (after_step n cap machine step).logs c) i (Delivered d m)
+    → IsSound n cap machine → c < 2 ^ n → length (nth_or_nil machine.logs c) ≤ i
+    → IsAt (nth_or_nil (after_step n cap machine step).logs c) i (Delivered d m)
     → HasMoment n cap machine (step ∷ steps) c i d m
 unfolding machine_after_dimension
 moment_first n cap machine (Instruct nano) steps c i d m h l old there = absurd (omega (arith, there.0, old))
 moment_first n cap machine Look steps c i d m h l old there = absurd (omega (arith, there.0, old))
 moment_first n cap machine Inject steps c i d m h l old there =
-    let log : List Event = list_at machine.logs c in
+    let log : List Event = nth_or_nil machine.logs c in
     let more : List Event = map Injected (sent_in n cap machine c) in
     absurd (not_injected (sent_in n cap machine c) m d (added_here log more i (Delivered d m) old
     (subst (λ (events : List Event). IsAt events i (Delivered d m)) (log_after n cap machine Inject c l) there)))
@@ -161,13 +161,13 @@ moment_later n cap machine step steps c i d m it = record {
 }
 
 moments : (n cap : ℕ) (machine : Machine) (steps : List Step) (c i d : ℕ) (m : Message) → AreSteps n steps
-    → IsSound n cap machine → c < 2 ^ n → length (list_at machine.logs c) ≤ i
-    → IsAt (list_at (after_steps n cap machine steps).logs c) i (Delivered d m)
+    → IsSound n cap machine → c < 2 ^ n → length (nth_or_nil machine.logs c) ≤ i
+    → IsAt (nth_or_nil (after_steps n cap machine steps).logs c) i (Delivered d m)
     → HasMoment n cap machine steps c i d m
 moments n cap machine [] c i d m s h l old there = absurd (omega (arith, there.0, old))
 moments n cap machine (step ∷ steps) c i d m s h l old there =
     let next : Machine = after_step n cap machine step in
-    let log : List Event = list_at next.logs c in
+    let log : List Event = nth_or_nil next.logs c in
     let grown = log_after_all n cap next steps c l in
     ⊎_elim
     (λ (now : i < length log).
@@ -181,19 +181,19 @@ moments n cap machine (step ∷ steps) c i d m s h l old there =
     (cases_lt i (length log))
 
 grown_length : (n : ℕ) (first machine : Machine) → Follows n first machine → (c : ℕ) → c < 2 ^ n
-    → length (list_at first.logs c) ≤ length (list_at machine.logs c)
+    → length (nth_or_nil first.logs c) ≤ length (nth_or_nil machine.logs c)
 grown_length n first machine follows c l =
     omega (
       arith,
       ap length (follows.grows c l).1,
-      length-append (list_at first.logs c) (follows.grows c l).0,
+      length-append (nth_or_nil first.logs c) (follows.grows c l).0,
     )
 
 -- ---- a run, seen by who was handed an earlier machine
 
 pub deliveries_of : (n cap : ℕ) (first machine : Machine) (acts : List Act) (c i d : ℕ) (m : Message)
-    → Follows n first machine → IsMachine n cap machine → c < 2 ^ n → length (list_at machine.logs c) ≤ i
-    → IsAt (list_at (run_of n cap machine acts).logs c) i (Delivered d m)
+    → Follows n first machine → IsMachine n cap machine → c < 2 ^ n → length (nth_or_nil machine.logs c) ≤ i
+    → IsAt (nth_or_nil (run_of n cap machine acts).logs c) i (Delivered d m)
     → IsDeliveryOf n cap first machine acts c i d m
 deliveries_of n cap first machine acts c i d m follows h l old there =
     let steps : List Step = all_steps n acts in
@@ -202,7 +202,7 @@ deliveries_of n cap first machine acts c i d m follows h l old there =
     let told : (count : ℕ) → machine_at n cap machine acts count ≡ after_steps n cap machine (take count steps) =
     λ count. steps_are_told n cap machine acts count h.buffer_count in
     let it : HasMoment n cap machine steps c i d m = moments n cap machine steps c i d m all sound l old
-    (subst (λ (z : Machine). IsAt (list_at z.logs c) i (Delivered d m))
+    (subst (λ (z : Machine). IsAt (nth_or_nil z.logs c) i (Delivered d m))
     (run_of-acted n cap machine acts h.buffer_count ∙ after_acts-steps n cap machine acts) there) in
     let before : Machine = machine_at n cap machine acts it.count in
     let after : Machine = machine_at n cap machine acts (it.count + 1) in

@@ -9,7 +9,7 @@ use Rattle.std.specs.List.{Contains, filter_map, flat_map, count_by, range_with_
 use Rattle.cm_model.specs.declared.message.Message.{Message}
 use Rattle.cm_model.specs.declared.message.Event.{Event}
 use Rattle.cm_model.specs.declared.message.Event.TheVariants.{Injected, Delivered}
-use Rattle.cm_model.specs.Array.{list_at}
+use Rattle.cm_model.specs.Array.{nth_or_nil}
 use Rattle.cm_model.specs.Machine.{Machine, machine_at, run_of}
 use Rattle.cm_model.specs.Found.{same_tag}
 use Rattle.cm_model.specs.Account.{Triple, standing_triple, delivered_triple, injected_triple, account, all_injected}
@@ -33,13 +33,13 @@ account-of_standing : (n : ℕ) (machine : Machine) (line : Triple) → Stands n
 unfolding standing_lines
 account-of_standing n machine line it =
     let p : Triple → Bool = is_line line in
-    let lines : ℕ → List Triple = λ c. map (standing_triple c) (list_at machine.buffers c) in
+    let lines : ℕ → List Triple = λ c. map (standing_triple c) (nth_or_nil machine.buffers c) in
     let passes : p (standing_triple it.chip it.message) ≡ true = ap p it.same ∙ is_itself line in
     let here : 1 ≤ count_by p (lines it.chip) =
     omega (
       arith,
-      counted (λ m. p (standing_triple it.chip m)) (list_at machine.buffers it.chip) it.message it.stands passes,
-      sum_by-map (one p) (standing_triple it.chip) (list_at machine.buffers it.chip),
+      counted (λ m. p (standing_triple it.chip m)) (nth_or_nil machine.buffers it.chip) it.message it.stands passes,
+      sum_by-map (one p) (standing_triple it.chip) (nth_or_nil machine.buffers it.chip),
     ) in
     let some : 1 ≤ count_by p (flat_map lines (range_with_len 0 (2 ^ n))) =
     chip_counted p lines it.chip 0 (2 ^ n) (omega arith) (omega (arith, it.within)) here in
@@ -49,13 +49,13 @@ injected-counted_all : (n : ℕ) (machine : Machine) (line : Triple) → HasEven
     → 1 ≤ count_by (is_line line) (all_injected n machine)
 unfolding all_injected
 injected-counted_all n machine line events it =
-    let log : List Event = list_at machine.logs it.chip in
+    let log : List Event = nth_or_nil machine.logs it.chip in
     let m : Message = it.injected.message in
     let of : IsEventOf n it.chip (Injected m) =
     All-contains (IsEventOf n it.chip) log (Injected m) (events it.chip it.within) it.injected.told in
     let same : standing_triple m.tag.chip m ≡ line =
     ap (λ b. standing_triple b m) of.here ∙ it.injected.same in
-    chip_counted (is_line line) (λ c. filter_map injected_triple (list_at machine.logs c)) it.chip 0 (2 ^ n)
+    chip_counted (is_line line) (λ c. filter_map injected_triple (nth_or_nil machine.logs c)) it.chip 0 (2 ^ n)
     (omega arith) (omega (arith, it.within))
     (told_counted (is_line line) injected_triple log (Injected m) (standing_triple m.tag.chip m) it.injected.told refl
     (ap (is_line line) same ∙ is_itself line))
@@ -80,10 +80,10 @@ is_delivery n c line (Delivered d m) of told e same = record {
 delivered-counted : (n : ℕ) (machine : Machine) (line : Triple) → HasEvents n machine
     → 1 ≤ delivered_count (is_line line) n machine.logs → WasDelivered n machine line
 delivered-counted n machine line events h =
-    let lines : ℕ → List Triple = λ c. filter_map delivered_triple (list_at machine.logs c) in
+    let lines : ℕ → List Triple = λ c. filter_map delivered_triple (nth_or_nil machine.logs c) in
     let at = some_chip (is_line line) lines 0 (2 ^ n)
     (omega (arith, h, sum_by-flat_map (one (is_line line)) lines (chips_of n))) in
-    let log : List Event = list_at machine.logs at.0 in
+    let log : List Event = nth_or_nil machine.logs at.0 in
     let it : HasTold (is_line line) delivered_triple log = some_told (is_line line) delivered_triple log at.2 in
     let of : IsEventOf n at.0 it.event =
     All-contains (IsEventOf n at.0) log it.event (events at.0 (omega (arith, at.1))) it.inside in

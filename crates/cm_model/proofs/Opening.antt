@@ -5,7 +5,7 @@ use Rattle.std.proofs.lemmas.Bool.{cases_lt, eq-eqb}
 use Rattle.std.proofs.lemmas.Bool.Decides.{nat_tests}
 use Rattle.std.specs.List.{range_with_len}
 use Rattle.cm_model.specs.declared.message.Message.{Message}
-use Rattle.cm_model.specs.Array.{each_chip, list_at}
+use Rattle.cm_model.specs.Array.{each_chip, nth_or_nil}
 use Rattle.cm_model.specs.Router.{Standing}
 use Rattle.cm_model.specs.Order.{in_order, queue, messages_of, buffer}
 use Rattle.cm_model.specs.Cycle.{State}
@@ -38,27 +38,27 @@ messages_of-records c i (m ∷ ms) = ap (λ z. m ∷ z) (messages_of-records c (
 
 -- the records of a chip of the machine
 abbrev pub handed_over : Machine → ℕ → List Standing
-handed_over machine c = records_from c 0 (list_at machine.buffers c)
+handed_over machine c = records_from c 0 (nth_or_nil machine.buffers c)
 
 queue-opened : (n : ℕ) (machine : Machine) (c : ℕ) → c < 2 ^ n
     → queue c (opened n machine).standing ≡ handed_over machine c
 unfolding opened queue
 queue-opened n machine c l =
-    ap in_order (gathered (handed_over machine) (λ b. AllAt-records b 0 (list_at machine.buffers b)) c 0 (2 ^ n)
+    ap in_order (gathered (handed_over machine) (λ b. AllAt-records b 0 (nth_or_nil machine.buffers b)) c 0 (2 ^ n)
     (omega arith) (omega arith))
-    ∙ in_order-rising (handed_over machine c) (IsRising-records c 0 (list_at machine.buffers c))
+    ∙ in_order-rising (handed_over machine c) (IsRising-records c 0 (nth_or_nil machine.buffers c))
 
 queue-opened_past : (n : ℕ) (machine : Machine) (c : ℕ) → 2 ^ n ≤ c → queue c (opened n machine).standing ≡ []
 unfolding opened queue
 queue-opened_past n machine c l =
-    ap in_order (gathered_past (handed_over machine) (λ b. AllAt-records b 0 (list_at machine.buffers b)) c 0
+    ap in_order (gathered_past (handed_over machine) (λ b. AllAt-records b 0 (nth_or_nil machine.buffers b)) c 0
     (2 ^ n) (omega arith))
 
 IsRising-opened : (n : ℕ) (machine : Machine) (c : ℕ) → IsRising (queue c (opened n machine).standing)
 IsRising-opened n machine c =
     ⊎_elim
     (λ (l : c < 2 ^ n). subst (λ (xs : List Standing). IsRising xs) (sym (queue-opened n machine c l))
-    (IsRising-records c 0 (list_at machine.buffers c)))
+    (IsRising-records c 0 (nth_or_nil machine.buffers c)))
     (λ (l : 2 ^ n ≤ c). subst (λ (xs : List Standing). IsRising xs) (sym (queue-opened_past n machine c l)) tt)
     (cases_lt c (2 ^ n))
 
@@ -68,14 +68,14 @@ pub IsReady-opened : (n : ℕ) (machine : Machine)
 unfolding opened
 IsReady-opened n machine = record {
   before = AllBefore-flat_map (cycle_begins 1) (handed_over machine) (range_with_len 0 (2 ^ n))
-      (λ c. AllBefore-records c 0 (list_at machine.buffers c));
+      (λ c. AllBefore-records c 0 (nth_or_nil machine.buffers c));
   rising = IsRising-opened n machine;
 }
 
 pub buffer-opened : (n : ℕ) (machine : Machine) (c : ℕ) → c < 2 ^ n
-    → buffer c (opened n machine).standing ≡ list_at machine.buffers c
+    → buffer c (opened n machine).standing ≡ nth_or_nil machine.buffers c
 buffer-opened n machine c l = ap messages_of (queue-opened n machine c l)
-    ∙ messages_of-records c 0 (list_at machine.buffers c)
+    ∙ messages_of-records c 0 (nth_or_nil machine.buffers c)
 
 -- what is handed over and not run is as it was
 pub closed-opened : (n : ℕ) (machine : Machine) → length machine.buffers ≡ 2 ^ n → closed n (opened n machine) ≡ machine
@@ -93,7 +93,7 @@ closed-opened n machine long =
     }
 
 -- the buffer of a chip, of the machine of a state
-pub list_at-closed : (n : ℕ) (state : State) (c : ℕ) → c < 2 ^ n
-    → list_at (closed n state).buffers c ≡ buffer c state.standing
+pub nth_or_nil-closed : (n : ℕ) (state : State) (c : ℕ) → c < 2 ^ n
+    → nth_or_nil (closed n state).buffers c ≡ buffer c state.standing
 unfolding closed
-list_at-closed n state c l = get_or-each_below (2 ^ n) (λ b. buffer b state.standing) c [] l
+nth_or_nil-closed n state c l = get_or-each_below (2 ^ n) (λ b. buffer b state.standing) c [] l

@@ -11,7 +11,7 @@ use Rattle.std.specs.List.{Contains, cons_option, filter_map, flat_map, count_by
 use Rattle.cm_model.specs.declared.message.Message.{Message}
 use Rattle.cm_model.specs.declared.message.Event.{Event}
 use Rattle.cm_model.specs.declared.message.Event.TheVariants.{Injected, Delivered}
-use Rattle.cm_model.specs.Array.{list_at}
+use Rattle.cm_model.specs.Array.{nth_or_nil}
 use Rattle.cm_model.specs.Buffers.{delivered_in, machine_after_delivery}
 use Rattle.cm_model.specs.Machine.{Machine}
 use Rattle.cm_model.specs.Account.{Triple, standing_triple, delivered_triple, injected_triple}
@@ -170,14 +170,14 @@ new_event log k i event h there =
     )
 
 delivery_counted : (p : Triple → Bool) (n : ℕ) (before after : Machine) (c i : ℕ) (m : Message) → c < 2 ^ n
-    → length (list_at before.logs c) ≤ i → IsAt (list_at after.logs c) i (Delivered c m)
+    → length (nth_or_nil before.logs c) ≤ i → IsAt (nth_or_nil after.logs c) i (Delivered c m)
     → p (line_delivered c m) ≡ true → 1 ≤ count_by p (newly_delivered n before after)
 unfolding newly_delivered
 delivery_counted p n before after c i m l old there passes =
     chip_counted p (λ b. filter_map delivered_triple (new_events before after b)) c 0 (2 ^ n) (omega arith)
     (omega (arith, l))
     (told_counted p delivered_triple (new_events before after c) (Delivered c m) (line_delivered c m)
-    (new_event (list_at after.logs c) (length (list_at before.logs c)) i (Delivered c m) old there) refl passes)
+    (new_event (nth_or_nil after.logs c) (length (nth_or_nil before.logs c)) i (Delivered c m) old there) refl passes)
 
 -- ---- origins
 
@@ -185,8 +185,8 @@ pub stands-counted : (n : ℕ) (machine : Machine) (line : Triple)
     → 1 ≤ count_by (is_line line) (standing_lines n machine) → Stands n machine line
 unfolding standing_lines
 stands-counted n machine line h =
-    let at = some_chip (is_line line) (λ c. map (standing_triple c) (list_at machine.buffers c)) 0 (2 ^ n) h in
-    let here : List Message = list_at machine.buffers at.0 in
+    let at = some_chip (is_line line) (λ c. map (standing_triple c) (nth_or_nil machine.buffers c)) 0 (2 ^ n) h in
+    let here : List Message = nth_or_nil machine.buffers at.0 in
     let it = some_counted (λ m. is_line line (standing_triple at.0 m)) here
     (omega (arith, at.2, sum_by-map (one (is_line line)) (standing_triple at.0) here)) in
     record {
@@ -215,7 +215,7 @@ injected-counted n before after line events h =
     let at = some_chip (is_line line) (λ c. filter_map injected_triple (new_events before after c)) 0 (2 ^ n) h in
     let it = some_told (is_line line) injected_triple (new_events before after at.0) at.2 in
     let of : IsEventOf n at.0 it.event = All-contains (IsEventOf n at.0) (new_events before after at.0) it.event
-    (All-drop (IsEventOf n at.0) (length (list_at before.logs at.0)) (list_at after.logs at.0)
+    (All-drop (IsEventOf n at.0) (length (nth_or_nil before.logs at.0)) (nth_or_nil after.logs at.0)
     (events at.0 (omega (arith, at.1)))) it.inside in
     let is = is_injection n at.0 line it.event of it.line it.told it.passes in
     record {
@@ -243,7 +243,7 @@ delivery_injects_nothing p n machine =
 -- where a message that was delivered in a step came from
 pub origin : (n : ℕ) (before here after : Machine) (c i : ℕ) (m : Message) → Follows n before here
     → Follows n before after → after ≡ machine_after_delivery n here → HasEvents n here → c < 2 ^ n
-    → length (list_at before.logs c) ≤ i → IsAt (list_at after.logs c) i (Delivered c m) →
+    → length (nth_or_nil before.logs c) ≤ i → IsAt (nth_or_nil after.logs c) i (Delivered c m) →
     Stands n before (line_delivered c m) ⊎ WasInjected n before here (line_delivered c m)
 origin n before here after c i m h k next events l old there =
     let line : Triple = line_delivered c m in

@@ -9,7 +9,7 @@ use Rattle.std.specs.List.{position_or_len}
 use Rattle.std.specs.Option.{option_or, option_map, option_to_list}
 use Rattle.cm_model.specs.declared.message.Message.{Message}
 use Rattle.cm_model.specs.Processor.{Processor}
-use Rattle.cm_model.specs.Array.{chip_at, list_at}
+use Rattle.cm_model.specs.Array.{chip_at, nth_or_nil}
 use Rattle.cm_model.specs.Router.{has_to_cross, message_across}
 use Rattle.cm_model.specs.Letters.{senders, senders_taken, message_sent, can_receive}
 use Rattle.cm_model.specs.Steps.{Step, Instruct, Look, Inject, Cross, Deliver, IsStep}
@@ -153,29 +153,29 @@ pub HasRoom-after_injection : (n cap : ℕ) (machine : Machine) → HasRoom n ca
     → HasRoom n cap (machine_after_injection n cap machine)
 unfolding machine_after_injection
 HasRoom-after_injection n cap machine h c l =
-    let here : length (list_at machine.buffers c) ≤ cap = h c l in
+    let here : length (nth_or_nil machine.buffers c) ≤ cap = h c l in
     subst (λ (xs : List Message). length xs ≤ cap)
-    (sym (get_or-each_below (2 ^ n) (λ b. list_at machine.buffers b ++ sent_in n cap machine b) c [] l))
+    (sym (get_or-each_below (2 ^ n) (λ b. nth_or_nil machine.buffers b ++ sent_in n cap machine b) c [] l))
     (omega (
       arith,
-      length-append (list_at machine.buffers c) (sent_in n cap machine c),
-      length-taken cap (length (list_at machine.buffers c)) (chip_at machine.chips c) here,
+      length-append (nth_or_nil machine.buffers c) (sent_in n cap machine c),
+      length-taken cap (length (nth_or_nil machine.buffers c)) (chip_at machine.chips c) here,
       length-map (taken_in cap machine c) (message_sent n machine.clock c (chip_at machine.chips c)),
     ))
 
 pub crossings_keep_room : (routing : Routing) (n cap d : ℕ) (buffers : List (List Message)) → d < n
-    → ((c : ℕ) → c < 2 ^ n → length (list_at buffers c) ≤ cap) → (c : ℕ) → c < 2 ^ n →
-    length (list_at (buffers_after_dimension routing n cap d buffers) c) ≤ cap
+    → ((c : ℕ) → c < 2 ^ n → length (nth_or_nil buffers c) ≤ cap) → (c : ℕ) → c < 2 ^ n →
+    length (nth_or_nil (buffers_after_dimension routing n cap d buffers) c) ≤ cap
 crossings_keep_room routing n cap d buffers below h c l =
     let across : ℕ = bit_xor c (2 ^ d) in
     subst (λ (xs : List Message). length xs ≤ cap)
     (sym (get_or-each_below (2 ^ n)
-    (λ b. buffer_after_dimension (way_of routing b d) cap d (list_at buffers b)
+    (λ b. buffer_after_dimension (way_of routing b d) cap d (nth_or_nil buffers b)
     (sent_across routing cap d buffers (bit_xor b (2 ^ d)))) c [] l))
-    (subst (λ (way : Way). length (buffer_after_dimension (way_of routing c d) cap d (list_at buffers c)
-    (outgoing way cap d (list_at buffers across))) ≤ cap)
+    (subst (λ (way : Way). length (buffer_after_dimension (way_of routing c d) cap d (nth_or_nil buffers c)
+    (outgoing way cap d (nth_or_nil buffers across))) ≤ cap)
     (sym (way_of-across routing c d))
-    (length-after_dimension (way_of routing c d) cap d (list_at buffers c) (list_at buffers across) (h c l)
+    (length-after_dimension (way_of routing c d) cap d (nth_or_nil buffers c) (nth_or_nil buffers across) (h c l)
     (h across (across_below n d c below l))))
 
 pub HasRoom-after_dimension : (n cap d : ℕ) (machine : Machine) → d < n → HasRoom n cap machine
@@ -187,11 +187,11 @@ pub HasRoom-after_delivery : (n cap : ℕ) (machine : Machine) → HasRoom n cap
     → HasRoom n cap (machine_after_delivery n machine)
 unfolding machine_after_delivery
 HasRoom-after_delivery n cap machine h c l =
-    let here : length (list_at machine.buffers c) ≤ cap = h c l in
+    let here : length (nth_or_nil machine.buffers c) ≤ cap = h c l in
     subst (λ (xs : List Message). length xs ≤ cap)
     (sym (get_or-each_below (2 ^ n)
-    (λ b. kept (can_receive (chip_at machine.chips b)) [] (list_at machine.buffers b)) c [] l))
-    (omega (arith, length-kept (can_receive (chip_at machine.chips c)) [] (list_at machine.buffers c)))
+    (λ b. kept (can_receive (chip_at machine.chips b)) [] (nth_or_nil machine.buffers b)) c [] l))
+    (omega (arith, length-kept (can_receive (chip_at machine.chips c)) [] (nth_or_nil machine.buffers c)))
 
 pub HasRoom-after_step : (n cap : ℕ) (machine : Machine) (step : Step) → IsStep n step → HasRoom n cap machine
     → HasRoom n cap (after_step n cap machine step)

@@ -6,7 +6,7 @@ use Rattle.cm_model.specs.declared.message.Tag.{Tag}
 use Rattle.cm_model.specs.declared.message.Message.{Message}
 use Rattle.cm_model.specs.declared.message.Event.TheVariants.{Delivered}
 use Rattle.cm_model.specs.declared.found.Found.TheVariants as found
-use Rattle.cm_model.specs.Each.{each_from}
+use Rattle.cm_model.specs.Each.{tabulate}
 use Rattle.cm_model.specs.Wiring.{Routing}
 use Rattle.cm_model.specs.Router.{leaver, after_dimension}
 use Rattle.cm_model.specs.Order.{queue}
@@ -42,13 +42,13 @@ two rel s t = message_to rel 1 1 s ∷ (message_to rel 2 2 t ∷ [])
 nobody_goes : (run_of 1 1 (two_chips (one_cut 0) (message_to 1 5 1 (tag_of 0 0 0) ∷ [])
     (message_to 1 5 2 (tag_of 1 0 0) ∷ [])) (cycles 1)).buffers
     ≡ (message_to 1 5 1 (tag_of 0 0 0) ∷ []) ∷ ((message_to 1 5 2 (tag_of 1 0 0) ∷ []) ∷ [])
-unfolding each_from leaver after_dimension queue senders chip_after_injection with_field chip_after_delivery
+unfolding tabulate leaver after_dimension queue senders chip_after_injection with_field chip_after_delivery
     after_injection delivered_at after_delivery opened closed run_of quiet_chip
 nobody_goes = refl
 
 nobody_is_referred : (run_of 1 1 (two_chips (one_cut 0) (message_to 0 5 1 (tag_of 0 0 0) ∷ []) []) (cycles 1)).logs
     ≡ (Delivered 0 (message_to 0 5 1 (tag_of 0 0 0)) ∷ []) ∷ ([] ∷ [])
-unfolding each_from leaver after_dimension queue senders chip_after_injection with_field chip_after_delivery
+unfolding tabulate leaver after_dimension queue senders chip_after_injection with_field chip_after_delivery
     after_injection delivered_at after_delivery opened closed run_of quiet_chip
 nobody_is_referred = refl
 
@@ -64,12 +64,12 @@ four_chips = record {
 
 it_goes_round : (run_of 2 1 four_chips (cycles 1)).buffers
     ≡ [] ∷ ([] ∷ ([] ∷ ((message_to 1 3 7 (tag_of 0 0 0) ∷ []) ∷ [])))
-unfolding each_from leaver after_dimension queue senders chip_after_injection with_field chip_after_delivery
+unfolding tabulate leaver after_dimension queue senders chip_after_injection with_field chip_after_delivery
     after_injection delivered_at after_delivery opened closed run_of quiet_chip
 it_goes_round = refl
 
 it_arrives : found_in 2 (run_of 2 1 four_chips (cycles 2)) (tag_of 0 0 0) ≡ found.Delivered 2 3
-unfolding each_from leaver after_dimension queue senders chip_after_injection with_field chip_after_delivery
+unfolding tabulate leaver after_dimension queue senders chip_after_injection with_field chip_after_delivery
     after_injection delivered_at after_delivery opened closed run_of quiet_chip found_in
 it_arrives = refl
 
@@ -77,32 +77,32 @@ it_arrives = refl
 
 the_first_goes : (run_of 1 7 (two_chips (by First) (two 1 (tag_of 0 0 4) (tag_of 0 1 2)) []) (cycles 1)).buffers
     ≡ (message_to 1 2 2 (tag_of 0 1 2) ∷ []) ∷ ([] ∷ [])
-unfolding each_from leaver after_dimension queue senders chip_after_injection with_field chip_after_delivery
+unfolding tabulate leaver after_dimension queue senders chip_after_injection with_field chip_after_delivery
     after_injection delivered_at after_delivery opened closed run_of quiet_chip
 the_first_goes = refl
 
 the_oldest_goes : (run_of 1 7 (two_chips (by Oldest) (two 1 (tag_of 0 0 4) (tag_of 1 1 2)) []) (cycles 1)).buffers
     ≡ (message_to 1 1 1 (tag_of 0 0 4) ∷ []) ∷ ([] ∷ [])
-unfolding each_from leaver after_dimension queue senders chip_after_injection with_field chip_after_delivery
+unfolding tabulate leaver after_dimension queue senders chip_after_injection with_field chip_after_delivery
     after_injection delivered_at after_delivery opened closed run_of quiet_chip
 the_oldest_goes = refl
 
 -- of one birth that of the lower chip, of one chip that of the lower processor, of one tag who came first
 the_lower_chip_goes : (run_of 1 7 (two_chips (by Oldest) (two 1 (tag_of 1 0 2) (tag_of 0 3 2)) []) (cycles 1)).buffers
     ≡ (message_to 1 1 1 (tag_of 1 0 2) ∷ []) ∷ ([] ∷ [])
-unfolding each_from leaver after_dimension queue senders chip_after_injection with_field chip_after_delivery
+unfolding tabulate leaver after_dimension queue senders chip_after_injection with_field chip_after_delivery
     after_injection delivered_at after_delivery opened closed run_of quiet_chip
 the_lower_chip_goes = refl
 
 the_lower_processor_goes : (run_of 1 7 (two_chips (by Oldest) (two 1 (tag_of 0 1 2) (tag_of 0 0 2)) [])
     (cycles 1)).buffers ≡ (message_to 1 1 1 (tag_of 0 1 2) ∷ []) ∷ ([] ∷ [])
-unfolding each_from leaver after_dimension queue senders chip_after_injection with_field chip_after_delivery
+unfolding tabulate leaver after_dimension queue senders chip_after_injection with_field chip_after_delivery
     after_injection delivered_at after_delivery opened closed run_of quiet_chip
 the_lower_processor_goes = refl
 
 the_first_of_one_tag_goes : (run_of 1 7 (two_chips (by Oldest) (two 1 (tag_of 0 0 2) (tag_of 0 0 2)) [])
     (cycles 1)).buffers ≡ (message_to 1 2 2 (tag_of 0 0 2) ∷ []) ∷ ([] ∷ [])
-unfolding each_from leaver after_dimension queue senders chip_after_injection with_field chip_after_delivery
+unfolding tabulate leaver after_dimension queue senders chip_after_injection with_field chip_after_delivery
     after_injection delivered_at after_delivery opened closed run_of quiet_chip
 the_first_of_one_tag_goes = refl
 
@@ -110,7 +110,7 @@ the_first_of_one_tag_goes = refl
 the_oldest_at_home_stays : (run_of 1 7 (two_chips (by Oldest)
     (message_to 0 1 1 (tag_of 0 0 1) ∷ (message_to 1 2 2 (tag_of 0 1 4) ∷ [])) []) (cycles 1)).logs
     ≡ (Delivered 0 (message_to 0 1 1 (tag_of 0 0 1)) ∷ []) ∷ ((Delivered 1 (message_to 0 2 2 (tag_of 0 1 4)) ∷ []) ∷ [])
-unfolding each_from leaver after_dimension queue senders chip_after_injection with_field chip_after_delivery
+unfolding tabulate leaver after_dimension queue senders chip_after_injection with_field chip_after_delivery
     after_injection delivered_at after_delivery opened closed run_of quiet_chip
 the_oldest_at_home_stays = refl
 
@@ -118,25 +118,25 @@ the_oldest_at_home_stays = refl
 
 the_last_is_referred : (run_of 1 2 (two_chips (by First) (two 0 (tag_of 0 0 4) (tag_of 0 1 2)) []) (cycles 1)).buffers
     ≡ [] ∷ ((message_to 1 2 2 (tag_of 0 1 2) ∷ []) ∷ [])
-unfolding each_from leaver after_dimension queue senders chip_after_injection with_field chip_after_delivery
+unfolding tabulate leaver after_dimension queue senders chip_after_injection with_field chip_after_delivery
     after_injection delivered_at after_delivery opened closed run_of quiet_chip
 the_last_is_referred = refl
 
 the_youngest_is_referred : (run_of 1 2 (two_chips (by Oldest) (two 0 (tag_of 0 0 4) (tag_of 1 1 2)) [])
     (cycles 1)).buffers ≡ [] ∷ ((message_to 1 1 1 (tag_of 0 0 4) ∷ []) ∷ [])
-unfolding each_from leaver after_dimension queue senders chip_after_injection with_field chip_after_delivery
+unfolding tabulate leaver after_dimension queue senders chip_after_injection with_field chip_after_delivery
     after_injection delivered_at after_delivery opened closed run_of quiet_chip
 the_youngest_is_referred = refl
 
 -- of one birth that of the higher origin, of one tag who came last
 the_higher_origin_is_referred : (run_of 1 2 (two_chips (by Oldest) (two 0 (tag_of 1 0 2) (tag_of 0 3 2)) [])
     (cycles 1)).buffers ≡ [] ∷ ((message_to 1 1 1 (tag_of 1 0 2) ∷ []) ∷ [])
-unfolding each_from leaver after_dimension queue senders chip_after_injection with_field chip_after_delivery
+unfolding tabulate leaver after_dimension queue senders chip_after_injection with_field chip_after_delivery
     after_injection delivered_at after_delivery opened closed run_of quiet_chip
 the_higher_origin_is_referred = refl
 
 the_last_of_one_tag_is_referred : (run_of 1 2 (two_chips (by Oldest) (two 0 (tag_of 0 0 2) (tag_of 0 0 2)) [])
     (cycles 1)).buffers ≡ [] ∷ ((message_to 1 2 2 (tag_of 0 0 2) ∷ []) ∷ [])
-unfolding each_from leaver after_dimension queue senders chip_after_injection with_field chip_after_delivery
+unfolding tabulate leaver after_dimension queue senders chip_after_injection with_field chip_after_delivery
     after_injection delivered_at after_delivery opened closed run_of quiet_chip
 the_last_of_one_tag_is_referred = refl

@@ -9,7 +9,7 @@ use Rattle.std.specs.List.{range_with_len}
 use Rattle.cm_model.specs.declared.act.Act.{Act}
 use Rattle.cm_model.specs.declared.act.Act.TheVariants as act
 use Rattle.cm_model.specs.declared.message.Event.TheVariants.{Injected, Delivered}
-use Rattle.cm_model.specs.Array.{chip_at, list_at}
+use Rattle.cm_model.specs.Array.{chip_at, nth_or_nil}
 use Rattle.cm_model.specs.Wiring.{Way, way_of}
 use Rattle.cm_model.specs.Router.{Since, Standing, standing_at, after_dimension}
 use Rattle.cm_model.specs.Order.{queue, buffer}
@@ -22,7 +22,7 @@ use Rattle.cm_model.specs.Buffers.{taken_in, sent_in, machine_after_injection, o
 use Rattle.cm_model.specs.Buffers.{machine_after_dimension, delivered_in, machine_after_delivery}
 use Rattle.cm_model.specs.OneChip.{delivered, kept}
 use Rattle.cm_model.specs.Buffers.{after_step, after_steps, after_act, after_acts}
-use Rattle.cm_model.proofs.Each.{length-each_from, same_each_below}
+use Rattle.cm_model.proofs.Each.{length-tabulate, same_each_below}
 use Rattle.cm_model.proofs.Flips.{across_below}
 use Rattle.cm_model.proofs.Order.{IsRising, length-in_order}
 use Rattle.cm_model.proofs.Leaving.{buffer-after_dimension}
@@ -30,7 +30,7 @@ use Rattle.cm_model.proofs.Readiness.{IsReady}
 use Rattle.cm_model.proofs.Routing.{due_time, IsReady-after_dimension}
 use Rattle.cm_model.proofs.Injecting.{cycle_begins, with_new, buffer-with_new, IsReady-with_new}
 use Rattle.cm_model.proofs.Delivering.{undelivered, delivered_at_is, buffer-undelivered, IsReady-filter, later_ready}
-use Rattle.cm_model.proofs.Opening.{IsReady-opened, closed-opened, list_at-closed}
+use Rattle.cm_model.proofs.Opening.{IsReady-opened, closed-opened, nth_or_nil-closed}
 
 -- ---- injection
 
@@ -42,7 +42,7 @@ taken_in-closed : (n cap : ℕ) (state : State) (c : ℕ) → c < 2 ^ n
     → taken_in cap (closed n state) c ≡ taken_at cap state c
 unfolding closed
 taken_in-closed n cap state c l =
-    ap (λ k. senders_taken cap k (chip_at state.chips c)) (ap length (list_at-closed n state c l)
+    ap (λ k. senders_taken cap k (chip_at state.chips c)) (ap length (nth_or_nil-closed n state c l)
     ∙ length-buffer c state.standing)
 
 sent_in-closed : (n cap : ℕ) (state : State) (c : ℕ) → c < 2 ^ n
@@ -59,16 +59,16 @@ closed-after_injection n cap state h =
     (λ c. chip_after_injection (taken_in cap (closed n state) c) (chip_at state.chips c))
     (λ c l. ap (λ ps. chip_after_injection ps (chip_at state.chips c)) (sym (taken_in-closed n cap state c l))) in
     let buffers = same_each_below [] (2 ^ n) (λ c. buffer c (with_new n cap state))
-    (λ c. list_at (closed n state).buffers c ++ sent_in n cap (closed n state) c)
+    (λ c. nth_or_nil (closed n state).buffers c ++ sent_in n cap (closed n state) c)
     (λ c l. buffer-with_new n cap state c h l
     ∙ (ap (λ z. z ++ messages_sent n state.clock c (chip_at state.chips c) (taken_at cap state c))
-    (sym (list_at-closed n state c l))
-    ∙ ap (λ z. list_at (closed n state).buffers c ++ z) (sym (sent_in-closed n cap state c l)))) in
+    (sym (nth_or_nil-closed n state c l))
+    ∙ ap (λ z. nth_or_nil (closed n state).buffers c ++ z) (sym (sent_in-closed n cap state c l)))) in
     let logs = same_each_below [] (2 ^ n)
-    (λ c. list_at state.logs c ++ map Injected
+    (λ c. nth_or_nil state.logs c ++ map Injected
     (messages_sent n state.clock c (chip_at state.chips c) (taken_at cap state c)))
-    (λ c. list_at state.logs c ++ map Injected (sent_in n cap (closed n state) c))
-    (λ c l. ap (λ z. list_at state.logs c ++ map Injected z) (sym (sent_in-closed n cap state c l))) in
+    (λ c. nth_or_nil state.logs c ++ map Injected (sent_in n cap (closed n state) c))
+    (λ c l. ap (λ z. nth_or_nil state.logs c ++ map Injected z) (sym (sent_in-closed n cap state c l))) in
     λ i. record { chips = chips i; buffers = buffers i; logs = logs i; clock = state.clock; routing = state.routing }
 
 -- ---- a dimension
@@ -80,16 +80,16 @@ closed-after_dimension n cap d state below h =
     let way : ℕ → Way = λ c. way_of state.routing c d in
     let buffers = same_each_below [] (2 ^ n)
     (λ c. buffer c (after_dimension state.routing cap d state.cycle state.standing))
-    (λ c. buffer_after_dimension (way c) cap d (list_at (closed n state).buffers c)
-    (outgoing (way (bit_xor c (2 ^ d))) cap d (list_at (closed n state).buffers (bit_xor c (2 ^ d)))))
+    (λ c. buffer_after_dimension (way c) cap d (nth_or_nil (closed n state).buffers c)
+    (outgoing (way (bit_xor c (2 ^ d))) cap d (nth_or_nil (closed n state).buffers (bit_xor c (2 ^ d)))))
     (λ c l. buffer-after_dimension state.routing cap d state.cycle c state.standing h.before (h.rising c)
     (h.rising (bit_xor c (2 ^ d)))
     ∙ (ap (λ z. buffer_after_dimension (way c) cap d z
     (outgoing (way (bit_xor c (2 ^ d))) cap d (buffer (bit_xor c (2 ^ d)) state.standing)))
-    (sym (list_at-closed n state c l))
-    ∙ ap (λ z. buffer_after_dimension (way c) cap d (list_at (closed n state).buffers c)
+    (sym (nth_or_nil-closed n state c l))
+    ∙ ap (λ z. buffer_after_dimension (way c) cap d (nth_or_nil (closed n state).buffers c)
     (outgoing (way (bit_xor c (2 ^ d))) cap d z))
-    (sym (list_at-closed n state (bit_xor c (2 ^ d)) (across_below n d c below l))))) in
+    (sym (nth_or_nil-closed n state (bit_xor c (2 ^ d)) (across_below n d c below l))))) in
     λ i. record { chips = state.chips; buffers = buffers i; logs = state.logs; clock = state.clock; routing = state.routing }
 
 -- ---- delivery
@@ -98,7 +98,7 @@ delivered_in-closed : (n : ℕ) (state : State) (c : ℕ) → IsRising (queue c 
     → delivered_in (closed n state) c ≡ delivered_at state.chips state.standing c
 unfolding closed
 delivered_in-closed n state c h l =
-    ap (delivered (can_receive (chip_at state.chips c)) []) (list_at-closed n state c l)
+    ap (delivered (can_receive (chip_at state.chips c)) []) (nth_or_nil-closed n state c l)
     ∙ sym (delivered_at_is state.chips state.standing c h)
 
 closed-after_delivery : (n : ℕ) (top : Since) (state : State) → IsReady top state.standing
@@ -112,13 +112,13 @@ closed-after_delivery n top state h =
     (λ c. chip_after_delivery (delivered_in (closed n state) c) (chip_at state.chips c))
     (λ c l. ap (λ ms. chip_after_delivery ms (chip_at state.chips c)) (out c l)) in
     let buffers = same_each_below [] (2 ^ n) (λ c. buffer c (undelivered state.chips state.standing))
-    (λ c. kept (can_receive (chip_at state.chips c)) [] (list_at (closed n state).buffers c))
+    (λ c. kept (can_receive (chip_at state.chips c)) [] (nth_or_nil (closed n state).buffers c))
     (λ c l. buffer-undelivered state.chips state.standing c (h.rising c)
-    ∙ ap (kept (can_receive (chip_at state.chips c)) []) (sym (list_at-closed n state c l))) in
+    ∙ ap (kept (can_receive (chip_at state.chips c)) []) (sym (nth_or_nil-closed n state c l))) in
     let logs = same_each_below [] (2 ^ n)
-    (λ c. list_at state.logs c ++ map (λ m. Delivered c m) (delivered_at state.chips state.standing c))
-    (λ c. list_at state.logs c ++ map (λ m. Delivered c m) (delivered_in (closed n state) c))
-    (λ c l. ap (λ ms. list_at state.logs c ++ map (λ m. Delivered c m) ms) (out c l)) in
+    (λ c. nth_or_nil state.logs c ++ map (λ m. Delivered c m) (delivered_at state.chips state.standing c))
+    (λ c. nth_or_nil state.logs c ++ map (λ m. Delivered c m) (delivered_in (closed n state) c))
+    (λ c l. ap (λ ms. nth_or_nil state.logs c ++ map (λ m. Delivered c m) ms) (out c l)) in
     λ i. record { chips = chips i; buffers = buffers i; logs = logs i; clock = state.clock + 1; routing = state.routing }
 
 -- ---- lists of steps
@@ -234,7 +234,7 @@ pub length-buffers-run_of : (n cap : ℕ) (machine : Machine) (acts : List Act)
     → length (run_of n cap machine acts).buffers ≡ 2 ^ n
 unfolding run_of closed
 length-buffers-run_of n cap machine acts =
-    length-each_from 0 (2 ^ n) (λ c. buffer c (state_after_all n cap (opened n machine) (all_steps n acts)).standing)
+    length-tabulate 0 (2 ^ n) (λ c. buffer c (state_after_all n cap (opened n machine) (all_steps n acts)).standing)
 
 -- a run cut in two: no machine needs to be of the right size for this
 pub run_of-append : (n cap : ℕ) (machine : Machine) (acts more : List Act)

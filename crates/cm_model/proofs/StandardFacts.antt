@@ -2,7 +2,7 @@
 use Rattle.std.proofs.Common.{◌≡◌, ℕ, ◌==◌, Bool, true, false, Some, None, [], ◌∷◌, replicate, set, refl}
 use Rattle.cm_bits.specs.declared.plane.Dir.TheVariants.{North, East, West, South}
 use Rattle.cm_model.specs.declared.act.Nano.{Nano}
-use Rattle.cm_model.specs.Each.{each_from}
+use Rattle.cm_model.specs.Each.{tabulate}
 use Rattle.cm_model.specs.Place.{neighbour, source, predecessor, rows, columns}
 use Rattle.cm_model.specs.Processor.{Processor, entry, value, flag}
 use Rattle.cm_model.specs.Instruction.{processor_after}
@@ -127,12 +127,12 @@ one_sender = each_processor (λ p. processor (p == 12) (p == 12)) ∷ []
 
 -- its bit arrives over NEWS all the same, southward round the torus at processor 0, where the condition holds
 news_of_a_failing_sender : flag (processor_at (chip_at (after_nano 0 (instruction 10) one_sender) 0) 0) 10 ≡ true
-unfolding after_nano each_from chip_after incoming processor_after neighbour instruction processor one_sender
+unfolding after_nano tabulate chip_after incoming processor_after neighbour instruction processor one_sender
 news_of_a_failing_sender = refl
 
 -- and the sender keeps what it had
 sender_keeps : processor_at (chip_at (after_nano 0 (instruction 10) one_sender) 0) 12 ≡ processor true true
-unfolding after_nano each_from chip_after incoming processor_after neighbour instruction processor one_sender
+unfolding after_nano tabulate chip_after incoming processor_after neighbour instruction processor one_sender
 sender_keeps = refl
 
 -- ---- the wire
@@ -149,5 +149,5 @@ nobody_drives_it = refl
 -- ---- planes
 
 plane_of_two : plane_number (λ p. p == 0) ≡ 1
-unfolding plane_number each_from
+unfolding plane_number tabulate
 plane_of_two = refl

@@ -12,7 +12,7 @@ use Rattle.cm_model.specs.declared.act.Act.{Act}
 use Rattle.cm_model.specs.declared.act.Act.TheVariants as act
 use Rattle.cm_model.specs.declared.act.Nano.{Nano}
 use Rattle.cm_model.specs.declared.message.Tag.{Tag}
-use Rattle.cm_model.specs.Array.{chip_at, list_at}
+use Rattle.cm_model.specs.Array.{chip_at, nth_or_nil}
 use Rattle.cm_model.specs.Router.{standing_at}
 use Rattle.cm_model.specs.Letters.{message_sent}
 use Rattle.cm_model.specs.Steps.{Instruct, Inject, Cross, Deliver, steps_of, all_steps}
@@ -136,9 +136,9 @@ amount_le p q n state h =
       arith,
       sum_by-le-sum_by (λ r. one p (triple_of r)) (λ r. one q (triple_of r)) state.standing
           (λ r. one_le p q (triple_of r) (h (triple_of r))),
-      sum_by-le-sum_by (λ c. count_by p (filter_map delivered_triple (list_at state.logs c)))
-          (λ c. count_by q (filter_map delivered_triple (list_at state.logs c))) (chips_of n)
-          (λ c. sum_by-le-sum_by (one p) (one q) (filter_map delivered_triple (list_at state.logs c))
+      sum_by-le-sum_by (λ c. count_by p (filter_map delivered_triple (nth_or_nil state.logs c)))
+          (λ c. count_by q (filter_map delivered_triple (nth_or_nil state.logs c))) (chips_of n)
+          (λ c. sum_by-le-sum_by (one p) (one q) (filter_map delivered_triple (nth_or_nil state.logs c))
           (λ t. one_le p q t (h t))),
     )
 

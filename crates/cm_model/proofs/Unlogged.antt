@@ -10,8 +10,8 @@ use Rattle.std.specs.List.{All, count_by, sum_by, list_any, flat_map, filter_map
 use Rattle.cm_model.specs.declared.message.Message.{Message}
 use Rattle.cm_model.specs.declared.message.Tag.{Tag}
 use Rattle.cm_model.specs.declared.message.Event.{Event}
-use Rattle.cm_model.specs.Each.{each_from}
-use Rattle.cm_model.specs.Array.{list_at}
+use Rattle.cm_model.specs.Each.{tabulate}
+use Rattle.cm_model.specs.Array.{nth_or_nil}
 use Rattle.cm_model.specs.Machine.{Machine}
 use Rattle.cm_model.specs.Found.{same_tag}
 use Rattle.cm_model.specs.Account.{Triple, standing_triple, delivered_triple, injected_triple, account_at}
@@ -95,30 +95,30 @@ counted_twice (m ∷ ms) e =
 -- ---- the messages of a machine
 
 abbrev pub standing : ℕ → Machine → List Message
-standing n machine = flat_map (λ c. list_at machine.buffers c) (range_with_len 0 (2 ^ n))
+standing n machine = flat_map (λ c. nth_or_nil machine.buffers c) (range_with_len 0 (2 ^ n))
 
 -- one buffer for each chip: all messages that stand there, chip by chip
 pub standing-all : (n : ℕ) (machine : Machine) → length machine.buffers ≡ 2 ^ n
     → standing_messages machine ≡ standing n machine
-unfolding each_from
+unfolding tabulate
 standing-all n machine long =
-    let each : machine.buffers ≡ each_from 0 (2 ^ n) (λ c. list_at machine.buffers c) =
-    is_each [] (2 ^ n) (λ c. list_at machine.buffers c) machine.buffers long (λ c h. refl) in
+    let each : machine.buffers ≡ tabulate 0 (2 ^ n) (λ c. nth_or_nil machine.buffers c) =
+    is_each [] (2 ^ n) (λ c. nth_or_nil machine.buffers c) machine.buffers long (λ c h. refl) in
     ap (λ (buffers : List (List Message)). flat_map (λ buffer. buffer) buffers) each
-    ∙ flat_map-map (λ (buffer : List Message). buffer) (λ c. list_at machine.buffers c) (range_with_len 0 (2 ^ n))
+    ∙ flat_map-map (λ (buffer : List Message). buffer) (λ c. nth_or_nil machine.buffers c) (range_with_len 0 (2 ^ n))
 
 -- ---- no log
 
-no_log : (n : ℕ) (machine : Machine) (c : ℕ) → IsUnlogged n machine → c < 2 ^ n → list_at machine.logs c ≡ []
-no_log n machine c none h = ap (λ (logs : List (List Event)). list_at logs c) none
+no_log : (n : ℕ) (machine : Machine) (c : ℕ) → IsUnlogged n machine → c < 2 ^ n → nth_or_nil machine.logs c ≡ []
+no_log n machine c none h = ap (λ (logs : List (List Event)). nth_or_nil logs c) none
     ∙ get_or-each_below (2 ^ n) (λ b. []) c [] h
 
 no_delivery : (n : ℕ) (machine : Machine) (c : ℕ) → IsUnlogged n machine → c < 2 ^ n
-    → account_at machine c ≡ map (standing_triple c) (list_at machine.buffers c)
+    → account_at machine c ≡ map (standing_triple c) (nth_or_nil machine.buffers c)
 no_delivery n machine c none h =
-    ap (λ (log : List Event). map (standing_triple c) (list_at machine.buffers c) ++ filter_map delivered_triple log)
+    ap (λ (log : List Event). map (standing_triple c) (nth_or_nil machine.buffers c) ++ filter_map delivered_triple log)
     (no_log n machine c none h)
-    ∙ append-nil (map (standing_triple c) (list_at machine.buffers c))
+    ∙ append-nil (map (standing_triple c) (nth_or_nil machine.buffers c))
 
 nothing_gathered : {X : Type 0} (f : ℕ → List X) (first count : ℕ) → ((c : ℕ) → c < first + count → f c ≡ [])
     → flat_map f (range_with_len first count) ≡ []
@@ -130,11 +130,11 @@ pub none_injected : (n : ℕ) (machine : Machine) → IsUnlogged n machine
     → HasLines (all_injected n machine) (account n machine)
 unfolding all_injected
 none_injected n machine none kind =
-    let empty : flat_map (λ c. filter_map injected_triple (list_at machine.logs c)) (range_with_len 0 (2 ^ n))
+    let empty : flat_map (λ c. filter_map injected_triple (nth_or_nil machine.logs c)) (range_with_len 0 (2 ^ n))
     ≡ [] =
-    nothing_gathered (λ c. filter_map injected_triple (list_at machine.logs c)) 0 (2 ^ n)
+    nothing_gathered (λ c. filter_map injected_triple (nth_or_nil machine.logs c)) 0 (2 ^ n)
     (λ c h. ap (filter_map injected_triple) (no_log n machine c none (omega arith))) in
-    let count : count_by kind (flat_map (λ c. filter_map injected_triple (list_at machine.logs c))
+    let count : count_by kind (flat_map (λ c. filter_map injected_triple (nth_or_nil machine.logs c))
     (range_with_len 0 (2 ^ n))) ≡ 0 = ap (count_by kind) empty in
     omega (arith, count)
 
@@ -147,12 +147,12 @@ tags_counted n machine tag none =
     sum_by-flat_map (λ (triple : Triple). cond (same_tag triple.tag tag) 1 0) (account_at machine)
     (range_with_len 0 (2 ^ n))
     ∙ (sum_by-range (λ c. sum_by (λ (triple : Triple). cond (same_tag triple.tag tag) 1 0) (account_at machine c))
-    (λ c. sum_by (λ (m : Message). cond (same_tag m.tag tag) 1 0) (list_at machine.buffers c)) 0 (2 ^ n)
+    (λ c. sum_by (λ (m : Message). cond (same_tag m.tag tag) 1 0) (nth_or_nil machine.buffers c)) 0 (2 ^ n)
     (λ c l h. ap (sum_by (λ (triple : Triple). cond (same_tag triple.tag tag) 1 0))
     (no_delivery n machine c none (omega arith))
     ∙ sum_by-map (λ (triple : Triple). cond (same_tag triple.tag tag) 1 0) (standing_triple c)
-    (list_at machine.buffers c))
-    ∙ sym (sum_by-flat_map (λ (m : Message). cond (same_tag m.tag tag) 1 0) (λ c. list_at machine.buffers c)
+    (nth_or_nil machine.buffers c))
+    ∙ sym (sum_by-flat_map (λ (m : Message). cond (same_tag m.tag tag) 1 0) (λ c. nth_or_nil machine.buffers c)
     (range_with_len 0 (2 ^ n))))
 
 -- a machine whose tags stand once has none twice in its buffers
@@ -222,22 +222,22 @@ born_messages clock c (m ∷ ms) all =
     (born_messages clock c ms (All-tail (IsBornLine clock) (standing_triple c m) (map (standing_triple c) ms) all))
 
 pub BornBefore-buffers : (n : ℕ) (machine : Machine) → IsUnlogged n machine
-    → ((c : ℕ) → c < 2 ^ n → All (IsBorn machine.clock) (list_at machine.buffers c)) → BornBefore n machine
+    → ((c : ℕ) → c < 2 ^ n → All (IsBorn machine.clock) (nth_or_nil machine.buffers c)) → BornBefore n machine
 unfolding account
 BornBefore-buffers n machine none all =
     all_gathered (IsBornLine machine.clock) (account_at machine) 0 (2 ^ n)
     (λ c h. subst (λ (lines : List Triple). All (IsBornLine machine.clock) lines)
     (sym (no_delivery n machine c none (omega arith)))
-    (born_lines machine.clock c (list_at machine.buffers c) (all c (omega arith))))
+    (born_lines machine.clock c (nth_or_nil machine.buffers c) (all c (omega arith))))
 
 pub born_at : (n : ℕ) (machine : Machine) (c : ℕ) → BornBefore n machine → c < 2 ^ n
-    → All (IsBorn machine.clock) (list_at machine.buffers c)
+    → All (IsBorn machine.clock) (nth_or_nil machine.buffers c)
 unfolding account
 born_at n machine c born h =
     let lines : All (IsBornLine machine.clock) (account_at machine (0 + c)) =
     each_gathered (IsBornLine machine.clock) (account_at machine) 0 (2 ^ n) c born h in
     let same : 0 + c ≡ c = omega arith in
-    born_messages machine.clock c (list_at machine.buffers c)
-    (All-front (IsBornLine machine.clock) (map (standing_triple c) (list_at machine.buffers c))
-    (filter_map delivered_triple (list_at machine.logs c))
+    born_messages machine.clock c (nth_or_nil machine.buffers c)
+    (All-front (IsBornLine machine.clock) (map (standing_triple c) (nth_or_nil machine.buffers c))
+    (filter_map delivered_triple (nth_or_nil machine.logs c))
     (subst (λ (b : ℕ). All (IsBornLine machine.clock) (account_at machine b)) same lines))

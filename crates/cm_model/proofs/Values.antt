@@ -8,7 +8,7 @@ use Rattle.std.specs.List.{range_with_len}
 use Rattle.std.proofs.lemmas.Nat.Bits.{bit_at-lt}
 use Rattle.cm_bits.specs.Bit.{bit, bit_number}
 use Rattle.cm_model.specs.Processor.{value}
-use Rattle.cm_model.specs.Each.{each_from}
+use Rattle.cm_model.specs.Each.{tabulate}
 use Rattle.cm_model.specs.Chip.{IsPlane, plane_number}
 use Rattle.cm_model.proofs.Each.{same_each_below}
 
@@ -35,8 +35,8 @@ value-bits (suc count) first word =
 
 -- a list of bits is worth the word that has them
 pub value-each : (count word : ℕ) (f : ℕ → Bool) → ((p : ℕ) → p < count → bit word p ≡ f p)
-    → value (each_from 0 count f) ≡ word % 2 ^ count
-unfolding each_from
+    → value (tabulate 0 count f) ≡ word % 2 ^ count
+unfolding tabulate
 value-each count word f is =
     ap value (sym (same_each_below false count (bit word) f is)) ∙ value-bits count 0 word
     ∙ ap (λ (q : ℕ). q % 2 ^ count) (div-one word)

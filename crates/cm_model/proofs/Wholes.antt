@@ -11,13 +11,13 @@ use Rattle.cm_model.specs.declared.letters.TheConstants.{RECEIVED_PAYLOAD}
 use Rattle.cm_model.specs.declared.act.Nano.{Nano}
 use Rattle.cm_model.specs.declared.message.Message.{Message}
 use Rattle.cm_model.specs.Processor.{Processor, ZERO, SEND, ACK, RECV}
-use Rattle.cm_model.specs.Each.{each_from}
+use Rattle.cm_model.specs.Each.{tabulate}
 use Rattle.cm_model.specs.Instruction.{holds, memory_output, flag_output, takes_incoming, flags_after, processor_after}
 use Rattle.cm_model.specs.Chip.{processor_at, no_processor, chip_after}
 use Rattle.cm_model.specs.Whole.{IsProcessor, IsChip}
 use Rattle.cm_model.specs.Letters.{is_among, is_for, bits_of, with_field, processor_after_injection}
 use Rattle.cm_model.specs.Letters.{chip_after_injection, processor_after_delivery, chip_after_delivery}
-use Rattle.cm_model.proofs.Each.{length-each_from, get_or-each_below}
+use Rattle.cm_model.proofs.Each.{length-tabulate, get_or-each_below}
 
 -- ---- flags
 
@@ -102,9 +102,9 @@ IsProcessor-after_delivery (Some m) processor h =
 -- ---- one chip
 
 -- a chip that is made processor by processor
-made_chip : (f : ℕ → Processor) → ((p : ℕ) → p < 16 → IsProcessor (f p)) → IsChip (each_from 0 16 f)
+made_chip : (f : ℕ → Processor) → ((p : ℕ) → p < 16 → IsProcessor (f p)) → IsChip (tabulate 0 16 f)
 made_chip f h = record {
-  count = length-each_from 0 16 f;
+  count = length-tabulate 0 16 f;
   each = λ p l. subst (λ (q : Processor). IsProcessor q) (sym (get_or-each_below 16 f p no_processor l)) (h p l);
 }
 

@@ -6,7 +6,7 @@ use Rattle.std.specs.List.{list_any}
 use Rattle.cm_bits.specs.Wire.{Wire}
 use Rattle.cm_model.specs.Wiring.{Routing, Way, wire_of, same_wire, is_cut, way_of}
 use Rattle.cm_model.specs.declared.message.Message.{Message}
-use Rattle.cm_model.specs.Array.{list_at}
+use Rattle.cm_model.specs.Array.{nth_or_nil}
 use Rattle.cm_model.specs.Buffers.{leaving_place, outgoing, buffer_after_dimension, sent_across}
 use Rattle.cm_model.specs.StepLaws.{StaysAsItIs}
 use Rattle.cm_model.proofs.Each.{get_or-each_below}
@@ -42,13 +42,13 @@ pub stays_as_it_is : (routing : Routing) (n cap d : ℕ) (buffers : List (List M
 stays_as_it_is routing n cap d buffers c l cut =
     let across : ℕ = bit_xor c (2 ^ d) in
     let comes : sent_across routing cap d buffers across ≡ None =
-    nobody_goes (way_of routing across d) cap d (list_at buffers across) (is_cut-across routing c d ∙ cut) in
+    nobody_goes (way_of routing across d) cap d (nth_or_nil buffers across) (is_cut-across routing c d ∙ cut) in
     record {
-      nobody_goes = nobody_goes (way_of routing c d) cap d (list_at buffers c) cut;
+      nobody_goes = nobody_goes (way_of routing c d) cap d (nth_or_nil buffers c) cut;
       nobody_comes = comes;
       same = get_or-each_below (2 ^ n)
-          (λ b. buffer_after_dimension (way_of routing b d) cap d (list_at buffers b)
+          (λ b. buffer_after_dimension (way_of routing b d) cap d (nth_or_nil buffers b)
           (sent_across routing cap d buffers (bit_xor b (2 ^ d)))) c [] l
-          ∙ (ap (buffer_after_dimension (way_of routing c d) cap d (list_at buffers c)) comes
-          ∙ all_stay (way_of routing c d) cap d (list_at buffers c) cut);
+          ∙ (ap (buffer_after_dimension (way_of routing c d) cap d (nth_or_nil buffers c)) comes
+          ∙ all_stay (way_of routing c d) cap d (nth_or_nil buffers c) cut);
     }

@@ -7,7 +7,7 @@ use Rattle.cm_model.specs.declared.message.Tag.{Tag}
 use Rattle.cm_model.specs.declared.message.Event.{Event}
 use Rattle.cm_model.specs.declared.message.Event.TheVariants.{Injected, Delivered}
 use Rattle.cm_model.specs.Router.{target_from}
-use Rattle.cm_model.specs.Array.{list_at}
+use Rattle.cm_model.specs.Array.{nth_or_nil}
 use Rattle.cm_model.specs.Machine.{Machine}
 
 -- one line of the account
@@ -34,7 +34,7 @@ injected_triple (Delivered d m) = None
 -- the lines of one chip: of all that stands there, and of all that was delivered there
 abbrev pub account_at : Machine → ℕ → List Triple
 account_at machine c =
-    map (standing_triple c) (list_at machine.buffers c) ++ filter_map delivered_triple (list_at machine.logs c)
+    map (standing_triple c) (nth_or_nil machine.buffers c) ++ filter_map delivered_triple (nth_or_nil machine.logs c)
 
 -- the account, as a list of which only the elements count, and not their order
 unfoldable pub account : ℕ → Machine → List Triple
@@ -42,7 +42,7 @@ account n machine = flat_map (account_at machine) (range_with_len 0 (2 ^ n))
 
 -- the events of a chip that a machine has more than an earlier one
 abbrev pub new_events : Machine → Machine → ℕ → List Event
-new_events before after c = drop (length (list_at before.logs c)) (list_at after.logs c)
+new_events before after c = drop (length (nth_or_nil before.logs c)) (nth_or_nil after.logs c)
 
 -- the lines of the messages injected since an earlier machine
 unfoldable pub newly_injected : ℕ → Machine → Machine → List Triple
@@ -52,7 +52,7 @@ newly_injected n before after =
 -- the lines of all messages that the logs tell were injected
 unfoldable pub all_injected : ℕ → Machine → List Triple
 all_injected n machine =
-    flat_map (λ c. filter_map injected_triple (list_at machine.logs c)) (range_with_len 0 (2 ^ n))
+    flat_map (λ c. filter_map injected_triple (nth_or_nil machine.logs c)) (range_with_len 0 (2 ^ n))
 
 -- the two lists have as many lines of every kind, in whatever order
 abbrev pub SameLines : List Triple → List Triple → Type 0

@@ -3,7 +3,7 @@ use Rattle.std.specs.Prelude.{ℕ, ◌^◌, ◌==◌, Bool, false, List, [], Opt
 use Rattle.std.specs.List.{list_any}
 use Rattle.cm_bits.specs.declared.place.Place.{Place}
 use Rattle.cm_model.specs.declared.act.Nano.{Nano}
-use Rattle.cm_model.specs.Each.{each_from}
+use Rattle.cm_model.specs.Each.{tabulate}
 use Rattle.cm_model.specs.Place.{source, predecessor}
 use Rattle.cm_model.specs.Processor.{Processor, GLOBAL, NEWS, flag}
 use Rattle.cm_model.specs.Instruction.{flag_output}
@@ -15,11 +15,11 @@ Chips = List (List Processor)
 
 -- what a function of the chip's number gives for each chip of a cube of n dimensions
 abbrev pub each_chip : {X : Type 0} → ℕ → (ℕ → X) → List X
-each_chip n f = each_from 0 (2 ^ n) f
+each_chip n f = tabulate 0 (2 ^ n) f
 
 -- of lists, one for each chip by number, that of a chip: its buffer, its log
-abbrev pub list_at : {X : Type 0} → List (List X) → ℕ → List X
-list_at lists c = slice_index_or lists c []
+abbrev pub nth_or_nil : {X : Type 0} → List (List X) → ℕ → List X
+nth_or_nil lists c = slice_index_or lists c []
 
 -- the chip of a number
 abbrev pub chip_at : Chips → ℕ → List Processor

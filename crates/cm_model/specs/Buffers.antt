@@ -6,7 +6,7 @@ use Rattle.std.specs.Option.{option_or, option_map, option_to_list}
 use Rattle.cm_model.specs.declared.act.Act.{Act}
 use Rattle.cm_model.specs.declared.message.Message.{Message}
 use Rattle.cm_model.specs.declared.message.Event.TheVariants.{Injected, Delivered}
-use Rattle.cm_model.specs.Array.{each_chip, chip_at, after_nano, list_at}
+use Rattle.cm_model.specs.Array.{each_chip, chip_at, after_nano, nth_or_nil}
 use Rattle.cm_model.specs.declared.rule.Rule.{Rule}
 use Rattle.cm_model.specs.declared.rule.Rule.TheVariants.{First, Oldest}
 use Rattle.cm_model.specs.Wiring.{Routing, Way, way_of}
@@ -20,18 +20,18 @@ use Rattle.cm_model.specs.Machine.{Machine}
 
 -- the processors of a chip whose messages are taken
 abbrev pub taken_in : ℕ → Machine → ℕ → List ℕ
-taken_in cap machine c = taken_here cap (list_at machine.buffers c) (chip_at machine.chips c)
+taken_in cap machine c = taken_here cap (nth_or_nil machine.buffers c) (chip_at machine.chips c)
 
 -- the messages that are taken there
 abbrev pub sent_in : ℕ → ℕ → Machine → ℕ → List Message
-sent_in n cap machine c = sent_here n cap machine.clock c (list_at machine.buffers c) (chip_at machine.chips c)
+sent_in n cap machine c = sent_here n cap machine.clock c (nth_or_nil machine.buffers c) (chip_at machine.chips c)
 
 -- all chips at once: the taken messages stand last in their buffers
 unfoldable pub machine_after_injection : ℕ → ℕ → Machine → Machine
 machine_after_injection n cap machine = record machine {
   chips = each_chip n (λ c. chip_after_injection (taken_in cap machine c) (chip_at machine.chips c));
-  buffers = each_chip n (λ c. list_at machine.buffers c ++ sent_in n cap machine c);
-  logs = each_chip n (λ c. list_at machine.logs c ++ map Injected (sent_in n cap machine c));
+  buffers = each_chip n (λ c. nth_or_nil machine.buffers c ++ sent_in n cap machine c);
+  logs = each_chip n (λ c. nth_or_nil machine.logs c ++ map Injected (sent_in n cap machine c));
 }
 
 -- ---- a dimension
@@ -106,12 +106,12 @@ buffer_after_dimension way cap d here coming = without here (leaving_place way c
 
 -- of the buffers of all chips, what chip c sends across dimension d
 abbrev pub sent_across : Routing → ℕ → ℕ → List (List Message) → ℕ → Option Message
-sent_across routing cap d buffers c = outgoing (way_of routing c d) cap d (list_at buffers c)
+sent_across routing cap d buffers c = outgoing (way_of routing c d) cap d (nth_or_nil buffers c)
 
 -- all buffers at once, from the old ones
 abbrev pub buffers_after_dimension : Routing → ℕ → ℕ → ℕ → List (List Message) → List (List Message)
 buffers_after_dimension routing n cap d buffers = each_chip n
-    (λ c. buffer_after_dimension (way_of routing c d) cap d (list_at buffers c)
+    (λ c. buffer_after_dimension (way_of routing c d) cap d (nth_or_nil buffers c)
     (sent_across routing cap d buffers (bit_xor c (2 ^ d))))
 
 -- all chips of a machine at once
@@ -124,14 +124,14 @@ machine_after_dimension n cap d machine = record machine {
 
 -- what a chip delivers
 abbrev pub delivered_in : Machine → ℕ → List Message
-delivered_in machine c = delivered_here (list_at machine.buffers c) (chip_at machine.chips c)
+delivered_in machine c = delivered_here (nth_or_nil machine.buffers c) (chip_at machine.chips c)
 
 -- all chips at once: what is delivered is gone, and the counter is one more
 unfoldable pub machine_after_delivery : ℕ → Machine → Machine
 machine_after_delivery n machine = record {
   chips = each_chip n (λ c. chip_after_delivery (delivered_in machine c) (chip_at machine.chips c));
-  buffers = each_chip n (λ c. kept_here (list_at machine.buffers c) (chip_at machine.chips c));
-  logs = each_chip n (λ c. list_at machine.logs c ++ map (λ m. Delivered c m) (delivered_in machine c));
+  buffers = each_chip n (λ c. kept_here (nth_or_nil machine.buffers c) (chip_at machine.chips c));
+  logs = each_chip n (λ c. nth_or_nil machine.logs c ++ map (λ m. Delivered c m) (delivered_in machine c));
   clock = machine.clock + 1;
   routing = machine.routing;
 }

@@ -2,13 +2,13 @@
 use Rattle.std.specs.Prelude.{◌≡◌, ℕ, ◌<◌, Bool, false, Option, Some, None, List, [], slice_index_or, slice_set}
 use Rattle.cm_bits.specs.Bit.{bit}
 use Rattle.cm_model.specs.declared.act.Nano.{Nano}
-use Rattle.cm_model.specs.Each.{each_from}
+use Rattle.cm_model.specs.Each.{tabulate}
 use Rattle.cm_model.specs.Processor.{Processor, value, blank_processor}
 use Rattle.cm_model.specs.Instruction.{processor_after}
 
 -- what a function of the processor's number gives for each of the sixteen
 abbrev pub each_processor : {X : Type 0} → (ℕ → X) → List X
-each_processor f = each_from 0 16 f
+each_processor f = tabulate 0 16 f
 
 -- what is read where no processor stands
 abbrev pub no_processor : Processor

@@ -5,7 +5,7 @@ use Rattle.std.specs.List.{filter, flat_map, list_any, range_with_len}
 use Rattle.cm_model.specs.declared.message.Message.{Message}
 use Rattle.cm_model.specs.declared.message.Event.{Event}
 use Rattle.cm_model.specs.declared.message.Event.TheVariants.{Injected, Delivered}
-use Rattle.cm_model.specs.Array.{Chips, each_chip, list_at, chip_at, after_nano}
+use Rattle.cm_model.specs.Array.{Chips, each_chip, nth_or_nil, chip_at, after_nano}
 use Rattle.cm_model.specs.Wiring.{Routing}
 use Rattle.cm_model.specs.Router.{Standing, is_at, is_before, standing_at, after_dimension}
 use Rattle.cm_model.specs.Order.{in_order, messages_of}
@@ -51,7 +51,7 @@ unfoldable pub after_injection : ℕ → ℕ → State → State
 after_injection n cap state = record state {
   chips = each_chip n (λ c. chip_after_injection (taken_at cap state c) (chip_at state.chips c));
   standing = state.standing ++ flat_map (new_records n cap state) (range_with_len 0 (2 ^ n));
-  logs = each_chip n (λ c. list_at state.logs c ++ map Injected
+  logs = each_chip n (λ c. nth_or_nil state.logs c ++ map Injected
       (messages_sent n state.clock c (chip_at state.chips c) (taken_at cap state c)));
 }
 
@@ -76,7 +76,7 @@ unfoldable pub after_delivery : ℕ → State → State
 after_delivery n state = record {
   chips = each_chip n (λ c. chip_after_delivery (delivered_at state.chips state.standing c) (chip_at state.chips c));
   standing = filter (λ r. not (is_delivered state.chips state.standing r)) state.standing;
-  logs = each_chip n (λ c. list_at state.logs c
+  logs = each_chip n (λ c. nth_or_nil state.logs c
       ++ map (λ m. Delivered c m) (delivered_at state.chips state.standing c));
   clock = state.clock + 1;
   cycle = state.cycle + 1;

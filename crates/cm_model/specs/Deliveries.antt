@@ -5,7 +5,7 @@ use Rattle.cm_model.specs.declared.act.Act.{Act}
 use Rattle.cm_model.specs.declared.message.Message.{Message}
 use Rattle.cm_model.specs.declared.message.Event.{Event}
 use Rattle.cm_model.specs.declared.message.Event.TheVariants.{Injected, Delivered}
-use Rattle.cm_model.specs.Array.{chip_at, list_at}
+use Rattle.cm_model.specs.Array.{chip_at, nth_or_nil}
 use Rattle.cm_model.specs.Letters.{can_receive}
 use Rattle.cm_model.specs.Steps.{Deliver, all_steps}
 use Rattle.cm_model.specs.Machine.{Machine, machine_at, run_of}
@@ -21,7 +21,7 @@ use Rattle.cm_model.specs.RunLaws.{IsReceived}
 -- the lines of all messages that stand in the routers
 unfoldable pub standing_lines : ℕ → Machine → List Triple
 standing_lines n machine =
-    flat_map (λ c. map (standing_triple c) (list_at machine.buffers c)) (range_with_len 0 (2 ^ n))
+    flat_map (λ c. map (standing_triple c) (nth_or_nil machine.buffers c)) (range_with_len 0 (2 ^ n))
 
 -- the lines of the messages delivered since an earlier machine
 unfoldable pub newly_delivered : ℕ → Machine → Machine → List Triple
@@ -46,7 +46,7 @@ pub record Stands (n : ℕ) (machine : Machine) (line : Triple) : Type 0 where
   pub chip : ℕ
   pub within : chip < 2 ^ n
   pub message : Message
-  pub stands : Contains (list_at machine.buffers chip) message
+  pub stands : Contains (nth_or_nil machine.buffers chip) message
   pub same : standing_triple chip message ≡ line
 
 -- the line of a message that was delivered at a chip: its target is its processor there
@@ -58,7 +58,7 @@ pub record WasDelivered (n : ℕ) (machine : Machine) (line : Triple) : Type 0 w
   pub chip : ℕ
   pub within : chip < 2 ^ n
   pub message : Message
-  pub told : Contains (list_at machine.logs chip) (Delivered chip message)
+  pub told : Contains (nth_or_nil machine.logs chip) (Delivered chip message)
   pub same : line_delivered chip message ≡ line
 
 -- events of a chip tell that it was injected: a message with this tag and payload, bound for this place
@@ -77,7 +77,7 @@ pub record WasInjected (n : ℕ) (before after : Machine) (line : Triple) : Type
 pub record IsInjected (n : ℕ) (machine : Machine) (line : Triple) : Type 0 where
   pub chip : ℕ
   pub within : chip < 2 ^ n
-  pub injected : AreOfInjected chip (list_at machine.logs chip) line
+  pub injected : AreOfInjected chip (nth_or_nil machine.logs chip) line
 
 -- it stands in a router or was delivered, and no other message with its tag does or was
 pub record IsInOnePlace (n : ℕ) (machine : Machine) (line : Triple) : Type 0 where
@@ -104,8 +104,8 @@ pub record IsMoment (n : ℕ) (before after : Machine) (c i : ℕ) (m : Message)
   pub next : after ≡ machine_after_delivery n before
   pub receives : can_receive (chip_at before.chips c) m.proc ≡ true
   pub received : IsReceived before after c m
-  pub untold : length (list_at before.logs c) ≤ i
-  pub told : IsAt (list_at after.logs c) i (Delivered c m)
+  pub untold : length (nth_or_nil before.logs c) ≤ i
+  pub told : IsAt (nth_or_nil after.logs c) i (Delivered c m)
 
 -- event i of chip c's log, which tells of a delivery of m at d in these acts: it was there, in the delivery of one of
 -- their petit cycles; and the message stood in a router when the acts began, or was injected before this delivery
@@ -122,6 +122,6 @@ pub record IsDeliveryOf (n cap : ℕ) (first machine : Machine) (acts : List Act
 -- each delivery that the logs tell of since a run began
 abbrev pub DeliveriesAreOfMessages : Type 0
 DeliveriesAreOfMessages = (n cap : ℕ) (machine : Machine) (acts : List Act) (c i d : ℕ) (m : Message)
-    → IsMachine n cap machine → c < 2 ^ n → length (list_at machine.logs c) ≤ i
-    → IsAt (list_at (run_of n cap machine acts).logs c) i (Delivered d m) →
+    → IsMachine n cap machine → c < 2 ^ n → length (nth_or_nil machine.logs c) ≤ i
+    → IsAt (nth_or_nil (run_of n cap machine acts).logs c) i (Delivered d m) →
     IsDeliveryOf n cap machine machine acts c i d m

@@ -8,7 +8,7 @@ use Rattle.cm_model.specs.declared.message.Event.{Event}
 use Rattle.cm_model.specs.declared.message.Event.TheVariants.{Injected, Delivered}
 use Rattle.cm_model.specs.declared.found.Found.{Found}
 use Rattle.cm_model.specs.declared.found.Found.TheVariants as found
-use Rattle.cm_model.specs.Array.{list_at}
+use Rattle.cm_model.specs.Array.{nth_or_nil}
 use Rattle.cm_model.specs.Machine.{Machine}
 
 -- two tags are one
@@ -18,7 +18,7 @@ same_tag s t = s.chip == t.chip && (s.proc == t.proc && s.birth == t.birth)
 -- the chip in whose router a message of this tag stands
 abbrev pub router_of : ℕ → Machine → Tag → Option ℕ
 router_of n machine tag =
-    find (λ c. list_any (λ m. same_tag m.tag tag) (list_at machine.buffers c)) (range_with_len 0 (2 ^ n))
+    find (λ c. list_any (λ m. same_tag m.tag tag) (nth_or_nil machine.buffers c)) (range_with_len 0 (2 ^ n))
 
 -- the place of an event, if it tells that a message of this tag was delivered
 abbrev pub delivery_place : Tag → Event → Option Place
@@ -28,7 +28,7 @@ delivery_place tag (Delivered c m) = if same_tag m.tag tag then Some (record { c
 -- where messages of this tag were delivered
 abbrev pub delivery_places : ℕ → Machine → Tag → List Place
 delivery_places n machine tag =
-    flat_map (λ c. filter_map (delivery_place tag) (list_at machine.logs c)) (range_with_len 0 (2 ^ n))
+    flat_map (λ c. filter_map (delivery_place tag) (nth_or_nil machine.logs c)) (range_with_len 0 (2 ^ n))
 
 -- where a tag is: a router comes before a place of delivery
 abbrev pub found_from : Option ℕ → List Place → Found
@@ -42,16 +42,16 @@ found_in n machine tag = found_from (router_of n machine tag) (delivery_places n
 
 -- a message of this tag stands at a chip
 abbrev pub StandsAt : Machine → Tag → ℕ → Type 0
-StandsAt machine tag c = Any (λ m. same_tag m.tag tag ≡ true) (list_at machine.buffers c)
+StandsAt machine tag c = Any (λ m. same_tag m.tag tag ≡ true) (nth_or_nil machine.buffers c)
 
 -- a message of this tag was delivered at a chip, and to this place
 abbrev pub WasDelivered : Machine → Tag → ℕ → Place → Type 0
-WasDelivered machine tag c place = Any (λ event. delivery_place tag event ≡ Some place) (list_at machine.logs c)
+WasDelivered machine tag c place = Any (λ event. delivery_place tag event ≡ Some place) (nth_or_nil machine.logs c)
 
 -- no message of this tag stands at a chip or was delivered there
 pub record IsNowhereAt (machine : Machine) (tag : Tag) (c : ℕ) : Type 0 where
-  pub stands : All (λ m. same_tag m.tag tag ≡ false) (list_at machine.buffers c)
-  pub delivered : All (λ event. delivery_place tag event ≡ None) (list_at machine.logs c)
+  pub stands : All (λ m. same_tag m.tag tag ≡ false) (nth_or_nil machine.buffers c)
+  pub delivered : All (λ event. delivery_place tag event ≡ None) (nth_or_nil machine.logs c)
 
 -- the answer tells where the message is
 abbrev pub IsWhereabouts : ℕ → Machine → Tag → Found → Type 0

@@ -7,7 +7,7 @@ use Rattle.cm_model.specs.declared.message.Event.{Event}
 use Rattle.cm_model.specs.declared.message.Event.TheVariants.{Injected, Delivered}
 use Rattle.cm_model.specs.Whole.{IsChip}
 use Rattle.cm_model.specs.Wiring.{IsRouting}
-use Rattle.cm_model.specs.Array.{chip_at, list_at}
+use Rattle.cm_model.specs.Array.{chip_at, nth_or_nil}
 use Rattle.cm_model.specs.Machine.{Machine}
 use Rattle.cm_model.specs.Account.{account, all_injected, HasLines}
 use Rattle.cm_model.specs.Found.{same_tag}
@@ -44,15 +44,15 @@ IsEventOf n c (Delivered d m) = IsDelivery n c d m
 
 -- all events in its logs are of the chip whose log it is
 abbrev pub HasEvents : ℕ → Machine → Type 0
-HasEvents n machine = (c : ℕ) → c < 2 ^ n → All (IsEventOf n c) (list_at machine.logs c)
+HasEvents n machine = (c : ℕ) → c < 2 ^ n → All (IsEventOf n c) (nth_or_nil machine.logs c)
 
 -- no buffer has more than cap messages
 abbrev pub HasRoom : ℕ → ℕ → Machine → Type 0
-HasRoom n cap machine = (c : ℕ) → c < 2 ^ n → length (list_at machine.buffers c) ≤ cap
+HasRoom n cap machine = (c : ℕ) → c < 2 ^ n → length (nth_or_nil machine.buffers c) ≤ cap
 
 -- all messages in its buffers are of its cube
 abbrev pub HasMessages : ℕ → Machine → Type 0
-HasMessages n machine = (c : ℕ) → c < 2 ^ n → All (IsMessage n) (list_at machine.buffers c)
+HasMessages n machine = (c : ℕ) → c < 2 ^ n → All (IsMessage n) (nth_or_nil machine.buffers c)
 
 -- each message of the account was born before this petit cycle
 abbrev pub BornBefore : ℕ → Machine → Type 0

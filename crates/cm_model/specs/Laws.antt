@@ -6,7 +6,7 @@ use Rattle.cm_model.specs.declared.act.Act.{Act}
 use Rattle.cm_model.specs.Place.{neighbour, opposite}
 use Rattle.cm_model.specs.declared.message.Tag.{Tag}
 use Rattle.cm_model.specs.Steps.{all_steps}
-use Rattle.cm_model.specs.Array.{list_at}
+use Rattle.cm_model.specs.Array.{nth_or_nil}
 use Rattle.cm_model.specs.Wiring.{Routing, is_cut, IsRouting}
 use Rattle.cm_model.specs.Machine.{Machine, blank_machine, machine_at, run_of}
 use Rattle.cm_model.specs.Buffers.{after_steps, after_act, after_acts}
@@ -61,7 +61,7 @@ RunsKeepRoom = (n cap : ℕ) (machine : Machine) (acts : List Act) (count : ℕ)
 -- each chip's log after a run is its log before it, and the new events
 abbrev pub LogsOnlyGrow : Type 0
 LogsOnlyGrow = (n cap : ℕ) (machine : Machine) (acts : List Act) (c : ℕ) → c < 2 ^ n →
-    list_at (run_of n cap machine acts).logs c ≡ list_at machine.logs c ++ new_events machine
+    nth_or_nil (run_of n cap machine acts).logs c ≡ nth_or_nil machine.logs c ++ new_events machine
     (run_of n cap machine acts) c
 
 -- the account after a run is the account before it, and the lines of what was injected

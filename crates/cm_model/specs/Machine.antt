@@ -5,7 +5,7 @@ use Rattle.cm_model.specs.declared.act.Act.{Act}
 use Rattle.cm_model.specs.declared.message.Message.{Message}
 use Rattle.cm_model.specs.declared.message.Event.{Event}
 use Rattle.cm_model.specs.Chip.{blank_chip}
-use Rattle.cm_model.specs.Array.{Chips, each_chip, list_at}
+use Rattle.cm_model.specs.Array.{Chips, each_chip, nth_or_nil}
 use Rattle.cm_model.specs.Wiring.{Routing, plain_routing}
 use Rattle.cm_model.specs.Router.{Standing}
 use Rattle.cm_model.specs.Order.{buffer}
@@ -45,7 +45,7 @@ records_from c i (m ∷ ms) =
 unfoldable pub opened : ℕ → Machine → State
 opened n machine = record {
   chips = machine.chips;
-  standing = flat_map (λ c. records_from c 0 (list_at machine.buffers c)) (range_with_len 0 (2 ^ n));
+  standing = flat_map (λ c. records_from c 0 (nth_or_nil machine.buffers c)) (range_with_len 0 (2 ^ n));
   logs = machine.logs;
   clock = machine.clock;
   cycle = 1;

@@ -4,7 +4,7 @@ use Rattle.std.specs.List.{Contains}
 use Rattle.cm_model.specs.declared.act.Act.{Act}
 use Rattle.cm_model.specs.declared.message.Message.{Message}
 use Rattle.cm_model.specs.declared.message.Event.TheVariants.{Delivered}
-use Rattle.cm_model.specs.Array.{chip_at, list_at}
+use Rattle.cm_model.specs.Array.{chip_at, nth_or_nil}
 use Rattle.cm_model.specs.Chip.{processor_at}
 use Rattle.cm_model.specs.Router.{standing_at}
 use Rattle.cm_model.specs.Letters.{HasReceived}
@@ -45,10 +45,10 @@ RoutingIsKept = (n cap : ℕ) (machine : Machine) (acts : List Act) →
 
 -- a message that stood at a chip before delivery was received there, as it was
 pub record IsReceived (before after : Machine) (c : ℕ) (m : Message) : Type 0 where
-  pub stood : Contains (list_at before.buffers c) m
+  pub stood : Contains (nth_or_nil before.buffers c) m
   pub arrived : m.rel ≡ 0
   pub received : HasReceived m (processor_at (chip_at after.chips c) m.proc)
-  pub told : Contains (list_at after.logs c) (Delivered c m)
+  pub told : Contains (nth_or_nil after.logs c) (Delivered c m)
 
 -- each message that a sound machine delivers is received by the processor that it is for, unaltered
 abbrev pub DeliveredAreReceived : Type 0

@@ -3,7 +3,7 @@ use Rattle.std.specs.Prelude.{◌≡◌, ℕ, ◌^◌, ◌<◌, ◌≤◌, Bool,
 use Rattle.cm_model.specs.declared.act.Nano.{Nano}
 use Rattle.cm_model.specs.declared.act.Act.TheVariants as act
 use Rattle.cm_model.specs.Wiring.{Routing, is_cut, Way}
-use Rattle.cm_model.specs.Array.{list_at}
+use Rattle.cm_model.specs.Array.{nth_or_nil}
 use Rattle.cm_model.specs.Router.{Standing, standing_at, target, leaver, after_dimension}
 use Rattle.cm_model.specs.Order.{queue, buffer}
 use Rattle.cm_model.specs.Leaver.{IsLeaver, SincesDiffer}
@@ -51,7 +51,7 @@ TargetsAreKept = (routing : Routing) (cap d cycle : ℕ) (set : List Standing)
 pub record StaysAsItIs (routing : Routing) (n cap d : ℕ) (buffers : List (List Message)) (c : ℕ) : Type 0 where
   pub nobody_goes : sent_across routing cap d buffers c ≡ None
   pub nobody_comes : sent_across routing cap d buffers (bit_xor c (2 ^ d)) ≡ None
-  pub same : list_at (buffers_after_dimension routing n cap d buffers) c ≡ list_at buffers c
+  pub same : nth_or_nil (buffers_after_dimension routing n cap d buffers) c ≡ nth_or_nil buffers c
 
 -- so it is at every cut wire
 abbrev pub NobodyCrossesACutWire : Type 0
@@ -63,8 +63,8 @@ NobodyCrossesACutWire = (routing : Routing) (n cap d : ℕ) (buffers : List (Lis
 -- had more before
 abbrev pub CrossingsKeepRoom : Type 0
 CrossingsKeepRoom = (routing : Routing) (n cap d : ℕ) (buffers : List (List Message)) → d < n
-    → ((c : ℕ) → c < 2 ^ n → length (list_at buffers c) ≤ cap) → (c : ℕ) → c < 2 ^ n →
-    length (list_at (buffers_after_dimension routing n cap d buffers) c) ≤ cap
+    → ((c : ℕ) → c < 2 ^ n → length (nth_or_nil buffers c) ≤ cap) → (c : ℕ) → c < 2 ^ n →
+    length (nth_or_nil (buffers_after_dimension routing n cap d buffers) c) ≤ cap
 
 -- a delivery takes messages that have arrived and whose processors can receive, one for each processor at most
 abbrev pub DeliveriesAreApart : Type 0

@@ -8,7 +8,7 @@ use Rattle.cm_bits.specs.declared.place.Place.{Place}
 use Rattle.cm_bits.specs.declared.plane.Dir.{Dir}
 use Rattle.cm_bits.specs.declared.plane.Dir.TheVariants.{North, East, West, South}
 use Rattle.cm_model.specs.Chip.{IsPlane}
-use Rattle.cm_model.specs.Each.{each_from}
+use Rattle.cm_model.specs.Each.{tabulate}
 use Rattle.cm_model.specs.Place.{chip_columns, column_of, source}
 use Rattle.cm_news.specs.Moves.{is_entry, one_back, bit_along_edge}
 
@@ -25,7 +25,7 @@ is_open n West count = false
 
 -- the bits of an edge, four of each column of chips
 abbrev pub edge_bits : List ℕ → List Bool
-edge_bits edge = each_from 0 (4 * length edge) (λ column. bit (slice_index edge (column / 4)) (column % 4))
+edge_bits edge = tabulate 0 (4 * length edge) (λ column. bit (slice_index edge (column / 4)) (column % 4))
 
 -- the bit that comes in at a place of a band that begins with this chip: of a plane for each chip where it comes from
 -- within, else the edge's of that column

@@ -5,7 +5,7 @@ use Rattle.std.specs.Prelude.{bit_xor}
 use Rattle.std.proofs.lemmas.Bool.Decides.{nat_tests}
 use Rattle.cm_model.specs.declared.act.Act.TheVariants as act
 use Rattle.cm_model.specs.declared.message.Message.{Message}
-use Rattle.cm_model.specs.Array.{each_chip, list_at}
+use Rattle.cm_model.specs.Array.{each_chip, nth_or_nil}
 use Rattle.cm_model.specs.Wiring.{Routing, Way, way_of}
 use Rattle.cm_model.specs.Buffers.{leaving_place, outgoing, buffer_after_dimension, buffers_after_dimension, after_act}
 use Rattle.cm_model.specs.Buffers.{machine_after_injection, machine_after_dimension, machine_after_delivery}
@@ -39,16 +39,16 @@ delivered_whole n room s first count is = simp (first, count, from_0) at (ap who
 
 -- where all chips cross, each by the way that it shares with the chip across
 pub crossed_by_one_way : (routing : Routing) (n room d : ℕ) (old : List (List Message))
-    → each_chip n (λ c. buffer_after_dimension (way_of routing (0 + c) d) room d (list_at old c)
-    (outgoing (way_of routing (0 + c) d) room d (list_at old (bit_xor c (2 ^ d)))))
+    → each_chip n (λ c. buffer_after_dimension (way_of routing (0 + c) d) room d (nth_or_nil old c)
+    (outgoing (way_of routing (0 + c) d) room d (nth_or_nil old (bit_xor c (2 ^ d)))))
     ≡ buffers_after_dimension routing n room d old
 crossed_by_one_way routing n room d old =
     let here : (c : ℕ) → way_of routing (0 + c) d ≡ way_of routing c d =
     λ c. ap (λ (k : ℕ). way_of routing k d) (omega arith) in
     let there : (c : ℕ) → way_of routing (0 + c) d ≡ way_of routing (bit_xor c (2 ^ d)) d =
     λ c. here c ∙ sym (way_of-across routing c d) in
-    λ i. each_chip n (λ c. buffer_after_dimension (here c i) room d (list_at old c)
-    (outgoing (there c i) room d (list_at old (bit_xor c (2 ^ d)))))
+    λ i. each_chip n (λ c. buffer_after_dimension (here c i) room d (nth_or_nil old c)
+    (outgoing (there c i) room d (nth_or_nil old (bit_xor c (2 ^ d)))))
 
 -- the machine after injection and so many dimensions
 abbrev pub under_way : ℕ → ℕ → Machine → ℕ → Machine
@@ -78,7 +78,7 @@ stays_empty here there room d some = grind (arith, nat_tests)
 
 -- nothing crosses
 pub nothing_crosses : (n room : ℕ) (m now : Machine) → 0 < room → length now.buffers ≡ 2 ^ n
-    → ((c : ℕ) → c < 2 ^ n → list_at now.buffers c ≡ []) → now ≡ machine_after_injection n room m
+    → ((c : ℕ) → c < 2 ^ n → nth_or_nil now.buffers c ≡ []) → now ≡ machine_after_injection n room m
     → (d : ℕ) → d ≤ n → now ≡ under_way n room m d
 nothing_crosses n room m now some long empty begun zero few = begun
 nothing_crosses n room m now some long empty begun (suc d) few =

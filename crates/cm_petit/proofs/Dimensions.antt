@@ -8,12 +8,12 @@ use Rattle.std.proofs.lemmas.List.{length-map, get_or-map, get_or_default, appen
 use Rattle.std.proofs.lemmas.Nat.{xor_block, xor_lt, pow_below, pow_pos, xor_comm}
 use Rattle.std.specs.List.{All}
 use Rattle.cm_model.specs.declared.message.Message.{Message}
-use Rattle.cm_model.specs.Each.{each_from}
+use Rattle.cm_model.specs.Each.{tabulate}
 use Rattle.cm_model.specs.declared.rule.Rule.{Rule}
-use Rattle.cm_model.specs.Array.{each_chip, list_at}
+use Rattle.cm_model.specs.Array.{each_chip, nth_or_nil}
 use Rattle.cm_model.specs.Wiring.{Routing, Way, way_of}
 use Rattle.cm_model.specs.Buffers.{leaving_place, outgoing, buffer_after_dimension, buffers_after_dimension}
-use Rattle.cm_model.proofs.Each.{length-each_from, get_or-each_below, is_each}
+use Rattle.cm_model.proofs.Each.{length-tabulate, get_or-each_below, is_each}
 use Rattle.cm_model.proofs.Flips.{xor_twice, across_below}
 use Rattle.cm_model.proofs.Wires.{way_of-across}
 use Rattle.cm_blocks.specs.Parts.{Part, is_within, buffer_in}
@@ -25,9 +25,9 @@ use Rattle.cm_petit.specs.Nodes.{no_node, node_at, exchanged}
 
 -- the same, of what a function of the place makes
 pub each_shifted : {X : Type 0} (d : X) (first count : ℕ) (f : ℕ → X) (g : ℕ → ℕ → X)
-    → ((i : ℕ) → i < count → f i ≡ g (first + i) i) → each_from 0 count f ≡ each_from first count (λ c. g c (c - first))
+    → ((i : ℕ) → i < count → f i ≡ g (first + i) i) → tabulate 0 count f ≡ tabulate first count (λ c. g c (c - first))
 each_shifted d first count f g same =
-    row_is d first count g (each_from 0 count f) (length-each_from 0 count f)
+    row_is d first count g (tabulate 0 count f) (length-tabulate 0 count f)
     (λ i h. get_or-each_below count f i d h ∙ same i h)
 
 -- across a dimension that a run spans a chip stays in it
@@ -42,23 +42,23 @@ stays_in span first i d even below inside =
 
 -- so within the run, each chip by the way that it shares with the chip across
 pub each_crossed : (room d span : ℕ) (s : Part) → d < span → s.first % 2 ^ span ≡ 0 → s.count ≡ 2 ^ span
-    → each_chip span (λ c. buffer_after_dimension (way_of s.routing (s.first + c) d) room d (list_at s.buffers c)
-    (outgoing (way_of s.routing (s.first + c) d) room d (list_at s.buffers (bit_xor c (2 ^ d)))))
-    ≡ each_from s.first s.count
+    → each_chip span (λ c. buffer_after_dimension (way_of s.routing (s.first + c) d) room d (nth_or_nil s.buffers c)
+    (outgoing (way_of s.routing (s.first + c) d) room d (nth_or_nil s.buffers (bit_xor c (2 ^ d)))))
+    ≡ tabulate s.first s.count
     (λ c. buffer_after_dimension (way_of s.routing c d) room d (buffer_in s c) (mail_for room d Blank s c))
 each_crossed room d span s below even many =
     rw (← many) (each_shifted [] s.first s.count _
-    (λ c i. buffer_after_dimension (way_of s.routing c d) room d (list_at s.buffers i) (mail_for room d Blank s c))
+    (λ c i. buffer_after_dimension (way_of s.routing c d) room d (nth_or_nil s.buffers i) (mail_for room d Blank s c))
     (λ i inside.
     let here : i < 2 ^ span = omega (arith, many) in
     let low : bit_xor i (2 ^ d) < 2 ^ span = xor_lt span i (2 ^ d) here (pow_below d span below) in
     let there : s.first + bit_xor i (2 ^ d) - s.first ≡ bit_xor i (2 ^ d) = omega arith in
     let is_in : is_within s (s.first + bit_xor i (2 ^ d)) ≡ true = grind (arith, nat_tests) in
     let other : ℕ = bit_xor (s.first + i) (2 ^ d) in
-    let met : List Message = list_at s.buffers (bit_xor i (2 ^ d)) in
+    let met : List Message = nth_or_nil s.buffers (bit_xor i (2 ^ d)) in
     let coming : mail_for room d Blank s (s.first + i) ≡ outgoing (way_of s.routing other d) room d met =
     rw (stays_in span s.first i d even below here, is_in, there) refl in
-    ap (buffer_after_dimension (way_of s.routing (s.first + i) d) room d (list_at s.buffers i))
+    ap (buffer_after_dimension (way_of s.routing (s.first + i) d) room d (nth_or_nil s.buffers i))
     (sym (coming ∙ ap (λ (w : Way). outgoing w room d met) (way_of-across s.routing (s.first + i) d)))))
 
 -- ---- nodes
@@ -92,7 +92,7 @@ pub crossed_all : (routing : Routing) (n room d : ℕ) (before now : List Buffer
     × All (λ node. node.room ≡ room) now
 crossed_all routing n room d before now below long long_now rooms is =
     let read : (nodes : List Buffer) (b : ℕ) → b < length nodes
-    → list_at (buffers_of nodes) b ≡ (node_at nodes b).messages =
+    → nth_or_nil (buffers_of nodes) b ≡ (node_at nodes b).messages =
     λ nodes b h. get_or-map (λ (b : Buffer). b.messages) nodes b no_node [] h in (
       is_each [] (2 ^ n) _ (buffers_of now) (length-map now (λ (b : Buffer). b.messages) ∙ long_now) (λ c l.
           let other : ℕ = bit_xor c (2 ^ d) in

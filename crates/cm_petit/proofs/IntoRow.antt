@@ -6,7 +6,7 @@ use Rattle.std.specs.List.{All}
 use Rattle.cm_model.specs.declared.message.Message.{Message}
 use Rattle.cm_model.specs.declared.message.Event.{Event}
 use Rattle.cm_model.specs.Processor.{Processor}
-use Rattle.cm_model.specs.Array.{Chips, list_at}
+use Rattle.cm_model.specs.Array.{Chips, nth_or_nil}
 use Rattle.cm_router.specs.Logs.{Log, log_room}
 use Rattle.cm_router.specs.Rows.{teller, with_row}
 use Rattle.cm_router.proofs.Telling.{length-with_row, told_more, told_no_more}
@@ -65,7 +65,7 @@ pub told_one : {f : ℕ → Cell → Cell} {most count i : ℕ} {before now : Te
     {buffers : List (List Message)} {chip : List Processor} {messages : List Message} {after : Log} (es : List Event)
     → AreTold f most count before now i → i < count
     → ((logs : List (List Event)) → f i (cell_of (behind logs now) i)
-    ≡ record { chip = chip; messages = messages; events = list_at (with_row logs now.row.items) i ++ es })
+    ≡ record { chip = chip; messages = messages; events = nth_or_nil (with_row logs now.row.items) i ++ es })
     → chips ≡ set now.chips i chip → buffers ≡ set now.buffers i messages
     → after.items ≡ now.row.items ++ es → All (λ e. teller e ≡ i) es
     → vec_len after ≤ vec_len now.row + most → vec_capacity now.row ≤ vec_capacity after

@@ -9,12 +9,12 @@ use Rattle.cm_model.specs.declared.message.Message.{Message}
 use Rattle.cm_model.specs.declared.message.Event.{Event}
 use Rattle.cm_model.specs.declared.message.Event.TheVariants.{Injected, Delivered}
 use Rattle.cm_model.specs.Processor.{Processor}
-use Rattle.cm_model.specs.Each.{each_from}
-use Rattle.cm_model.specs.Array.{Chips, chip_at, list_at}
+use Rattle.cm_model.specs.Each.{tabulate}
+use Rattle.cm_model.specs.Array.{Chips, chip_at, nth_or_nil}
 use Rattle.cm_model.specs.Wiring.{Routing}
 use Rattle.cm_model.specs.Letters.{chip_after_injection, chip_after_delivery, can_receive, has_arrived}
 use Rattle.cm_model.specs.OneChip.{taken_here, sent_here, delivered, kept, delivered_here, kept_here}
-use Rattle.cm_model.proofs.Each.{length-each_from, get_or-each_from}
+use Rattle.cm_model.proofs.Each.{length-tabulate, get_or-tabulate}
 use Rattle.cm_router.specs.Idle.{IsIdle, IsPassedOver}
 use Rattle.cm_router.specs.Logs.{Log, log_room, log_rooms_of, HaveLogRoom}
 use Rattle.cm_router.proofs.Rooms.{room_at, room_written, room_of_others}
@@ -22,14 +22,14 @@ use Rattle.cm_petit.specs.Routers.{events_of, part_from_logs, part_from}
 
 -- a row that reads as this at each place is what is made of the numbers from the first on
 pub row_is : {X : Type 0} (d : X) (first count : ℕ) (g : ℕ → ℕ → X) (xs : List X) → length xs ≡ count
-    → ((i : ℕ) → i < count → get_or xs i d ≡ g (first + i) i) → xs ≡ each_from first count (λ c. g c (c - first))
+    → ((i : ℕ) → i < count → get_or xs i d ≡ g (first + i) i) → xs ≡ tabulate first count (λ c. g c (c - first))
 row_is d first count g xs long reads =
-    ext_get_or d xs (each_from first count (λ c. g c (c - first)))
-    (long ∙ sym (length-each_from first count (λ c. g c (c - first))))
+    ext_get_or d xs (tabulate first count (λ c. g c (c - first)))
+    (long ∙ sym (length-tabulate first count (λ c. g c (c - first))))
     (λ i h.
     let place : first + i - first ≡ i = omega arith in
     reads i (omega (arith, long)) ∙ ap (g (first + i)) (sym place)
-    ∙ sym (get_or-each_from first count (λ c. g c (c - first)) i d (omega (arith, long))))
+    ∙ sym (get_or-tabulate first count (λ c. g c (c - first)) i d (omega (arith, long))))
 
 -- how many events more a log takes that is read; the first part shows `grind` what to look for
 pub room_is : (logs : List Log) (i : ℕ) (d : Log) → i < length logs → (get_or logs i d ≡ get_or logs i d)
@@ -56,7 +56,7 @@ pub record Cell : Type 0 where
 
 abbrev pub cell_of : Standing → ℕ → Cell
 cell_of all i =
-    record { chip = chip_at all.chips i; messages = list_at all.buffers i; events = list_at all.logs i }
+    record { chip = chip_at all.chips i; messages = nth_or_nil all.buffers i; events = nth_or_nil all.logs i }
 
 abbrev pub standing_of : Rows → Standing
 standing_of rows = record { chips = rows.chips; buffers = rows.buffers; logs = events_of rows.logs }
@@ -103,7 +103,7 @@ done_past j was on stays = grind arith
 -- one more, the chip of this number, where these logs tell more of it alone
 pub done_more : {f : ℕ → Cell → Cell} {first count i : ℕ} {before now : Standing} (c : ℕ) (logs : List (List Event))
     → AreDone f first count before now i → c ≡ first + i → i < count → length logs ≡ count
-    → list_at logs i ≡ (f c (cell_of now i)).events → ((k : ℕ) → k ≢ i → list_at logs k ≡ list_at now.logs k)
+    → nth_or_nil logs i ≡ (f c (cell_of now i)).events → ((k : ℕ) → k ≢ i → nth_or_nil logs k ≡ nth_or_nil now.logs k)
     → AreDone f first count before (record {
       chips = set now.chips i (f c (cell_of now i)).chip;
       buffers = set now.buffers i (f c (cell_of now i)).messages;
@@ -138,9 +138,9 @@ pub done_all : {f : ℕ → Cell → Cell} {first count place : ℕ} {before now
     → part_from routing first count now.chips now.buffers now.logs clock ≡ record {
       first = first;
       count = count;
-      chips = each_from first count (λ c. (f c (cell_of before (c - first))).chip);
-      buffers = each_from first count (λ c. (f c (cell_of before (c - first))).messages);
-      logs = each_from first count (λ c. (f c (cell_of before (c - first))).events);
+      chips = tabulate first count (λ c. (f c (cell_of before (c - first))).chip);
+      buffers = tabulate first count (λ c. (f c (cell_of before (c - first))).messages);
+      logs = tabulate first count (λ c. (f c (cell_of before (c - first))).events);
       clock = clock;
       routing = routing;
     }
@@ -213,9 +213,9 @@ pub made_all : {f : ℕ → Cell → Cell} {most first count place : ℕ} {befor
     → part_from_logs routing first count now.chips now.buffers now.logs clock ≡ record {
       first = first;
       count = count;
-      chips = each_from first count (λ c. (f c (cell_at before (c - first))).chip);
-      buffers = each_from first count (λ c. (f c (cell_at before (c - first))).messages);
-      logs = each_from first count (λ c. (f c (cell_at before (c - first))).events);
+      chips = tabulate first count (λ c. (f c (cell_at before (c - first))).chip);
+      buffers = tabulate first count (λ c. (f c (cell_at before (c - first))).messages);
+      logs = tabulate first count (λ c. (f c (cell_at before (c - first))).events);
       clock = clock;
       routing = routing;
     }

@@ -2,7 +2,7 @@
 
 ghost use Rattle.std.specs.Prelude.{◌≡◌, ◌⊎◌, ℕ, ◌+◌, ◌%◌, ◌^◌, ◌<◌, ◌≤◌, false, List, None, length, slice_index_or};
 ghost use Rattle.std.specs.List.{All};
-ghost use Rattle.cm_model.specs.Array.{Chips, list_at};
+ghost use Rattle.cm_model.specs.Array.{Chips, nth_or_nil};
 ghost use Rattle.cm_model.specs.Steps.{Cross};
 ghost use Rattle.cm_model.specs.Wiring.{Routing as Routes, is_cut};
 ghost use Rattle.cm_blocks.specs.Parcels.{Blank, Mail, due};
@@ -66,7 +66,7 @@ pub fn leave(
     ensures count { length crossing.new.buffers ≡ length crossing.old.buffers }
     ensures within { All (λ ms. length ms ≤ sizes.room) crossing.new.buffers }
     ensures space { (c : ℕ) → c < length crossing.old.buffers → is_cut (routing_of routing.now) (first + c) dim ≡ false
-        → length (list_at crossing.new.buffers c) < sizes.room }
+        → length (nth_or_nil crossing.new.buffers c) < sizes.room }
 {
     crossing.leave(sizes, routing, first, dim, leavers);
 }
@@ -76,7 +76,7 @@ pub fn take_in(sizes: Sizes, crossing: &mut Crossing, leavers: &mut [Option<Mess
     requires lanes { length leavers.old ≡ length crossing.old.buffers }
     requires within { All (λ ms. length ms ≤ sizes.room) crossing.old.buffers }
     requires space { (c : ℕ) → c < length crossing.old.buffers
-        → (slice_index_or leavers.old c None ≡ None) ⊎ (length (list_at crossing.old.buffers c) < sizes.room) }
+        → (slice_index_or leavers.old c None ≡ None) ⊎ (length (nth_or_nil crossing.old.buffers c) < sizes.room) }
     ensures value { (routing : Routes) (dim first count clock : ℕ) (chips : Chips) (logs : List Log)
         → length crossing.old.buffers ≡ count → part_from_logs routing first count chips crossing.new.buffers logs clock
         ≡ absorbed sizes.dims sizes.room (Cross dim) (Mail leavers.old)

@@ -4,7 +4,7 @@ ghost use Rattle.std.specs.Prelude.{◌≡◌, ◌≢◌, ℕ, ◌+◌, ◌^◌,
 ghost use Rattle.std.specs.Option.{option_to_list};
 ghost use Rattle.std.specs.List.{All};
 ghost use Rattle.cm_model.specs.declared.act.Act.TheVariants as act;
-ghost use Rattle.cm_model.specs.Array.{each_chip, list_at};
+ghost use Rattle.cm_model.specs.Array.{each_chip, nth_or_nil};
 ghost use Rattle.cm_model.specs.Steps.{Inject, Deliver};
 ghost use Rattle.cm_model.specs.Wiring.{Routing as Routes, way_of};
 ghost use Rattle.cm_model.specs.Buffers.{outgoing, buffer_after_dimension, buffers_after_dimension, after_act};

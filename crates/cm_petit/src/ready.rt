@@ -6,7 +6,7 @@ ghost use Rattle.std.specs.List.{All, list_any};
 ghost use Rattle.cm_element.specs.Flags.{has_flag};
 ghost use Rattle.cm_model.specs.declared.act.Act.TheVariants as act;
 ghost use Rattle.cm_model.specs.declared.message.Event.{Event as Told};
-ghost use Rattle.cm_model.specs.Array.{list_at};
+ghost use Rattle.cm_model.specs.Array.{nth_or_nil};
 ghost use Rattle.cm_model.specs.Processor.{SEND, ACK};
 ghost use Rattle.cm_model.specs.Buffers.{after_act};
 ghost use Rattle.cm_model.specs.Wiring.{Routing as Routes};
@@ -55,7 +55,7 @@ pub fn has_log_room(logs: &[Vec<Event>], count: usize) -> bool
 pub fn has_space(sizes: Sizes, crossing: &Crossing, leavers: &[Option<Message>]) -> bool
     requires lanes { length leavers.now ≡ length crossing.now.buffers }
     ensures space { IsTrue result ↔ ((c : ℕ) → c < length leavers.now → (slice_index_or leavers.now c None ≡ None)
-        ⊎ (length (list_at crossing.now.buffers c) < sizes.room)) }
+        ⊎ (length (nth_or_nil crossing.now.buffers c) < sizes.room)) }
 {
     for c in 0..leavers.len() {
         if leavers[c].is_some() && crossing.len(c) >= usize::from(sizes.room) {

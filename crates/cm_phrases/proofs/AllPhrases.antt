@@ -14,7 +14,7 @@ use Rattle.cm_model.specs.declared.act.Nano.{Nano}
 use Rattle.cm_model.specs.declared.act.Act.TheVariants as act
 use Rattle.cm_model.specs.Place.{source, opposite}
 use Rattle.cm_model.specs.Processor.{Processor}
-use Rattle.cm_model.specs.Each.{each_from}
+use Rattle.cm_model.specs.Each.{tabulate}
 use Rattle.cm_model.specs.Chip.{processor_at}
 use Rattle.cm_model.specs.Array.{Chips, chip_at}
 use Rattle.cm_model.specs.Laws.{IsPlace}
@@ -22,7 +22,7 @@ use Rattle.cm_model.specs.Letters.{with_field}
 use Rattle.cm_model.specs.Whole.{IsProcessor}
 use Rattle.cm_model.specs.Machine.{Machine, run_of}
 use Rattle.cm_model.specs.Keeping.{IsMachine}
-use Rattle.cm_model.proofs.Each.{length-each_from}
+use Rattle.cm_model.proofs.Each.{length-tabulate}
 use Rattle.cm_model.proofs.Runs.{run_of-acted}
 use Rattle.cm_model.proofs.Torus.{neighbours_lead_back}
 use Rattle.cm_language.specs.declared.macros.Context.{Context}
@@ -201,15 +201,15 @@ selected_is (Test w s) c from p e f a h =
 selected_is (Keep d w) c from p e f a h = keep_is c d w p h f.0
 
 under_bits : (c : Context) (x y : Span) (r w tm tf : ℕ) → AllUnder c (each_bit c x y r w tm tf)
-unfolding each_from
+unfolding tabulate
 under_bits c x y r w tm tf = under-each c (λ i. nano c (x.at + i) (y.at + i) r w tm tf) (λ i. refl) (λ i. refl) 0 x.len
 
-under_number : (c : Context) (d : Span) (v : ℕ) → AllUnder c (each_from 0 d.len (add_bit c d v))
-unfolding each_from
+under_number : (c : Context) (d : Span) (v : ℕ) → AllUnder c (tabulate 0 d.len (add_bit c d v))
+unfolding tabulate
 under_number c d v = under-each c (add_bit c d v) (λ i. refl) (λ i. refl) 0 d.len
 
-under_kept : (c : Context) (d : Span) (f : ℕ) → AllUnder c (each_from 0 d.len (keep_bit c d f))
-unfolding each_from
+under_kept : (c : Context) (d : Span) (f : ℕ) → AllUnder c (tabulate 0 d.len (keep_bit c d f))
+unfolding tabulate
 under_kept c d f = under-each c (keep_bit c d f) (λ i. refl) (λ i. refl) 0 d.len
 
 all_under : (phrase : Phrase) (c : Context) → is_local phrase ≡ true → AllUnder c (phrase_nanos phrase c)
@@ -224,15 +224,15 @@ all_under (Test f s) c e = (refl, (refl, under_bits c s s f f 0xf0 0xfa))
 all_under (Keep d f) c e = under_kept c d f
 
 home_bits : (c : Context) (x y : Span) (tm : ℕ) → AllHome (each_bit c x y 8 8 tm 0x00)
-unfolding each_from
+unfolding tabulate
 home_bits c x y tm = home-each (λ i. nano c (x.at + i) (y.at + i) 8 8 tm 0x00) (λ i. refl) 0 x.len
 
-home_number : (c : Context) (d : Span) (v : ℕ) → AllHome (each_from 0 d.len (add_bit c d v))
-unfolding each_from
+home_number : (c : Context) (d : Span) (v : ℕ) → AllHome (tabulate 0 d.len (add_bit c d v))
+unfolding tabulate
 home_number c d v = home-each (add_bit c d v) (λ i. refl) 0 d.len
 
-home_kept : (c : Context) (d : Span) (f : ℕ) → AllHome (each_from 0 d.len (keep_bit c d f))
-unfolding each_from
+home_kept : (c : Context) (d : Span) (f : ℕ) → AllHome (tabulate 0 d.len (keep_bit c d f))
+unfolding tabulate
 home_kept c d f = home-each (keep_bit c d f) (λ i. refl) 0 d.len
 
 -- what writes a flag that can be set takes nothing
@@ -240,7 +240,7 @@ free_of_others : (f : ℕ) → IsSettable f → (eqb f 10 || eqb f 11) ≡ false
 free_of_others f h = rw (h.news, h.daisy) refl
 
 home_tests : (c : Context) (s : Span) (f : ℕ) → IsSettable f → AllHome (each_bit c s s f f 0xf0 0xfa)
-unfolding each_from
+unfolding tabulate
 home_tests c s f h =
     home-each (λ i. nano c (s.at + i) (s.at + i) f f 0xf0 0xfa) (λ i. free_of_others f h) 0 s.len
 
@@ -256,8 +256,8 @@ all_home (AddNumber d v) c e h = (refl, home_number c d v)
 all_home (Test f s) c e h = (free_of_others f (settable f h), home_tests c s f (settable f h))
 all_home (Keep d f) c e h = home_kept c d f
 
-some_bits : (n : ℕ) (f : ℕ → Nano) → 1 ≤ n → 0 < length (each_from 0 n f)
-some_bits n f h = omega (arith, length-each_from 0 n f)
+some_bits : (n : ℕ) (f : ℕ → Nano) → 1 ≤ n → 0 < length (tabulate 0 n f)
+some_bits n f h = omega (arith, length-tabulate 0 n f)
 
 some_acts : (phrase : Phrase) (c : Context) → is_local phrase ≡ true → HasPhraseFields phrase → 0 < length (phrase_nanos phrase c)
 some_acts (News d s dir) c e f = absurd cc

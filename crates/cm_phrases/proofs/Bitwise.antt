@@ -5,7 +5,7 @@ use Rattle.std.specs.List.{range_with_len}
 use Rattle.std.proofs.lemmas.List.FromFn.{length-map-range_with_len}
 use Rattle.cm_bits.specs.Span.{Span}
 use Rattle.cm_model.specs.Processor.{Processor, entry}
-use Rattle.cm_model.specs.Each.{each_from}
+use Rattle.cm_model.specs.Each.{tabulate}
 use Rattle.cm_language.specs.declared.macros.Context.{Context}
 use Rattle.cm_language.specs.Acts.{each_bit}
 use Rattle.cm_language.proofs.Bits.{reads, writes, writes-is}
@@ -61,7 +61,7 @@ choices-bits t op is m a b k (suc n) j =
 pub bitwise : (c : Context) (t : ℕ) (op : Bool → Bool → Bool) → ((x y : Bool) → entry t x y false ≡ op x y)
     → (d s : Span) (p : Processor) → Whole c p → Pair d s
     → run (each_bit c d s 8 8 t 0x00) p ≡ with_bits d (λ i. op (bit_of p d i) (bit_of p s i)) p
-unfolding each_from
+unfolding tabulate
 bitwise c t op is d s p h fields =
     let m : List Bool = p.memory in
     let bits : List Bool = map (λ i. op (get_or m (d.at + i) false) (get_or m (s.at + i) false))

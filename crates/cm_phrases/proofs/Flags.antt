@@ -9,7 +9,7 @@ use Rattle.cm_bits.specs.Bit.{bit_number}
 use Rattle.cm_bits.specs.Span.{Span, IsField}
 use Rattle.cm_model.specs.declared.act.Nano.{Nano}
 use Rattle.cm_model.specs.Processor.{Processor, entry, value}
-use Rattle.cm_model.specs.Each.{each_from}
+use Rattle.cm_model.specs.Each.{tabulate}
 use Rattle.cm_model.specs.Instruction.{processor_after}
 use Rattle.cm_language.specs.declared.macros.Context.{Context}
 use Rattle.cm_language.specs.Effect.{value_of}
@@ -104,7 +104,7 @@ tested c f a free settable small (suc n) j p h =
 -- a field that is not 0
 pub test_is : (c : Context) (f : ℕ) (s : Span) (p : Processor) → Whole c p → s.at + s.len ≤ 4096 → f < 16
     → IsSettable f → Free c f → run (phrase_nanos (Test f s) c) p ≡ phrase_assigned (Test f s) p p
-unfolding each_from
+unfolding tabulate
 test_is c f s p h within small settable free =
     let m : List Bool = p.memory in
     let fits : s.at + s.len ≤ length m = (let all : length p.memory ≡ 4096 = h.memory in omega (arith, all, within)) in
@@ -180,7 +180,7 @@ kept z (suc n) (x ∷ xs) (y ∷ ys) some hx hy =
 -- a field that keeps a flag
 pub keep_is : (c : Context) (d : Span) (f : ℕ) (p : Processor) → Whole c p → IsField d
     → run (phrase_nanos (Keep d f) c) p ≡ phrase_assigned (Keep d f) p p
-unfolding each_from
+unfolding tabulate
 keep_is c d f p h field =
     let m : List Bool = p.memory in
     let z : Bool = get_or p.flags f false in

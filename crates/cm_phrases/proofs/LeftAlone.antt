@@ -7,14 +7,14 @@ use Rattle.std.proofs.lemmas.List.{get_or-set_other}
 use Rattle.cm_bits.specs.Span.{Span, IsField}
 use Rattle.cm_bits.specs.Field.{IsIn}
 use Rattle.cm_model.specs.Processor.{Processor, memory_bit, flag}
-use Rattle.cm_model.specs.Each.{each_from}
+use Rattle.cm_model.specs.Each.{tabulate}
 use Rattle.cm_model.specs.Chip.{processor_at, no_processor}
 use Rattle.cm_model.specs.Array.{chip_at}
 use Rattle.cm_model.specs.Whole.{IsProcessor}
 use Rattle.cm_model.specs.Letters.{bits_of, with_field}
 use Rattle.cm_model.specs.Machine.{Machine, run_of}
 use Rattle.cm_model.specs.Keeping.{IsMachine}
-use Rattle.cm_model.proofs.Each.{get_or-each_below, length-each_from}
+use Rattle.cm_model.proofs.Each.{get_or-each_below, length-tabulate}
 use Rattle.cm_model.proofs.Wholes.{length-bits_of}
 use Rattle.cm_language.specs.declared.macros.Context.{Context}
 use Rattle.cm_language.specs.Effect.{selected}
@@ -54,8 +54,8 @@ unfolding with_field
 beside_number d v m a field wide h = beside d (bits_of d.len v) m a field (length-bits_of d.len v) wide h
 
 beside_bits : (d : Span) (f : ℕ → Bool) (m : List Bool) (a : ℕ) → IsField d → length m ≡ 4096 → (IsIn d a → ⊥)
-    → get_or (take d.at m ++ (each_from 0 d.len f ++ drop (d.at + d.len) m)) a false ≡ get_or m a false
-beside_bits d f m a field wide h = beside d (each_from 0 d.len f) m a field (length-each_from 0 d.len f) wide h
+    → get_or (take d.at m ++ (tabulate 0 d.len f ++ drop (d.at + d.len) m)) a false ≡ get_or m a false
+beside_bits d f m a field wide h = beside d (tabulate 0 d.len f) m a field (length-tabulate 0 d.len f) wide h
 
 assigned_memory : (phrase : Phrase) (from p : Processor) (a : ℕ) → HasPhraseFields phrase → length p.memory ≡ 4096
     → (PhraseStores phrase a → ⊥) → memory_bit (phrase_assigned phrase from p) a ≡ memory_bit p a

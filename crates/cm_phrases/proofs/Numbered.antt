@@ -10,7 +10,7 @@ use Rattle.cm_bits.specs.Bit.{bit}
 use Rattle.cm_bits.specs.Span.{Span}
 use Rattle.cm_model.specs.declared.act.Nano.{Nano}
 use Rattle.cm_model.specs.Processor.{Processor, entry, value}
-use Rattle.cm_model.specs.Each.{each_from}
+use Rattle.cm_model.specs.Each.{tabulate}
 use Rattle.cm_model.specs.Instruction.{processor_after}
 use Rattle.cm_language.specs.declared.macros.Context.{Context}
 use Rattle.cm_language.specs.Effect.{value_of}
@@ -86,7 +86,7 @@ ripple_number c d v free (suc n) j p h =
 
 pub add_number_is : (c : Context) (d : Span) (v : ℕ) (p : Processor) → Whole c p → d.at + d.len ≤ 4096
     → v < 2 ^ d.len → Free c 7 → run (phrase_nanos (AddNumber d v) c) p ≡ phrase_assigned (AddNumber d v) p p
-unfolding each_from
+unfolding tabulate
 add_number_is c d v p h within small free =
     let m : List Bool = p.memory in
     let xs : List Bool = reads m d.at d.len in

@@ -9,7 +9,7 @@ use Rattle.cm_model.specs.declared.act.Nano.{Nano}
 use Rattle.cm_model.specs.declared.act.Act.{Act}
 use Rattle.cm_model.specs.declared.act.Act.TheVariants as act
 use Rattle.cm_model.specs.Processor.{ZERO, NEWS, DAISY}
-use Rattle.cm_model.specs.Each.{each_from}
+use Rattle.cm_model.specs.Each.{tabulate}
 use Rattle.cm_language.specs.declared.macros.Context.{Context}
 use Rattle.cm_language.specs.Effect.{CARRY}
 use Rattle.cm_language.specs.Acts.{TABLE_OF_A, TABLE_OF_F, ALWAYS_0, nano, clear_flag, each_bit}
@@ -98,9 +98,9 @@ phrase_nanos (And d s) c = each_bit c d s ZERO ZERO A_AND_B ALWAYS_0
 phrase_nanos (Or d s) c = each_bit c d s ZERO ZERO A_OR_B ALWAYS_0
 phrase_nanos (Xor d s) c = each_bit c d s ZERO ZERO A_XOR_B ALWAYS_0
 phrase_nanos (Not d) c = each_bit c d d ZERO ZERO NOT_A ALWAYS_0
-phrase_nanos (AddNumber d v) c = clear_flag c CARRY ∷ each_from 0 d.len (add_bit c d v)
+phrase_nanos (AddNumber d v) c = clear_flag c CARRY ∷ tabulate 0 d.len (add_bit c d v)
 phrase_nanos (Test f s) c = clear_flag c f ∷ each_bit c s s f f TABLE_OF_A A_OR_F
-phrase_nanos (Keep d f) c = each_from 0 d.len (keep_bit c d f)
+phrase_nanos (Keep d f) c = tabulate 0 d.len (keep_bit c d f)
 
 -- the acts of a phrase under a context
 abbrev pub phrase_acts : Phrase → Context → List Act

@@ -6,7 +6,7 @@ use Rattle.cm_bits.specs.Bit.{bit_number, differ}
 use Rattle.cm_bits.specs.Span.{Span}
 use Rattle.cm_model.specs.Place.{source, predecessor}
 use Rattle.cm_model.specs.Processor.{Processor, NEWS, DAISY, memory_bit, flag}
-use Rattle.cm_model.specs.Each.{each_from}
+use Rattle.cm_model.specs.Each.{tabulate}
 use Rattle.cm_model.specs.Chip.{processor_at, no_processor}
 use Rattle.cm_model.specs.Array.{Chips, chip_at, processor_of}
 use Rattle.cm_language.specs.declared.macros.Context.{Context}
@@ -43,7 +43,7 @@ top_bit p field = bit_of p field (field.len - 1)
 -- the processor with these bits in a field, by their place in it
 abbrev pub with_bits : Span → (ℕ → Bool) → Processor → Processor
 with_bits field bits p = record {
-  memory = take field.at p.memory ++ (each_from 0 field.len bits ++ drop (field.at + field.len) p.memory);
+  memory = take field.at p.memory ++ (tabulate 0 field.len bits ++ drop (field.at + field.len) p.memory);
   flags = p.flags;
 }
 

@@ -6,24 +6,24 @@ use Rattle.std.proofs.lemmas.List.FromFn.{map-range_with_len_more}
 use Rattle.std.proofs.lemmas.Bool.{not-true, not-false}
 use Rattle.std.proofs.lemmas.List.{get_or_read}
 use Rattle.cm_model.specs.declared.act.Nano.{Nano}
-use Rattle.cm_model.specs.Each.{each_from}
+use Rattle.cm_model.specs.Each.{tabulate}
 use Rattle.cm_model.specs.Processor.{Processor, ZERO, flag}
 use Rattle.cm_model.specs.Instruction.{memory_output, flag_output, takes_incoming, processor_after}
 use Rattle.cm_model.specs.Chip.{processor_at, no_processor}
 
-pub each_from-zero : {X : Type 0} (f : ℕ → X) → each_from 0 0 f ≡ []
-unfolding each_from
-each_from-zero f = refl
+pub tabulate-zero : {X : Type 0} (f : ℕ → X) → tabulate 0 0 f ≡ []
+unfolding tabulate
+tabulate-zero f = refl
 
 -- one more element
-each_from-more : {X : Type 0} (n : ℕ) (f : ℕ → X) → each_from 0 (n + 1) f ≡ each_from 0 n f ++ f n ∷ []
-unfolding each_from
-each_from-more n f = map-range_with_len_more f 0 n n (omega arith)
+tabulate-more : {X : Type 0} (n : ℕ) (f : ℕ → X) → tabulate 0 (n + 1) f ≡ tabulate 0 n f ++ f n ∷ []
+unfolding tabulate
+tabulate-more n f = map-range_with_len_more f 0 n n (omega arith)
 
 -- the list so far and the next element
-pub pushed : {X : Type 0} (n : ℕ) (f : ℕ → X) (before after : List X) (x : X) → before ≡ each_from 0 n f
-    → after ≡ before ++ x ∷ [] → x ≡ f n → after ≡ each_from 0 (n + 1) f
-pushed n f before after x is grown last = grown ∙ (λ i. is i ++ last i ∷ []) ∙ sym (each_from-more n f)
+pub pushed : {X : Type 0} (n : ℕ) (f : ℕ → X) (before after : List X) (x : X) → before ≡ tabulate 0 n f
+    → after ≡ before ++ x ∷ [] → x ≡ f n → after ≡ tabulate 0 (n + 1) f
+pushed n f before after x is grown last = grown ∙ (λ i. is i ++ last i ∷ []) ∙ sym (tabulate-more n f)
 
 -- a processor that was read at an index
 pub processor_read : (chip : List Processor) (p index : ℕ) (processor : Processor) → index ≡ p → index < length chip

@@ -9,7 +9,7 @@ ghost use Rattle.cm_model.specs.declared.message.Event.TheVariants.{Injected, De
 ghost use Rattle.cm_model.specs.declared.act.Act.TheVariants as act;
 ghost use Rattle.cm_model.specs.Processor.{ZERO, memory_bit, flag};
 ghost use Rattle.cm_model.specs.Chip.{each_processor, processor_at, with_memory_bit, with_flag};
-ghost use Rattle.cm_model.specs.Array.{each_chip, chip_at, after_nano, list_at};
+ghost use Rattle.cm_model.specs.Array.{each_chip, chip_at, after_nano, nth_or_nil};
 ghost use Rattle.cm_model.specs.Letters.{can_receive, chip_after_injection, chip_after_delivery};
 ghost use Rattle.cm_model.specs.Machine.{Machine, blank_machine, run_of};
 ghost use Rattle.cm_model.specs.Wiring.{plain_routing, way_of};
@@ -104,7 +104,7 @@ impl<const N: usize, const CAP: usize> PlainRouter<N, CAP> {
     /// The messages that stand at a chip, from the front.
     pub fn buffer(&self, chip: u16) -> &[Message]
         requires chip { chip < 2 ^ N }
-        ensures value { result.now ≡ list_at self.now.buffers chip }
+        ensures value { result.now ≡ nth_or_nil self.now.buffers chip }
     {
         self.buffer_of(chip).messages()
     }
@@ -112,7 +112,7 @@ impl<const N: usize, const CAP: usize> PlainRouter<N, CAP> {
     /// The events of a chip, the oldest first.
     pub fn log(&self, chip: u16) -> &[Event]
         requires chip { chip < 2 ^ N }
-        ensures value { result.now ≡ list_at self.now.logs chip }
+        ensures value { result.now ≡ nth_or_nil self.now.logs chip }
     {
         self.log_of(chip).events()
     }
@@ -327,7 +327,7 @@ impl<const N: usize, const CAP: usize> PlainRouter<N, CAP> {
 
     fn buffers_after_injection(&self, alloc: Global) -> Result<Vec<PlainBuffer>, NoMemory>
         ensures value { IfOk result (λ buffers. buffers.items ≡
-            each_chip N (λ c. list_at self.now.buffers c ++ sent_in N CAP self.now c)) }
+            each_chip N (λ c. nth_or_nil self.now.buffers c ++ sent_in N CAP self.now c)) }
     {
         let _ = &self.logs;
         let mut buffers = Vec::new(alloc);
@@ -343,7 +343,7 @@ impl<const N: usize, const CAP: usize> PlainRouter<N, CAP> {
 
     fn logs_after_injection(&self, alloc: Global) -> Result<Vec<PlainLog>, NoMemory>
         ensures value { IfOk result (λ logs. logs.items ≡
-            each_chip N (λ c. list_at self.now.logs c ++ map Injected (sent_in N CAP self.now c))) }
+            each_chip N (λ c. nth_or_nil self.now.logs c ++ map Injected (sent_in N CAP self.now c))) }
     {
         let _ = &self.logs;
         let mut logs = Vec::new(alloc);
@@ -402,7 +402,7 @@ impl<const N: usize, const CAP: usize> PlainRouter<N, CAP> {
 
     fn buffers_after_delivery(&self, alloc: Global) -> Result<Vec<PlainBuffer>, NoMemory>
         ensures value { IfOk result (λ buffers. buffers.items ≡
-            each_chip N (λ c. kept (can_receive (chip_at self.now.chips c)) [] (list_at self.now.buffers c))) }
+            each_chip N (λ c. kept (can_receive (chip_at self.now.chips c)) [] (nth_or_nil self.now.buffers c))) }
     {
         let _ = &self.logs;
         let mut buffers = Vec::new(alloc);
@@ -420,7 +420,7 @@ impl<const N: usize, const CAP: usize> PlainRouter<N, CAP> {
 
     fn logs_after_delivery(&self, alloc: Global) -> Result<Vec<PlainLog>, NoMemory>
         ensures value { IfOk result (λ logs. logs.items ≡
-            each_chip N (λ c. list_at self.now.logs c ++ map (λ m. Delivered c m) (delivered_in self.now c))) }
+            each_chip N (λ c. nth_or_nil self.now.logs c ++ map (λ m. Delivered c m) (delivered_in self.now c))) }
     {
         let _ = &self.logs;
         let mut logs = Vec::new(alloc);
@@ -440,14 +440,14 @@ impl<const N: usize, const CAP: usize> PlainRouter<N, CAP> {
 
     fn buffer_of(&self, chip: u16) -> &PlainBuffer
         requires chip { chip < 2 ^ N }
-        ensures value { result.now ≡ list_at self.now.buffers chip }
+        ensures value { result.now ≡ nth_or_nil self.now.buffers chip }
     {
         &self.buffers[usize::from(chip)]
     }
 
     fn log_of(&self, chip: u16) -> &PlainLog
         requires chip { chip < 2 ^ N }
-        ensures value { result.now ≡ list_at self.now.logs chip }
+        ensures value { result.now ≡ nth_or_nil self.now.logs chip }
     {
         &self.logs[usize::from(chip)]
     }
@@ -520,7 +520,7 @@ impl<const N: usize, const CAP: usize> PlainRouter<N, CAP> {
         requires chip { chip < 2 ^ N }
         ensures delivered { IfOk result (λ sorted. sorted.delivered.items ≡ delivered_in self.now chip) }
         ensures kept { IfOk result (λ sorted. sorted.kept.items ≡
-            kept (can_receive (chip_at self.now.chips chip)) [] (list_at self.now.buffers chip)) }
+            kept (can_receive (chip_at self.now.chips chip)) [] (nth_or_nil self.now.buffers chip)) }
     {
         self.buffer_of(chip).sorted(alloc, self.chips.chip(chip))
     }

@@ -8,7 +8,7 @@ use Rattle.std.proofs.lemmas.List.{length-append, length-map, get_or-map, get_or
 use Rattle.std.proofs.lemmas.List.Elements.{All-get_or}
 use Rattle.cm_model.specs.declared.act.Act.{Act}
 use Rattle.cm_model.specs.Machine.{Machine}
-use Rattle.cm_model.proofs.Each.{length-each_from, get_or-each_below}
+use Rattle.cm_model.proofs.Each.{length-tabulate, get_or-each_below}
 use Rattle.cm_blocks.specs.Parts.{Part, block}
 use Rattle.cm_blocks.specs.Parcels.{Parcel}
 use Rattle.cm_array.specs.Acts.{cycles_in}
@@ -35,7 +35,7 @@ pub just_cut : (n cap k cycles : ℕ) (machine : Machine) (acts : List Act) (blo
 just_cut n cap k cycles machine acts blocks cut fresh counted late =
     let count : length blocks ≡ 2 ^ k =
     sym (length-map blocks (λ (b : KeptBlock). b.kept.part)) ∙ ap length cut
-    ∙ length-each_from 0 (2 ^ k) (λ b. block n k b machine) in
+    ∙ length-tabulate 0 (2 ^ k) (λ b. block n k b machine) in
     record {
       len = omega (arith, count);
       each = λ p d l.

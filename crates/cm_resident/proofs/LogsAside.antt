@@ -7,7 +7,7 @@ use Rattle.std.proofs.lemmas.List.{get_or_past}
 use Rattle.cm_model.specs.declared.act.Act.{Act}
 use Rattle.cm_model.specs.declared.message.Event.{Event}
 use Rattle.cm_model.specs.Account.{account, newly_injected, SameLines}
-use Rattle.cm_model.specs.Array.{list_at}
+use Rattle.cm_model.specs.Array.{nth_or_nil}
 use Rattle.cm_model.specs.Keeping.{IsMachine}
 use Rattle.cm_model.specs.Machine.{Machine, run_of}
 use Rattle.cm_model.proofs.Each.{get_or-each_below}
@@ -19,7 +19,7 @@ use Rattle.cm_array.proofs.Behind.{logs_are_never_read, few_events_are_told, log
 use Rattle.cm_resident.proofs.Ending.{account_after}
 
 -- no log of a machine without its events has one
-none_told : (n c : ℕ) (machine : Machine) → c < 2 ^ n → length (list_at (unlogged n machine).logs c) ≡ 0
+none_told : (n c : ℕ) (machine : Machine) → c < 2 ^ n → length (nth_or_nil (unlogged n machine).logs c) ≡ 0
 none_told n c machine l = ap length (get_or-each_below {X = List Event} (2 ^ n) (λ b. []) c [] l)
 
 -- a machine that was left without its logs
@@ -61,7 +61,7 @@ module _ (n cap : ℕ) (old left now : Machine) (earlier : List (List Event)) (a
   none_again (Err e) after back stayed = back ∙ after_none stayed
 
   -- it told no more of a chip than there was room for
-  told_in_run : (c : ℕ) → now ≡ run_of n cap left acts → length (list_at now.logs c) ≤ cycles_in acts * (4 + cap)
+  told_in_run : (c : ℕ) → now ≡ run_of n cap left acts → length (nth_or_nil now.logs c) ≤ cycles_in acts * (4 + cap)
   told_in_run c same =
       let at : now ≡ run_of n cap (unlogged n old) acts = same ∙ ap (λ (m : Machine). run_of n cap m acts) unlogs in
       let bare : IsMachine n cap (unlogged n old) = IsMachine-unlogged n cap old is in
@@ -72,18 +72,18 @@ module _ (n cap : ℕ) (old left now : Machine) (earlier : List (List Event)) (a
         arith,
         few_events_are_told n cap (unlogged n old) acts c bare l,
         none_told n c old l,
-        ap (λ (m : Machine). length (list_at m.logs c)) at,
+        ap (λ (m : Machine). length (nth_or_nil m.logs c)) at,
       ))
       (λ (l : 2 ^ n ≤ c). omega (arith, ap length (get_or_past now.logs c [] (omega (arith, l, long)))))
       (cases_lt c (2 ^ n))
 
-  told_in_none : (c : ℕ) → now ≡ left → length (list_at now.logs c) ≤ 0
+  told_in_none : (c : ℕ) → now ≡ left → length (nth_or_nil now.logs c) ≤ 0
   told_in_none c same =
       let at : now ≡ unlogged n old = same ∙ unlogs in
       let long : length now.logs ≡ 2 ^ n =
       ap (λ (m : Machine). length m.logs) at ∙ (IsMachine-unlogged n cap old is).log_count in
       ⊎_elim
-      (λ (l : c < 2 ^ n). omega (arith, none_told n c old l, ap (λ (m : Machine). length (list_at m.logs c)) at))
+      (λ (l : c < 2 ^ n). omega (arith, none_told n c old l, ap (λ (m : Machine). length (nth_or_nil m.logs c)) at))
       (λ (l : 2 ^ n ≤ c). omega (arith, ap length (get_or_past now.logs c [] (omega (arith, l, long)))))
       (cases_lt c (2 ^ n))
 

@@ -2,8 +2,8 @@
 
 ghost use Rattle.std.specs.Prelude.{◌≡◌, ℕ, ◌<◌, ◌≤◌, ◌++◌, length, slice_index_or};
 ghost use Rattle.std.specs.Thread.{IsSync};
-ghost use Rattle.cm_model.specs.Each.{each_from};
-ghost use Rattle.cm_model.specs.Array.{list_at};
+ghost use Rattle.cm_model.specs.Each.{tabulate};
+ghost use Rattle.cm_model.specs.Array.{nth_or_nil};
 ghost use Rattle.cm_router.specs.Logs.{log_room, log_rooms_of};
 ghost use Rattle.cm_petit.specs.Routers.{events_of};
 ghost use Rattle.cm_array.specs.SavedLogs.{TakeIn};
@@ -32,8 +32,8 @@ impl<'a, R: Threads + Sync> LogAppender for Together<'a, R> {
         requires one { IsSync R.row }
         requires count { length more.now ≡ length logs.old }
         requires room { TakeIn (log_rooms_of logs.old) (events_of more.now) }
-        ensures value { events_of logs.new ≡ each_from 0 (length logs.old)
-            (λ c. list_at (events_of logs.old) c ++ list_at (events_of more.now) c) }
+        ensures value { events_of logs.new ≡ tabulate 0 (length logs.old)
+            (λ c. nth_or_nil (events_of logs.old) c ++ nth_or_nil (events_of more.now) c) }
     {
         if are_many(more) {
             append_logs(self.rt, self.threads, logs, more);
@@ -63,8 +63,8 @@ fn append_logs<R: Threads + Sync>(
     requires few { threads ≤ 64 }
     requires count { length more.now ≡ length logs.old }
     requires room { TakeIn (log_rooms_of logs.old) (events_of more.now) }
-    ensures value { events_of logs.new ≡ each_from 0 (length logs.old)
-        (λ c. list_at (events_of logs.old) c ++ list_at (events_of more.now) c) }
+    ensures value { events_of logs.new ≡ tabulate 0 (length logs.old)
+        (λ c. nth_or_nil (events_of logs.old) c ++ nth_or_nil (events_of more.now) c) }
 {
     each_behind(rt, threads, logs, more);
 }

@@ -10,26 +10,26 @@ use Rattle.cm_model.specs.declared.message.Message.{Message}
 use Rattle.cm_model.specs.declared.message.Event.{Event}
 use Rattle.cm_model.specs.declared.message.Event.TheVariants.{Injected, Delivered}
 use Rattle.cm_model.specs.Processor.{Processor}
-use Rattle.cm_model.specs.Array.{list_at}
+use Rattle.cm_model.specs.Array.{nth_or_nil}
 use Rattle.cm_model.specs.Letters.{messages_sent}
-use Rattle.cm_model.proofs.Each.{length-each_from, get_or-each_below, is_each}
+use Rattle.cm_model.proofs.Each.{length-tabulate, get_or-each_below, is_each}
 use Rattle.cm_router.specs.Rows.{teller, events_of_chip, with_row}
 
 pub events_of_chip-append : (c : ℕ) (row more : List Event) → events_of_chip c (row ++ more) ≡ events_of_chip c row ++ events_of_chip c more
 events_of_chip-append c row more = filter-append (λ e. teller e == c) row more
 
 pub length-with_row : (logs : List (List Event)) (row : List Event) → length (with_row logs row) ≡ length logs
-length-with_row logs row = length-each_from 0 (length logs) (λ c. list_at logs c ++ events_of_chip c row)
+length-with_row logs row = length-tabulate 0 (length logs) (λ c. nth_or_nil logs c ++ events_of_chip c row)
 
 -- a chip's log
 pub with_row_at : (logs : List (List Event)) (row : List Event) (c : ℕ) → c < length logs
-    → list_at (with_row logs row) c ≡ list_at logs c ++ events_of_chip c row
-with_row_at logs row c inside = get_or-each_below (length logs) (λ k. list_at logs k ++ events_of_chip k row) c [] inside
+    → nth_or_nil (with_row logs row) c ≡ nth_or_nil logs c ++ events_of_chip c row
+with_row_at logs row c inside = get_or-each_below (length logs) (λ k. nth_or_nil logs k ++ events_of_chip k row) c [] inside
 
 -- a row that tells nothing
 pub with_row-nil : (logs : List (List Event)) → with_row logs [] ≡ logs
-with_row-nil logs = sym (is_each [] (length logs) (λ c. list_at logs c ++ []) logs refl
-    (λ c inside. sym (append-nil (list_at logs c))))
+with_row-nil logs = sym (is_each [] (length logs) (λ c. nth_or_nil logs c ++ []) logs refl
+    (λ c inside. sym (append-nil (nth_or_nil logs c))))
 
 -- ---- what one chip tells
 
@@ -49,21 +49,21 @@ told_here c (e ∷ es) all =
 
 -- behind a row in which one chip told more each log is as before, but that chip's, which has more behind it
 pub told_more : (logs : List (List Event)) (row es : List Event) (c : ℕ) → c < length logs
-    → All (λ e. teller e ≡ c) es → list_at (with_row logs (row ++ es)) c ≡ list_at (with_row logs row) c ++ es
+    → All (λ e. teller e ≡ c) es → nth_or_nil (with_row logs (row ++ es)) c ≡ nth_or_nil (with_row logs row) c ++ es
 told_more logs row es c inside all =
     with_row_at logs (row ++ es) c inside
-    ∙ ap (λ (xs : List Event). list_at logs c ++ xs)
+    ∙ ap (λ (xs : List Event). nth_or_nil logs c ++ xs)
     (events_of_chip-append c row es ∙ ap (λ (xs : List Event). events_of_chip c row ++ xs) (told_here c es all))
-    ∙ sym (append_assoc (list_at logs c) (events_of_chip c row) es)
+    ∙ sym (append_assoc (nth_or_nil logs c) (events_of_chip c row) es)
     ∙ ap (λ (xs : List Event). xs ++ es) (sym (with_row_at logs row c inside))
 
 pub told_no_more : (logs : List (List Event)) (row es : List Event) (c k : ℕ) → k ≢ c
-    → All (λ e. teller e ≡ c) es → list_at (with_row logs (row ++ es)) k ≡ list_at (with_row logs row) k
+    → All (λ e. teller e ≡ c) es → nth_or_nil (with_row logs (row ++ es)) k ≡ nth_or_nil (with_row logs row) k
 told_no_more logs row es c k other all =
     ⊎_elim
     (λ (inside : k < length logs).
     with_row_at logs (row ++ es) k inside
-    ∙ ap (λ (xs : List Event). list_at logs k ++ xs)
+    ∙ ap (λ (xs : List Event). nth_or_nil logs k ++ xs)
     (events_of_chip-append k row es ∙ ap (λ (xs : List Event). events_of_chip k row ++ xs) (told_elsewhere c k es other all)
     ∙ append-nil (events_of_chip k row))
     ∙ sym (with_row_at logs row k inside))

@@ -3,8 +3,8 @@ use Rattle.std.specs.Prelude.{ℕ, ◌++◌, ◌==◌, List, length}
 use Rattle.std.specs.List.{filter}
 use Rattle.cm_model.specs.declared.message.Event.{Event}
 use Rattle.cm_model.specs.declared.message.Event.TheVariants.{Injected, Delivered}
-use Rattle.cm_model.specs.Each.{each_from}
-use Rattle.cm_model.specs.Array.{list_at}
+use Rattle.cm_model.specs.Each.{tabulate}
+use Rattle.cm_model.specs.Array.{nth_or_nil}
 
 -- the number of the chip whose router tells an event
 abbrev pub teller : Event → ℕ
@@ -17,4 +17,4 @@ events_of_chip c row = filter (λ e. teller e == c) row
 
 -- logs by chip, behind each of which stands what a row tells of its chip
 abbrev pub with_row : List (List Event) → List Event → List (List Event)
-with_row logs row = each_from 0 (length logs) (λ c. list_at logs c ++ events_of_chip c row)
+with_row logs row = tabulate 0 (length logs) (λ c. nth_or_nil logs c ++ events_of_chip c row)

@@ -7,7 +7,7 @@ use Rattle.cm_model.specs.declared.act.Act.{Act}
 use Rattle.cm_model.specs.declared.message.Message.{Message}
 use Rattle.cm_model.specs.declared.message.Event.{Event}
 use Rattle.cm_model.specs.declared.message.Event.TheVariants.{Delivered}
-use Rattle.cm_model.specs.Array.{list_at}
+use Rattle.cm_model.specs.Array.{nth_or_nil}
 use Rattle.cm_model.specs.Machine.{Machine}
 use Rattle.cm_model.specs.Keeping.{IsMachine}
 use Rattle.cm_model.specs.Deliveries.{IsAt, IsDeliveryOf}
@@ -40,16 +40,16 @@ record HasDelivered (n cap : ℕ) (start : Machine) (acts : List Act) (session :
 -- it was the first line
 delivered_now : (n cap : ℕ) (start : Machine) (acts : List Act) (session : Session) (line : List ℕ)
     (lines : List (List ℕ)) (c i d : ℕ) (m : Message) → Follows n start session.machine
-    → IsMachine n cap session.machine → c < 2 ^ n → length (list_at session.machine.logs c) ≤ i
-    → IsAt (list_at (after_line n cap acts session line).session.machine.logs c) i (Delivered d m)
+    → IsMachine n cap session.machine → c < 2 ^ n → length (nth_or_nil session.machine.logs c) ≤ i
+    → IsAt (nth_or_nil (after_line n cap acts session line).session.machine.logs c) i (Delivered d m)
     → HasDelivered n cap start acts session (line ∷ lines) c i d m
 unfolding after_lines
 delivered_now n cap start acts session line lines c i d m follows h l old there =
     let next : Session = (after_line n cap acts session line).session in
     ⊎_elim
     (λ (poked : pokes n acts line ≡ true).
-    let same : list_at next.machine.logs c ≡ list_at session.machine.logs c =
-    ap (λ logs. list_at logs c) (line_pokes n cap acts session line h.buffer_count poked) in
+    let same : nth_or_nil next.machine.logs c ≡ nth_or_nil session.machine.logs c =
+    ap (λ logs. nth_or_nil logs c) (line_pokes n cap acts session line h.buffer_count poked) in
     absurd (omega (arith, there.0, old, ap length same)))
     (λ (pokeless : pokes n acts line ≡ false).
     let run : HasRun n cap acts session next = line_runs n cap acts session line h.buffer_count pokeless in
@@ -59,7 +59,7 @@ delivered_now n cap start acts session line lines c i d m follows h l old there 
       more = lines;
       lines_are = refl;
       delivery = deliveries_of n cap start session.machine (acts_run n cap acts session line) c i d m follows h l old
-          (subst (λ (z : Machine). IsAt (list_at z.logs c) i (Delivered d m)) run.machine_is there);
+          (subst (λ (z : Machine). IsAt (nth_or_nil z.logs c) i (Delivered d m)) run.machine_is there);
     })
     (cases_Bool (pokes n acts line))
 
@@ -79,14 +79,14 @@ delivered_later n cap start acts session line lines c i d m it = record {
 
 delivered_in_lines : (n cap : ℕ) (start : Machine) (acts : List Act) (session : Session) (lines : List (List ℕ))
     (c i d : ℕ) (m : Message) → Follows n start session.machine → IsMachine n cap session.machine → c < 2 ^ n
-    → length (list_at session.machine.logs c) ≤ i
-    → IsAt (list_at (after_lines n cap acts session lines).session.machine.logs c) i (Delivered d m)
+    → length (nth_or_nil session.machine.logs c) ≤ i
+    → IsAt (nth_or_nil (after_lines n cap acts session lines).session.machine.logs c) i (Delivered d m)
     → HasDelivered n cap start acts session lines c i d m
 unfolding after_lines
 delivered_in_lines n cap start acts session [] c i d m follows h l old there = absurd (omega (arith, there.0, old))
 delivered_in_lines n cap start acts session (line ∷ lines) c i d m follows h l old there =
     let next : Session = (after_line n cap acts session line).session in
-    let log : List Event = list_at next.machine.logs c in
+    let log : List Event = nth_or_nil next.machine.logs c in
     let grown = (lines_follow n cap acts next lines).grows c l in
     ⊎_elim
     (λ (now : i < length log).

@@ -4,7 +4,7 @@ use Rattle.std.proofs.Common.{◌≡◌, ℕ, ◌-◌, ◌^◌, List, [], ◌∷
 use Rattle.std.specs.Fmt.{digits}
 use Rattle.cm_model.specs.declared.act.Act.{Act}
 use Rattle.cm_model.specs.declared.act.Act.TheVariants.{Sense, Cycle}
-use Rattle.cm_model.specs.Each.{each_from}
+use Rattle.cm_model.specs.Each.{tabulate}
 use Rattle.cm_model.specs.Processor.{blank_processor, field_value}
 use Rattle.cm_model.specs.Chip.{blank_chip, with_memory_bit, with_flag}
 use Rattle.cm_model.specs.Array.{wire}
@@ -115,19 +115,19 @@ pokes_are_read_back :
     ∷ codes "flag 0 3 9" ∷ codes "wire show" ∷ [])
     ≡ codes "ok\nfield 2\nflag 0\nok\nflag 1\nwire 1\n"
 unfolding going one_on after_line after_lines line digits blank_machine blank_chip blank_processor with_memory_bit
-    with_flag field_value wire each_from
+    with_flag field_value wire tabulate
 pokes_are_read_back = refl
 
 looks_are_told_before_the_last_line :
     of_blank looks (codes "wire on" ∷ codes "run" ∷ codes "wire off" ∷ codes "run" ∷ [])
     ≡ codes "wire on\nsense 0 0\nsense 1 0\nsense 2 0\nend\nwire off\nend\n"
 unfolding going one_on after_line after_lines line digits run_of opened closed blank_machine blank_chip
-    blank_processor wire each_from
+    blank_processor wire tabulate
 looks_are_told_before_the_last_line = refl
 
 nothing_is_there :
     of_blank looks (codes "buf 0" ∷ codes "events 0" ∷ codes "find 0 0 0" ∷ []) ≡ codes "buf 0\nevents 0\nunknown\n"
-unfolding after_line after_lines line digits buffer_lines log_lines blank_machine found_in each_from
+unfolding after_line after_lines line digits buffer_lines log_lines blank_machine found_in tabulate
 nothing_is_there = refl
 
 the_rule_is_told_by_its_number : of_blank looks (codes "rule" ∷ []) ≡ codes "rule 0\n"

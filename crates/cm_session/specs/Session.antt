@@ -7,7 +7,7 @@ use Rattle.cm_bits.specs.Text.{words_of}
 use Rattle.cm_model.specs.declared.act.Act.{Act}
 use Rattle.cm_model.specs.declared.act.Act.TheVariants.{Nano, Sense, Cycle}
 use Rattle.cm_model.specs.Processor.{flag, field_value}
-use Rattle.cm_model.specs.Array.{processor_of, wire, list_at}
+use Rattle.cm_model.specs.Array.{processor_of, wire, nth_or_nil}
 use Rattle.cm_model.specs.Wiring.{rule_number}
 use Rattle.cm_model.specs.Machine.{Machine, run_of}
 use Rattle.cm_model.specs.Found.{found_in}
@@ -123,9 +123,9 @@ obeyed n cap acts session (command.Poke place address b) =
 obeyed n cap acts session (command.PokeFlag place number b) =
     answered_with (with_machine session (machine_with_flag session.machine place.chip place.proc number b))
     (line (codes "ok" ∷ []))
-obeyed n cap acts session (command.Buffer c) = answered_with session (buffer_lines (list_at session.machine.buffers c))
+obeyed n cap acts session (command.Buffer c) = answered_with session (buffer_lines (nth_or_nil session.machine.buffers c))
 obeyed n cap acts session (command.Find tag) = answered_with session (found_line (found_in n session.machine tag))
-obeyed n cap acts session (command.Events c) = answered_with session (log_lines (list_at session.machine.logs c))
+obeyed n cap acts session (command.Events c) = answered_with session (log_lines (nth_or_nil session.machine.logs c))
 obeyed n cap acts session command.Rule =
     answered_with session (line (codes "rule" ∷ decimal (rule_number session.machine.routing.rule) ∷ []))
 

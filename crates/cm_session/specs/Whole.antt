@@ -6,7 +6,7 @@ use Rattle.cm_bits.specs.Text.{words_of}
 use Rattle.cm_model.specs.declared.act.Act.{Act}
 use Rattle.cm_model.specs.declared.message.Message.{Message}
 use Rattle.cm_model.specs.declared.message.Event.TheVariants.{Delivered}
-use Rattle.cm_model.specs.Array.{list_at}
+use Rattle.cm_model.specs.Array.{nth_or_nil}
 use Rattle.cm_model.specs.Machine.{Machine, run_of}
 use Rattle.cm_model.specs.Account.{Triple}
 use Rattle.cm_model.specs.Keeping.{IsMachine}
@@ -125,6 +125,6 @@ pub record IsDeliveryIn (n cap : ℕ) (start : Machine) (acts : List Act) (lines
 -- each delivery that the logs tell of since a session began
 abbrev pub SessionsDeliver : Type 0
 SessionsDeliver = (n cap : ℕ) (start : Machine) (acts : List Act) (lines : List (List ℕ)) (c i d : ℕ) (m : Message)
-    → IsMachine n cap start → c < 2 ^ n → length (list_at start.logs c) ≤ i
-    → IsAt (list_at (left n cap start acts lines).logs c) i (Delivered d m) →
+    → IsMachine n cap start → c < 2 ^ n → length (nth_or_nil start.logs c) ≤ i
+    → IsAt (nth_or_nil (left n cap start acts lines).logs c) i (Delivered d m) →
     IsDeliveryIn n cap start acts lines c i d m

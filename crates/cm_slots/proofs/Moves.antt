@@ -13,9 +13,9 @@ use Rattle.std.proofs.lemmas.Simd.{map-map}
 use Rattle.std.proofs.lemmas.Option.{slice_get-map}
 use Rattle.std.specs.Option.{option_map}
 use Rattle.std.proofs.lemmas.Nat.{xor_shr, xor_mod, xor_lt, xor_comm, shl-shr}
-use Rattle.cm_model.specs.Each.{each_from}
-use Rattle.cm_model.specs.Array.{each_chip, list_at}
-use Rattle.cm_model.proofs.Each.{same_each_below, is_each, length-each_from, get_or-each_below}
+use Rattle.cm_model.specs.Each.{tabulate}
+use Rattle.cm_model.specs.Array.{each_chip, nth_or_nil}
+use Rattle.cm_model.proofs.Each.{same_each_below, is_each, length-tabulate, get_or-each_below}
 use Rattle.cm_model.proofs.Flips.{across_below, xor_twice}
 use Rattle.cm_slots.specs.declared.ticket.Ticket.{Ticket}
 use Rattle.cm_slots.specs.declared.order.Order.{Order}
@@ -49,29 +49,29 @@ over_both x y ts =
 
 pub length-over : (dims : ℕ) (q : List (List Ticket)) → length (queues_over dims q) ≡ length q
 length-over dims q =
-    length-each_from 0 (length q) (λ c. map (ticket_over dims) (list_at q (bit_xor c dims)))
+    length-tabulate 0 (length q) (λ c. map (ticket_over dims) (nth_or_nil q (bit_xor c dims)))
 
-pub list_at-over : (dims c : ℕ) (q : List (List Ticket)) → c < length q
-    → list_at (queues_over dims q) c ≡ map (ticket_over dims) (list_at q (bit_xor c dims))
-list_at-over dims c q h =
-    get_or-each_below (length q) (λ k. map (ticket_over dims) (list_at q (bit_xor k dims))) c [] h
+pub nth_or_nil-over : (dims c : ℕ) (q : List (List Ticket)) → c < length q
+    → nth_or_nil (queues_over dims q) c ≡ map (ticket_over dims) (nth_or_nil q (bit_xor c dims))
+nth_or_nil-over dims c q h =
+    get_or-each_below (length q) (λ k. map (ticket_over dims) (nth_or_nil q (bit_xor k dims))) c [] h
 
 pub queues_over-none : (q : List (List Ticket)) → queues_over 0 q ≡ q
-queues_over-none q = sym (is_each [] (length q) (λ c. map (ticket_over 0) (list_at q (bit_xor c 0))) q refl
-    (λ c h. sym (over_none (list_at q (bit_xor c 0)) ∙ ap (list_at q) (xor_zero_r c))))
+queues_over-none q = sym (is_each [] (length q) (λ c. map (ticket_over 0) (nth_or_nil q (bit_xor c 0))) q refl
+    (λ c h. sym (over_none (nth_or_nil q (bit_xor c 0)) ∙ ap (nth_or_nil q) (xor_zero_r c))))
 
-pub ruleset seen = (length-over, list_at-over, queues_over-none)
+pub ruleset seen = (length-over, nth_or_nil-over, queues_over-none)
 
 -- over some dimensions, and then over others
 pub queues_over-both : (x y : ℕ) (q : List (List Ticket)) → ((c : ℕ) → c < length q → bit_xor c y < length q)
     → queues_over (bit_xor x y) q ≡ queues_over y (queues_over x q)
 queues_over-both x y q inside =
-    same_each_below [] (length q) (λ c. map (ticket_over (bit_xor x y)) (list_at q (bit_xor c (bit_xor x y))))
-    (λ c. map (ticket_over y) (list_at (queues_over x q) (bit_xor c y)))
-    (λ c h. sym (ap (map (ticket_over y)) (list_at-over x (bit_xor c y) q (inside c h))
-    ∙ over_both x y (list_at q (bit_xor (bit_xor c y) x))
-    ∙ ap (λ (k : ℕ). map (ticket_over (bit_xor x y)) (list_at q k)) (xor_assoc c y x ∙ ap (bit_xor c) (xor_comm y x))))
-    ∙ ap (λ (n : ℕ). each_from 0 n (λ c. map (ticket_over y) (list_at (queues_over x q) (bit_xor c y))))
+    same_each_below [] (length q) (λ c. map (ticket_over (bit_xor x y)) (nth_or_nil q (bit_xor c (bit_xor x y))))
+    (λ c. map (ticket_over y) (nth_or_nil (queues_over x q) (bit_xor c y)))
+    (λ c h. sym (ap (map (ticket_over y)) (nth_or_nil-over x (bit_xor c y) q (inside c h))
+    ∙ over_both x y (nth_or_nil q (bit_xor (bit_xor c y) x))
+    ∙ ap (λ (k : ℕ). map (ticket_over (bit_xor x y)) (nth_or_nil q k)) (xor_assoc c y x ∙ ap (bit_xor c) (xor_comm y x))))
+    ∙ ap (λ (n : ℕ). tabulate 0 n (λ c. map (ticket_over y) (nth_or_nil (queues_over x q) (bit_xor c y))))
     (sym (length-over x q))
 
 -- as many stand at each chip as at that where its tickets come from
@@ -81,8 +81,8 @@ module _ (dims room : ℕ) (q : List (List Ticket)) (inside : (c : ℕ) → c < 
       let low : k < length q = omega (arith, length-over dims q) in
       omega (
         arith,
-        ap length (get_or-each_below (length q) (λ c. map (ticket_over dims) (list_at q (bit_xor c dims))) k d low),
-        length-map (list_at q (bit_xor k dims)) (ticket_over dims),
+        ap length (get_or-each_below (length q) (λ c. map (ticket_over dims) (nth_or_nil q (bit_xor c dims))) k d low),
+        length-map (nth_or_nil q (bit_xor k dims)) (ticket_over dims),
         few (bit_xor k dims) [] (inside k low),
       )
 
@@ -90,11 +90,11 @@ pub within_before : (dims room : ℕ) (q : List (List Ticket)) → ((c : ℕ) �
     → All (λ ts. length ts ≤ room) (queues_over dims q) → All (λ ts. length ts ≤ room) q
 within_before dims room q inside few = All-from_get_or (λ ts. length ts ≤ room) q [] (λ k h.
     let there : bit_xor k dims < length q = inside k h in
-    let same : list_at q (bit_xor (bit_xor k dims) dims) ≡ list_at q k = ap (list_at q) (xor_twice k dims) in
+    let same : nth_or_nil q (bit_xor (bit_xor k dims) dims) ≡ nth_or_nil q k = ap (nth_or_nil q) (xor_twice k dims) in
     omega (
       arith,
-      ap length (list_at-over dims (bit_xor k dims) q there),
-      length-map (list_at q (bit_xor (bit_xor k dims) dims)) (ticket_over dims),
+      ap length (nth_or_nil-over dims (bit_xor k dims) q there),
+      length-map (nth_or_nil q (bit_xor (bit_xor k dims) dims)) (ticket_over dims),
       ap length same,
       few (bit_xor k dims) [] (omega (arith, length-over dims q)),
     ))
@@ -286,11 +286,11 @@ module _ {chips dims : ℕ} {tiles : List Tile} {leaving : List (Option (List �
 
     pub moved_queues : length new ≡ length tiles → queues_in chips new ≡ queues_over dims q
     moved_queues long =
-        same_each_below [] chips (tickets_of new) (λ c. map (ticket_over dims) (list_at q (bit_xor c dims)))
+        same_each_below [] chips (tickets_of new) (λ c. map (ticket_over dims) (nth_or_nil q (bit_xor c dims)))
         (λ c h. each_moved long c h
         ∙ ap (map (ticket_over dims))
         (ticket_list are view (bit_xor c dims) (omega (arith, as_many are view, inside c (omega (arith, as_many are view))))))
-        ∙ ap (λ (n : ℕ). each_from 0 n (λ c. map (ticket_over dims) (list_at q (bit_xor c dims)))) (sym (as_many are view))
+        ∙ ap (λ (n : ℕ). tabulate 0 n (λ c. map (ticket_over dims) (nth_or_nil q (bit_xor c dims)))) (sym (as_many are view))
 
     -- behind the last chip, where nobody stood, nobody comes
     pub moved_past : (c : ℕ) → chips ≤ c → c / 64 < length tiles → tickets_of new c ≡ []
@@ -313,20 +313,20 @@ module _ (dims : ℕ) (tiles : List (List Ticket)) {q : List (List Ticket)} (vie
   as_long = sym (length-over dims tiles) ∙ ap length view
 
   module _ (c : ℕ) (h : c < length q) where
-    pub queue_at : map (ticket_over dims) (list_at tiles (bit_xor c dims)) ≡ list_at q c
-    queue_at = sym (list_at-over dims c tiles (omega (arith, as_long)))
-        ∙ ap (λ (r : List (List Ticket)). list_at r c) view
+    pub queue_at : map (ticket_over dims) (nth_or_nil tiles (bit_xor c dims)) ≡ nth_or_nil q c
+    queue_at = sym (nth_or_nil-over dims c tiles (omega (arith, as_long)))
+        ∙ ap (λ (r : List (List Ticket)). nth_or_nil r c) view
 
-    pub length_at : length (list_at tiles (bit_xor c dims)) ≡ length (list_at q c)
-    length_at = sym (length-map (list_at tiles (bit_xor c dims)) (ticket_over dims)) ∙ ap length queue_at
+    pub length_at : length (nth_or_nil tiles (bit_xor c dims)) ≡ length (nth_or_nil q c)
+    length_at = sym (length-map (nth_or_nil tiles (bit_xor c dims)) (ticket_over dims)) ∙ ap length queue_at
 
-    pub none_at : ((k : ℕ) → k < length tiles → list_any has_come (map (ticket_over dims) (list_at tiles k)) ≡ false)
-        → bit_xor c dims < length tiles → list_any has_come (list_at q c) ≡ false
+    pub none_at : ((k : ℕ) → k < length tiles → list_any has_come (map (ticket_over dims) (nth_or_nil tiles k)) ≡ false)
+        → bit_xor c dims < length tiles → list_any has_come (nth_or_nil q c) ≡ false
     none_at none there = rw (← queue_at) (none (bit_xor c dims) there)
 
     pub place_at : (place : ℕ)
-        → option_map (ticket_over dims) (slice_get (list_at tiles (bit_xor c dims)) place) ≡ slice_get (list_at q c) place
-    place_at place = sym (slice_get-map (ticket_over dims) (list_at tiles (bit_xor c dims)) place)
+        → option_map (ticket_over dims) (slice_get (nth_or_nil tiles (bit_xor c dims)) place) ≡ slice_get (nth_or_nil q c) place
+    place_at place = sym (slice_get-map (ticket_over dims) (nth_or_nil tiles (bit_xor c dims)) place)
         ∙ ap (λ (ts : List Ticket). slice_get ts place) queue_at
 
   pub within_is : (room : ℕ) → ((c : ℕ) → c < length tiles → bit_xor c dims < length tiles)
@@ -361,13 +361,13 @@ module _ {span d : ℕ} (q : List (List Ticket)) (count : length q ≡ 2 ^ span)
       omega (arith, count, across_below span d c below low)
 
   pub crossed_one : (order : Order) → queues_over (2 ^ d) q
-      ≡ each_chip span (λ c. exchanged_by order 1 d (list_at q c) (list_at q (bit_xor c (2 ^ d))))
+      ≡ each_chip span (λ c. exchanged_by order 1 d (nth_or_nil q c) (nth_or_nil q (bit_xor c (2 ^ d))))
   crossed_one order =
-      same_each_below [] (length q) (λ c. map (ticket_over (2 ^ d)) (list_at q (bit_xor c (2 ^ d))))
-      (λ c. exchanged_by order 1 d (list_at q c) (list_at q (bit_xor c (2 ^ d))))
-      (λ c h. sym (one_for_one order d (list_at q c) (list_at q (bit_xor c (2 ^ d))) (few c [] h)
+      same_each_below [] (length q) (λ c. map (ticket_over (2 ^ d)) (nth_or_nil q (bit_xor c (2 ^ d))))
+      (λ c. exchanged_by order 1 d (nth_or_nil q c) (nth_or_nil q (bit_xor c (2 ^ d))))
+      (λ c h. sym (one_for_one order d (nth_or_nil q c) (nth_or_nil q (bit_xor c (2 ^ d))) (few c [] h)
       (few (bit_xor c (2 ^ d)) [] (across_there c h))))
-      ∙ ap (λ (n : ℕ). each_from 0 n (λ c. exchanged_by order 1 d (list_at q c) (list_at q (bit_xor c (2 ^ d))))) count
+      ∙ ap (λ (n : ℕ). tabulate 0 n (λ c. exchanged_by order 1 d (nth_or_nil q c) (nth_or_nil q (bit_xor c (2 ^ d))))) count
 
   pub one_within : All (λ ts. length ts ≤ 1) (queues_over (2 ^ d) q)
   one_within = over_within (2 ^ d) 1 q across_there few

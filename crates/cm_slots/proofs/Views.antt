@@ -10,9 +10,9 @@ use Rattle.std.specs.Prelude.{bit_xor}
 use Rattle.std.specs.Global.{Vec}
 use Rattle.std.specs.Vec.{with_items}
 use Rattle.std.proofs.lemmas.Nat.{xor_shr}
-use Rattle.cm_model.specs.Each.{each_from}
-use Rattle.cm_model.proofs.Each.{same_each_below, is_each, length-each_from, get_or-each_below, map-each_from}
-use Rattle.cm_model.specs.Array.{each_chip, list_at}
+use Rattle.cm_model.specs.Each.{tabulate}
+use Rattle.cm_model.proofs.Each.{same_each_below, is_each, length-tabulate, get_or-each_below, map-tabulate}
+use Rattle.cm_model.specs.Array.{each_chip, nth_or_nil}
 use Rattle.cm_model.proofs.Flips.{across_below, xor_twice}
 use Rattle.cm_slots.specs.declared.tile.Tile.{Tile}
 use Rattle.cm_slots.specs.declared.order.Order.{Order}
@@ -57,13 +57,13 @@ module _ {count : ℕ} {tiles : List Tile} (empty : AreEmptyTiles count tiles) w
       })
 
 pub empty_queues : (chips count : ℕ) (tiles : List Tile) → AreEmptyTiles count tiles
-    → queues_in chips tiles ≡ each_from 0 chips (λ c. [])
+    → queues_in chips tiles ≡ tabulate 0 chips (λ c. [])
 empty_queues chips count tiles empty = same_each_below [] chips (tickets_of tiles) (λ c. [])
     (λ c h. ⊎_elim (λ (l : c / 64 < count). quiet_tickets c tiles (empty_quiet empty (c / 64) l))
     (λ (l : count ≤ c / 64). nobody_past tiles c (omega (arith, empty.long))) (cases_lt (c / 64) count))
 
 -- as long as there are no tiles, nobody stands anywhere
-pub no_queues : (chips : ℕ) (tiles : List Tile) → length tiles ≡ 0 → queues_in chips tiles ≡ each_from 0 chips (λ c. [])
+pub no_queues : (chips : ℕ) (tiles : List Tile) → length tiles ≡ 0 → queues_in chips tiles ≡ tabulate 0 chips (λ c. [])
 no_queues chips tiles none = same_each_below [] chips (tickets_of tiles) (λ c. [])
     (λ c h. nobody_past tiles c (omega (arith, none)))
 
@@ -90,7 +90,7 @@ tiles_made chips tiles leaving few empty rows = record {
 }
 
 -- what is read of a list that a function makes
-pub ruleset seen = (length-each_from, get_or-each_below, with_items_is)
+pub ruleset seen = (length-tabulate, get_or-each_below, with_items_is)
 
 -- what was lent as a slice has what was written to the slice
 pub items-lent : {X : Type 0} (row : Vec X) (now : List X) → length now ≡ length row.items
@@ -105,21 +105,21 @@ place_of_leaver-nobody test room some = rw (ne_eqb 0 room (λ e. absurd (omega (
 module _ {chips : ℕ} {tiles : List Tile} {leaving : List (Option (List ℕ))} {q : List (List Ticket)}
     (are : AreTiles chips tiles leaving) (view : queues_in chips tiles ≡ q) where
   pub as_many : length q ≡ chips
-  as_many = sym (ap length view) ∙ length-each_from 0 chips (tickets_of tiles)
+  as_many = sym (ap length view) ∙ length-tabulate 0 chips (tickets_of tiles)
 
-  pub ticket_list : (c : ℕ) → c < chips → tickets_of tiles c ≡ list_at q c
+  pub ticket_list : (c : ℕ) → c < chips → tickets_of tiles c ≡ nth_or_nil q c
   ticket_list c h =
-      sym (get_or-each_below chips (tickets_of tiles) c [] h) ∙ ap (λ (r : List (List Ticket)). list_at r c) view
+      sym (get_or-each_below chips (tickets_of tiles) c [] h) ∙ ap (λ (r : List (List Ticket)). nth_or_nil r c) view
 
   -- where there are tiles there is one for each chip
   pub made_for : 0 < length tiles → (c : ℕ) → c < length q → c / 64 < length tiles
   made_for some c h = omega (arith, are.count some, as_many, h)
 
   -- nobody stands at any chip as long as there are no tiles; where somebody stands there is one
-  pub nobody_yet : length tiles ≡ 0 → (c : ℕ) → c < chips → list_at q c ≡ []
+  pub nobody_yet : length tiles ≡ 0 → (c : ℕ) → c < chips → nth_or_nil q c ≡ []
   nobody_yet none c h = sym (ticket_list c h) ∙ nobody_past tiles c (omega (arith, none))
 
-  pub stands_there : (c place : ℕ) → c < length q → place < length (list_at q c) → c / 64 < length tiles
+  pub stands_there : (c place : ℕ) → c < length q → place < length (nth_or_nil q c) → c / 64 < length tiles
   stands_there c place h stands =
       tile_there tiles c place (omega (arith, stands, ap length (ticket_list c (omega (arith, h, as_many)))))
 
@@ -136,13 +136,13 @@ module _ {chips : ℕ} {tiles : List Tile} {leaving : List (Option (List ℕ))} 
   -- what is made of each chip's tickets, by chip
   pub mapped : {Y : Type 0} (none : Y) (made : ℕ → Y) (f : List Ticket → Y)
       → ((c : ℕ) → c / 64 < length tiles → made c ≡ f (tickets_of tiles c))
-      → ((c : ℕ) → length tiles ≤ c / 64 → made c ≡ f []) → each_from 0 chips made ≡ map f q
+      → ((c : ℕ) → length tiles ≤ c / 64 → made c ≡ f []) → tabulate 0 chips made ≡ map f q
   mapped none made f each past =
       same_each_below none chips made (λ c. f (tickets_of tiles c)) (λ c h. ⊎_elim
       (λ (l : c / 64 < length tiles). each c l)
       (λ (l : length tiles ≤ c / 64). past c l ∙ ap f (sym (nobody_past tiles c l)))
       (cases_lt (c / 64) (length tiles)))
-      ∙ sym (map-each_from f 0 chips (tickets_of tiles)) ∙ ap (map f) view
+      ∙ sym (map-tabulate f 0 chips (tickets_of tiles)) ∙ ap (map f) view
 
   -- where there is no tile for a chip, there is none at all
   pub none_made : (c : ℕ) → c < chips → length tiles ≤ c / 64 → length tiles ≡ 0
@@ -203,14 +203,14 @@ module _ {chips : ℕ} {tiles : List Tile} {leaving : List (Option (List ℕ))} 
           (cases_lt (c / 64) (length tiles))
 
       pub queues_after : 0 < room → queues_in chips new
-          ≡ each_chip dims (λ c. exchanged_by order room d (list_at q c) (list_at q (bit_xor c (2 ^ d))))
+          ≡ each_chip dims (λ c. exchanged_by order room d (nth_or_nil q c) (nth_or_nil q (bit_xor c (2 ^ d))))
       queues_after some = same_each_below [] chips (tickets_of new)
-          (λ c. exchanged_by order room d (list_at q c) (list_at q (bit_xor c (2 ^ d))))
+          (λ c. exchanged_by order room d (nth_or_nil q c) (nth_or_nil q (bit_xor c (2 ^ d))))
           (λ c h. each_exchanged some c h ∙ rw (
             ticket_list c h,
             ticket_list (bit_xor c (2 ^ d)) (omega (arith, as_many, across_below dims d c below)),
           ) refl)
-          ∙ ap (λ (n : ℕ). each_from 0 n (λ c. exchanged_by order room d (list_at q c) (list_at q (bit_xor c (2 ^ d)))))
+          ∙ ap (λ (n : ℕ). tabulate 0 n (λ c. exchanged_by order room d (nth_or_nil q c) (nth_or_nil q (bit_xor c (2 ^ d)))))
           (sym as_many ∙ count)
 
       -- behind the last chip, where nobody stood, nobody comes
@@ -230,7 +230,7 @@ module _ {chips : ℕ} {tiles : List Tile} {leaving : List (Option (List ℕ))} 
 pub within_view : (chips : ℕ) (tiles : List Tile) (room : ℕ) → AreWithin room tiles
     → All (λ ts. length ts ≤ room) (queues_in chips tiles)
 within_view chips tiles room few k d h =
-    let low : k < chips = omega (arith, length-each_from 0 chips (tickets_of tiles)) in
+    let low : k < chips = omega (arith, length-tabulate 0 chips (tickets_of tiles)) in
     let read = ap length (get_or-each_below chips (tickets_of tiles) k d low) in
     ⊎_elim
     (λ (l : k / 64 < length tiles).
@@ -246,14 +246,14 @@ module _ {chips chip : ℕ} {leaving : List (Option (List ℕ))} {q : List (List
   pub lent_changed : (now : List Tile) (f : List Ticket → List Ticket) → chip / 64 < length v.items
       → length now ≡ length lent
       → IsChanged chip (f (tickets_of lent chip)) lent now → AreTiles chips (with_items v now).items leaving
-      × (queues_in chips (with_items v now).items ≡ slice_set q chip (f (list_at q chip)))
+      × (queues_in chips (with_items v now).items ≡ slice_set q chip (f (nth_or_nil q chip)))
   lent_changed now f there long step =
       let many : length now ≡ length v.items = long ∙ ap length is in
       let low : chip < chips = omega (arith, as_many are view) in
-      let changed : IsChanged chip (f (list_at q chip)) v.items now =
+      let changed : IsChanged chip (f (nth_or_nil q chip)) v.items now =
       rw (← ticket_list are view chip low) (rw is at step) in
       rw (items-lent v now many) (
         tiles_kept are view now many refl changed.whole
             (λ c past h. changed.others c h (λ e. absurd (omega (arith, e))) ∙ are.past c past h),
-        changed_queues are view now many chip (f (list_at q chip)) low there changed,
+        changed_queues are view now many chip (f (nth_or_nil q chip)) low there changed,
       )

@@ -2,8 +2,8 @@
 use Rattle.std.specs.Prelude.{ℕ, ◌*◌, ◌%◌, ◌<◌, ◌≤◌, ◌≡◌, ◌≢◌, ◌==◌, List, length, map, bit_xor, Option, IfSome}
 use Rattle.std.specs.Prelude.{if◌then◌else◌}
 use Rattle.std.specs.List.{All}
-use Rattle.cm_model.specs.Each.{each_from}
-use Rattle.cm_model.specs.Array.{list_at}
+use Rattle.cm_model.specs.Each.{tabulate}
+use Rattle.cm_model.specs.Array.{nth_or_nil}
 use Rattle.cm_slots.specs.declared.ticket.Ticket.{Ticket}
 use Rattle.cm_slots.specs.declared.tile.Tile.{Tile}
 use Rattle.cm_slots.specs.Slots.{leaver_at, comers}
@@ -15,7 +15,7 @@ ticket_over dims t = record t { rel = bit_xor t.rel dims }
 
 -- queues of which each crosses these dimensions whole, to the chip across all of them
 abbrev pub queues_over : ℕ → List (List Ticket) → List (List Ticket)
-queues_over dims queues = each_from 0 (length queues) (λ c. map (ticket_over dims) (list_at queues (bit_xor c dims)))
+queues_over dims queues = tabulate 0 (length queues) (λ c. map (ticket_over dims) (nth_or_nil queues (bit_xor c dims)))
 
 -- these dimensions lead to chips that are there, and where there are any no more than one ticket stands at a chip
 pub record AreMovable (dims : ℕ) (queues : List (List Ticket)) : Type 0 where

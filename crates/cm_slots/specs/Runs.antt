@@ -3,7 +3,7 @@ use Rattle.std.specs.Prelude.{ℕ, ◌+◌, ◌/◌, ◌%◌, ◌^◌, ◌<◌, 
 use Rattle.std.specs.Prelude.{Option, None, IfSome, slice_index_or, vec_capacity}
 use Rattle.std.specs.List.{All}
 use Rattle.std.specs.Global.{Vec}
-use Rattle.cm_model.specs.Each.{each_from}
+use Rattle.cm_model.specs.Each.{tabulate}
 use Rattle.cm_slots.specs.declared.ticket.Ticket.{Ticket}
 use Rattle.cm_slots.specs.declared.order.Order.{Order}
 use Rattle.cm_slots.specs.declared.tile.Tile.{Tile}
@@ -74,7 +74,7 @@ pub record AreLeavers (leaving : List (Option (List ℕ))) : Type 0 where
 
 -- what contracts see of tiles: the tickets of each of so many chips
 abbrev pub queues_in : ℕ → List Tile → List (List Ticket)
-queues_in chips tiles = each_from 0 chips (tickets_of tiles)
+queues_in chips tiles = tabulate 0 chips (tickets_of tiles)
 
 -- the tiles of so many chips, or none as long as nobody has stood anywhere, and as many leavers; behind the last chip
 -- nobody stands

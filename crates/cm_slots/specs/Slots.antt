@@ -4,7 +4,7 @@ use Rattle.std.specs.Prelude.{List, [], ◌∷◌, length, bit_xor, Option, Some
 use Rattle.std.specs.Prelude.{slice_index, slice_index_or, if◌then◌else◌}
 use Rattle.std.specs.List.{All}
 use Rattle.cm_bits.specs.Bit.{bit}
-use Rattle.cm_model.specs.Each.{each_from}
+use Rattle.cm_model.specs.Each.{tabulate}
 
 -- ---- one slot
 
@@ -67,7 +67,7 @@ pub record AreSlots (slots : ℕ → ℕ) (numbers : List ℕ) : Type 0 where
 
 -- what stands in slots: all before the first that is 0
 abbrev pub standing_in : (ℕ → ℕ) → List ℕ
-standing_in slots = each_from 0 (first_of (λ j. slots j == 0) 15) slots
+standing_in slots = tabulate 0 (first_of (λ j. slots j == 0) 15) slots
 
 -- a row and fourteen behind it, each of 64 lanes
 pub record AreSlotRows (first : List ℕ) (rest : List (List ℕ)) : Type 0 where

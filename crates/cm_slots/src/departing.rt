@@ -2,7 +2,7 @@
 
 ghost use Rattle.std.specs.Prelude.{◌≡◌, ℕ, ◌-◌, ◌*◌, ◌/◌, ◌<◌, ◌≤◌, length, None};
 ghost use Rattle.std.specs.List.{All};
-ghost use Rattle.cm_model.specs.Each.{each_from};
+ghost use Rattle.cm_model.specs.Each.{tabulate};
 ghost use Rattle.cm_slots.specs.Queues.{stayers_of};
 ghost use Rattle.cm_slots.specs.Tickets.{has_to_go, ticket_going};
 ghost use Rattle.cm_slots.specs.Tiles.{IsShaped, IsQuiet, IsTile};
@@ -53,7 +53,7 @@ fn close_up(tiles: &mut [Tile], leaving: &[Option<Row>], sizes: Sizes)
 pub(crate) fn write_down(leaving: &[Option<Row>], leavers: &mut [Option<Ticket>])
     requires enough { 0 < length leaving.now → length leavers.old ≤ length leaving.now * 64 }
     requires leavers { AreLeavers leaving.now }
-    ensures value { leavers.new ≡ each_from 0 (length leavers.old) (ticket_leaving_chip leaving.now) }
+    ensures value { leavers.new ≡ tabulate 0 (length leavers.old) (ticket_leaving_chip leaving.now) }
 {
     for c in 0..leavers.len() {
         leavers[c] = leaver(leaving, c);

@@ -4,8 +4,8 @@ ghost use Rattle.std.specs.Prelude.{◌≡◌, ◌↔◌, ◌≢◌, ℕ, ◌^�
 ghost use Rattle.std.specs.Prelude.{IsTrue, bit_xor, length, true, false};
 ghost use Rattle.std.specs.Prelude.{map, remove, slice_set};
 ghost use Rattle.std.specs.List.{All, list_any, slice_get};
-ghost use Rattle.cm_model.specs.Each.{each_from};
-ghost use Rattle.cm_model.specs.Array.{each_chip, list_at};
+ghost use Rattle.cm_model.specs.Each.{tabulate};
+ghost use Rattle.cm_model.specs.Array.{each_chip, nth_or_nil};
 ghost use Rattle.cm_slots.specs.Queues.{stayers_of};
 ghost use Rattle.cm_slots.specs.Tickets.{has_to_go, has_come, ticket_going, queue_exchanged};
 ghost use Rattle.cm_slots.specs.Choice.{exchanged_by_number};
@@ -45,7 +45,7 @@ impl Slots {
     /// Slots for so many chips, at which no ticket stands.
     pub fn new(alloc: Global, chips: usize) -> Result<Slots, NoMemory>
         requires few { chips ≤ 4096 }
-        ensures value { IfOk result (λ slots. slots ≡ each_from 0 chips (λ c. [])) }
+        ensures value { IfOk result (λ slots. slots ≡ tabulate 0 chips (λ c. [])) }
     {
         let tiles = Tiles::new(alloc, chips)?;
         Ok(Slots { tiles, noted: 0 })
@@ -73,7 +73,7 @@ impl Slots {
     /// How many tickets stand at a chip.
     pub fn len(&self, chip: usize) -> usize
         requires chip { chip < length self.now }
-        ensures value { result ≡ length (list_at self.now chip) }
+        ensures value { result ≡ length (nth_or_nil self.now chip) }
         ensures most { result ≤ 15 }
     {
         self.tiles.len(chip ^ usize::from(self.noted))
@@ -82,7 +82,7 @@ impl Slots {
     /// The ticket at a place of a chip, if one stands there; at place 0 the first that came.
     pub fn ticket(&self, chip: usize, place: usize) -> Option<Ticket>
         requires chip { chip < length self.now }
-        ensures value { result ≡ slice_get (list_at self.now chip) place }
+        ensures value { result ≡ slice_get (nth_or_nil self.now chip) place }
         ensures most { IfSome result (λ t. place < 15) }
     {
         match self.tiles.ticket(chip ^ usize::from(self.noted), place) {
@@ -95,7 +95,7 @@ impl Slots {
     pub fn is_taken(&self, chip: usize, place: usize) -> bool
         requires chip { chip < length self.now }
         requires place { place < 15 }
-        ensures taken { IsTrue result ↔ place < length (list_at self.now chip) }
+        ensures taken { IsTrue result ↔ place < length (nth_or_nil self.now chip) }
     {
         self.tiles.is_taken(chip ^ usize::from(self.noted), place)
     }
@@ -104,8 +104,8 @@ impl Slots {
     pub fn arrive(&mut self, chip: usize, ticket: Ticket)
         requires chip { chip < length self.old }
         requires number { ticket.number < 65535 }
-        requires room { length (list_at self.old chip) < 15 }
-        ensures value { self.new ≡ slice_set self.old chip (list_at self.old chip ++ ticket ∷ []) }
+        requires room { length (nth_or_nil self.old chip) < 15 }
+        ensures value { self.new ≡ slice_set self.old chip (nth_or_nil self.old chip ++ ticket ∷ []) }
     {
         settle(&mut self.tiles, &mut self.noted);
         self.tiles.arrive(chip, ticket);
@@ -115,8 +115,8 @@ impl Slots {
     pub fn replace(&mut self, chip: usize, place: usize, ticket: Ticket)
         requires chip { chip < length self.old }
         requires number { ticket.number < 65535 }
-        requires place { place < length (list_at self.old chip) }
-        ensures value { self.new ≡ slice_set self.old chip (slice_set (list_at self.old chip) place ticket) }
+        requires place { place < length (nth_or_nil self.old chip) }
+        ensures value { self.new ≡ slice_set self.old chip (slice_set (nth_or_nil self.old chip) place ticket) }
     {
         settle(&mut self.tiles, &mut self.noted);
         self.tiles.replace(chip, place, ticket);
@@ -125,8 +125,8 @@ impl Slots {
     /// Takes out the ticket at a place of a chip; the later ones stand one place nearer the front.
     pub fn remove(&mut self, chip: usize, place: usize)
         requires chip { chip < length self.old }
-        requires place { place < length (list_at self.old chip) }
-        ensures value { self.new ≡ slice_set self.old chip (remove (list_at self.old chip) place) }
+        requires place { place < length (nth_or_nil self.old chip) }
+        ensures value { self.new ≡ slice_set self.old chip (remove (nth_or_nil self.old chip) place) }
     {
         settle(&mut self.tiles, &mut self.noted);
         self.tiles.remove(chip, place);
@@ -137,10 +137,10 @@ impl Slots {
     pub fn next_arrived(&self, from: usize, sizes: Sizes) -> usize
         requires from { from ≤ length self.now }
         requires within { All (λ ts. length ts ≤ sizes.room) self.now }
-        ensures none { (c : ℕ) → from ≤ c → c < result → list_any has_come (list_at self.now c) ≡ false }
+        ensures none { (c : ℕ) → from ≤ c → c < result → list_any has_come (nth_or_nil self.now c) ≡ false }
         ensures from { from ≤ result }
         ensures most { result ≤ length self.now }
-        ensures arrived { result < length self.now → list_any has_come (list_at self.now result) ≡ true }
+        ensures arrived { result < length self.now → list_any has_come (nth_or_nil self.now result) ≡ true }
     {
         if self.noted == 0 {
             self.tiles.next_arrived(from, sizes)
@@ -155,10 +155,10 @@ impl Slots {
     fn next_that_moved(&self, from: usize) -> usize
         requires from { from ≤ length self.now }
         requires few { All (λ ts. length ts ≤ 1) self.now }
-        ensures none { (c : ℕ) → from ≤ c → c < result → list_any has_come (list_at self.now c) ≡ false }
+        ensures none { (c : ℕ) → from ≤ c → c < result → list_any has_come (nth_or_nil self.now c) ≡ false }
         ensures from { from ≤ result }
         ensures most { result ≤ length self.now }
-        ensures arrived { result < length self.now → list_any has_come (list_at self.now result) ≡ true }
+        ensures arrived { result < length self.now → list_any has_come (nth_or_nil self.now result) ≡ true }
     {
         let chips = self.chips();
         for chip in from..chips {
@@ -172,8 +172,8 @@ impl Slots {
     /// Whether the ticket of a chip, of which it has one at most, is that of a message that has arrived.
     fn has_arrival(&self, chip: usize) -> bool
         requires chip { chip < length self.now }
-        requires few { length (list_at self.now chip) ≤ 1 }
-        ensures value { result ≡ list_any has_come (list_at self.now chip) }
+        requires few { length (nth_or_nil self.now chip) ≤ 1 }
+        ensures value { result ≡ list_any has_come (nth_or_nil self.now chip) }
     {
         match self.ticket(chip, 0) {
             Some(ticket) => ticket.rel == 0,
@@ -183,7 +183,7 @@ impl Slots {
 
     /// Takes out all tickets.
     pub fn clear(&mut self)
-        ensures value { self.new ≡ each_from 0 (length self.old) (λ c. []) }
+        ensures value { self.new ≡ tabulate 0 (length self.old) (λ c. []) }
     {
         self.tiles.clear();
         self.noted = 0;
@@ -204,7 +204,7 @@ impl Slots {
         requires count { length self.old ≡ 2 ^ span }
         requires within { All (λ ts. length ts ≤ sizes.room) self.old }
         ensures value { self.new ≡ each_chip span
-            (λ c. queue_exchanged sizes.room dim (list_at self.old c) (list_at self.old (bit_xor c (2 ^ dim)))) }
+            (λ c. queue_exchanged sizes.room dim (nth_or_nil self.old c) (nth_or_nil self.old (bit_xor c (2 ^ dim)))) }
         ensures within { All (λ ts. length ts ≤ sizes.room) self.new }
     {
         if sizes.room == 1 {
@@ -223,7 +223,7 @@ impl Slots {
         requires count { length self.old ≡ 2 ^ span }
         requires within { All (λ ts. length ts ≤ sizes.room) self.old }
         ensures value { self.new ≡ each_chip span (λ c. exchanged_by_number sizes.room dim
-            (list_at self.old c) (list_at self.old (bit_xor c (2 ^ dim)))) }
+            (nth_or_nil self.old c) (nth_or_nil self.old (bit_xor c (2 ^ dim)))) }
         ensures within { All (λ ts. length ts ≤ sizes.room) self.new }
     {
         if sizes.room == 1 {

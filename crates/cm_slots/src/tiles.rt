@@ -4,8 +4,8 @@ ghost use Rattle.std.specs.Prelude.{◌≡◌, ◌↔◌, ◌≢◌, ℕ, ◌^�
 ghost use Rattle.std.specs.Prelude.{IsTrue, IsFalse, bit_xor, length, true, false};
 ghost use Rattle.std.specs.Prelude.{map, remove, slice_set, ◌+◌, ◌/◌, vec_capacity};
 ghost use Rattle.std.specs.List.{All, list_any, slice_get};
-ghost use Rattle.cm_model.specs.Each.{each_from};
-ghost use Rattle.cm_model.specs.Array.{each_chip, list_at};
+ghost use Rattle.cm_model.specs.Each.{tabulate};
+ghost use Rattle.cm_model.specs.Array.{each_chip, nth_or_nil};
 ghost use Rattle.cm_slots.specs.Runs.{AreEmptyTiles, AreKept, queues_in};
 ghost use Rattle.cm_slots.specs.Queues.{stayers_of};
 ghost use Rattle.cm_slots.specs.Tickets.{has_to_go, has_come, ticket_going, queue_exchanged};
@@ -55,7 +55,7 @@ impl Tiles {
     /// Tiles for so many chips, at which no ticket stands.
     pub fn new(alloc: Global, chips: usize) -> Result<Tiles, NoMemory>
         requires few { chips ≤ 4096 }
-        ensures value { IfOk result (λ slots. slots ≡ each_from 0 chips (λ c. [])) }
+        ensures value { IfOk result (λ slots. slots ≡ tabulate 0 chips (λ c. [])) }
     {
         let count = tiles_for(chips);
         let tiles = Vec::with_capacity(alloc, count)?;
@@ -92,7 +92,7 @@ impl Tiles {
     /// How many tickets stand at a chip.
     pub fn len(&self, chip: usize) -> usize
         requires chip { chip < length self.now }
-        ensures value { result ≡ length (list_at self.now chip) }
+        ensures value { result ≡ length (nth_or_nil self.now chip) }
         ensures most { result ≤ 15 }
     {
         if self.tiles.is_empty() {
@@ -104,7 +104,7 @@ impl Tiles {
     /// The ticket at a place of a chip, if one stands there; at place 0 the first that came.
     pub fn ticket(&self, chip: usize, place: usize) -> Option<Ticket>
         requires chip { chip < length self.now }
-        ensures value { result ≡ slice_get (list_at self.now chip) place }
+        ensures value { result ≡ slice_get (nth_or_nil self.now chip) place }
         ensures most { IfSome result (λ t. place < 15) }
     {
         if self.tiles.is_empty() {
@@ -117,7 +117,7 @@ impl Tiles {
     pub fn is_taken(&self, chip: usize, place: usize) -> bool
         requires chip { chip < length self.now }
         requires place { place < 15 }
-        ensures taken { IsTrue result ↔ place < length (list_at self.now chip) }
+        ensures taken { IsTrue result ↔ place < length (nth_or_nil self.now chip) }
     {
         if self.tiles.is_empty() {
             return false;
@@ -129,8 +129,8 @@ impl Tiles {
     pub fn arrive(&mut self, chip: usize, ticket: Ticket)
         requires chip { chip < length self.old }
         requires number { ticket.number < 65535 }
-        requires room { length (list_at self.old chip) < 15 }
-        ensures value { self.new ≡ slice_set self.old chip (list_at self.old chip ++ ticket ∷ []) }
+        requires room { length (nth_or_nil self.old chip) < 15 }
+        ensures value { self.new ≡ slice_set self.old chip (nth_or_nil self.old chip ++ ticket ∷ []) }
     {
         make_tiles(&mut self.tiles, &mut self.leaving, self.chips);
         chips::arrive(&mut self.tiles, chip, ticket);
@@ -140,8 +140,8 @@ impl Tiles {
     pub fn replace(&mut self, chip: usize, place: usize, ticket: Ticket)
         requires chip { chip < length self.old }
         requires number { ticket.number < 65535 }
-        requires place { place < length (list_at self.old chip) }
-        ensures value { self.new ≡ slice_set self.old chip (slice_set (list_at self.old chip) place ticket) }
+        requires place { place < length (nth_or_nil self.old chip) }
+        ensures value { self.new ≡ slice_set self.old chip (slice_set (nth_or_nil self.old chip) place ticket) }
     {
         chips::replace(&mut self.tiles, chip, place, ticket);
     }
@@ -149,8 +149,8 @@ impl Tiles {
     /// Takes out the ticket at a place of a chip; the later ones stand one place nearer the front.
     pub fn remove(&mut self, chip: usize, place: usize)
         requires chip { chip < length self.old }
-        requires place { place < length (list_at self.old chip) }
-        ensures value { self.new ≡ slice_set self.old chip (remove (list_at self.old chip) place) }
+        requires place { place < length (nth_or_nil self.old chip) }
+        ensures value { self.new ≡ slice_set self.old chip (remove (nth_or_nil self.old chip) place) }
     {
         chips::remove(&mut self.tiles, chip, place);
     }
@@ -160,10 +160,10 @@ impl Tiles {
     pub fn next_arrived(&self, from: usize, sizes: Sizes) -> usize
         requires from { from ≤ length self.now }
         requires within { All (λ ts. length ts ≤ sizes.room) self.now }
-        ensures none { (c : ℕ) → from ≤ c → c < result → list_any has_come (list_at self.now c) ≡ false }
+        ensures none { (c : ℕ) → from ≤ c → c < result → list_any has_come (nth_or_nil self.now c) ≡ false }
         ensures from { from ≤ result }
         ensures most { result ≤ length self.now }
-        ensures arrived { result < length self.now → list_any has_come (list_at self.now result) ≡ true }
+        ensures arrived { result < length self.now → list_any has_come (nth_or_nil self.now result) ≡ true }
     {
         if self.tiles.is_empty() {
             return self.chips;
@@ -174,7 +174,7 @@ impl Tiles {
 
     /// Takes out all tickets.
     pub fn clear(&mut self)
-        ensures value { self.new ≡ each_from 0 (length self.old) (λ c. []) }
+        ensures value { self.new ≡ tabulate 0 (length self.old) (λ c. []) }
     {
         empty_all(&mut self.tiles);
     }
@@ -194,7 +194,7 @@ impl Tiles {
         requires count { length self.old ≡ 2 ^ span }
         requires within { All (λ ts. length ts ≤ sizes.room) self.old }
         ensures value { self.new ≡ each_chip span
-            (λ c. queue_exchanged sizes.room dim (list_at self.old c) (list_at self.old (bit_xor c (2 ^ dim)))) }
+            (λ c. queue_exchanged sizes.room dim (nth_or_nil self.old c) (nth_or_nil self.old (bit_xor c (2 ^ dim)))) }
         ensures within { All (λ ts. length ts ≤ sizes.room) self.new }
     {
         cross(
@@ -214,7 +214,7 @@ impl Tiles {
         requires count { length self.old ≡ 2 ^ span }
         requires within { All (λ ts. length ts ≤ sizes.room) self.old }
         ensures value { self.new ≡ each_chip span (λ c. exchanged_by_number sizes.room dim
-            (list_at self.old c) (list_at self.old (bit_xor c (2 ^ dim)))) }
+            (nth_or_nil self.old c) (nth_or_nil self.old (bit_xor c (2 ^ dim)))) }
         ensures within { All (λ ts. length ts ≤ sizes.room) self.new }
     {
         cross(
@@ -241,7 +241,7 @@ impl Tiles {
     pub fn has_arrival_over(&self, dims: u16) -> bool
         requires few { All (λ ts. length ts ≤ 1) self.now }
         ensures none { IsFalse result → (c : ℕ) → c < length self.now
-            → list_any has_come (map (ticket_over dims) (list_at self.now c)) ≡ false }
+            → list_any has_come (map (ticket_over dims) (nth_or_nil self.now c)) ≡ false }
     {
         have_arrival_over(&self.tiles, dims)
     }

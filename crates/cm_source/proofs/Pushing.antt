@@ -4,7 +4,7 @@ use Rattle.std.specs.List.{range_with_len, flat_map}
 use Rattle.cm_model.specs.declared.act.Nano.{Nano}
 use Rattle.cm_model.specs.declared.act.Act.{Act}
 use Rattle.cm_model.specs.declared.act.Act.TheVariants as act
-use Rattle.cm_model.specs.Each.{each_from}
+use Rattle.cm_model.specs.Each.{tabulate}
 use Rattle.cm_macros.proofs.Lists.{rounds_more}
 
 -- two acts for each bit
@@ -20,9 +20,9 @@ two_more xs ys zs ws n f a b before first second both =
 
 -- one act before those for each bit
 pub one_before : (xs ys zs : List Act) (a b : Nano) (n k : ℕ) (f : ℕ → Nano) → ys ≡ xs ++ act.Nano a ∷ [] → a ≡ b
-    → zs ≡ ys ++ map act.Nano (each_from 0 n f) → n ≡ k
-    → zs ≡ xs ++ map act.Nano (b ∷ each_from 0 k f)
+    → zs ≡ ys ++ map act.Nano (tabulate 0 n f) → n ≡ k
+    → zs ≡ xs ++ map act.Nano (b ∷ tabulate 0 k f)
 one_before xs ys zs a b n k f first is rest all =
-    rest ∙ (λ i. first i ++ map act.Nano (each_from 0 (all i) f))
-    ∙ append_assoc xs (act.Nano a ∷ []) (map act.Nano (each_from 0 k f))
-    ∙ ap (λ (c : Nano). xs ++ act.Nano c ∷ map act.Nano (each_from 0 k f)) is
+    rest ∙ (λ i. first i ++ map act.Nano (tabulate 0 (all i) f))
+    ∙ append_assoc xs (act.Nano a ∷ []) (map act.Nano (tabulate 0 k f))
+    ∙ ap (λ (c : Nano). xs ++ act.Nano c ∷ map act.Nano (tabulate 0 k f)) is

@@ -3,7 +3,7 @@
 ghost use Rattle.std.specs.Prelude.{◌≡◌, ◌≤◌, ◌<◌, ◌+◌, ◌++◌, ◌∷◌, [], false, map, OnOk, IfOk, if◌then◌else◌};
 ghost use Rattle.cm_bits.specs.Bit.{bit};
 ghost use Rattle.cm_model.specs.Processor.{ZERO, NEWS, DAISY};
-ghost use Rattle.cm_model.specs.Each.{each_from};
+ghost use Rattle.cm_model.specs.Each.{tabulate};
 ghost use Rattle.cm_model.specs.declared.act.Act.TheVariants as act;
 ghost use Rattle.cm_language.specs.Effect.{CARRY};
 ghost use Rattle.cm_language.specs.Acts.{TABLE_OF_A, ALWAYS_0, nano, clear_flag, each_bit};
@@ -130,7 +130,7 @@ fn push_bits(
 /// A number added to a field.
 fn push_sum(acts: &mut Vec<Act>, context: &Context, d: Field, number: u64) -> Result<(), AllocError>
     ensures ok { OnOk result (acts.new.items ≡ acts.old.items ++ map act.Nano
-        (clear_flag context.now CARRY ∷ each_from 0 d.len (add_bit context.now d number))) }
+        (clear_flag context.now CARRY ∷ tabulate 0 d.len (add_bit context.now d number))) }
 {
     acts.push(Act::Nano(clear_flag(context, carry())))?;
     for i in 0..d.len() {
@@ -164,7 +164,7 @@ fn push_kept(
     flag: FlagNo,
 ) -> Result<(), AllocError>
     ensures ok { OnOk result (acts.new.items ≡ acts.old.items ++ map act.Nano
-        (each_from 0 d.len (keep_bit context.now d flag))) }
+        (tabulate 0 d.len (keep_bit context.now d flag))) }
 {
     for i in 0..d.len() {
         acts.push(Act::Nano(keep_bit(context, d, flag, i)))?;

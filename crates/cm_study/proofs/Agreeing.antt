@@ -9,8 +9,8 @@ use Rattle.std.proofs.lemmas.List.Concat.{length-flat_map}
 use Rattle.cm_model.specs.declared.act.Act.TheVariants.{Cycle}
 use Rattle.cm_model.specs.declared.message.Event.{Event}
 use Rattle.cm_model.specs.declared.message.Event.TheVariants.{Injected, Delivered}
-use Rattle.cm_model.specs.Each.{each_from}
-use Rattle.cm_model.specs.Array.{list_at}
+use Rattle.cm_model.specs.Each.{tabulate}
+use Rattle.cm_model.specs.Array.{nth_or_nil}
 use Rattle.cm_model.specs.Machine.{Machine, run_of}
 use Rattle.cm_model.specs.Account.{Triple, injected_triple, delivered_triple, standing_triple, new_events, newly_injected}
 use Rattle.cm_model.specs.Deliveries.{standing_lines, newly_delivered}
@@ -76,37 +76,37 @@ deliveries (Delivered c m ∷ events) =
 behind : (n : ℕ) (before after : Machine) (c : ℕ) → c < 2 ^ n
     → events_behind (log_lengths n before) after c ≡ new_events before after c
 behind n before after c below =
-    ap (λ (k : ℕ). drop k (list_at after.logs c))
-    (get_or-each_below (2 ^ n) (λ k. length (list_at before.logs k)) c 0 below)
+    ap (λ (k : ℕ). drop k (nth_or_nil after.logs c))
+    (get_or-each_below (2 ^ n) (λ k. length (nth_or_nil before.logs k)) c 0 below)
 
 -- a sum over all chips is the length of what is gathered from them
 gathered : {X : Type 0} (n : ℕ) (f : ℕ → ℕ) (g : ℕ → List X) → ((c : ℕ) → c < 2 ^ n → f c ≡ length (g c))
-    → sum (each_from 0 (2 ^ n) f) ≡ length (flat_map g (range_with_len 0 (2 ^ n)))
-unfolding each_from
+    → sum (tabulate 0 (2 ^ n) f) ≡ length (flat_map g (range_with_len 0 (2 ^ n)))
+unfolding tabulate
 gathered n f g same =
     sum-map f (range_with_len 0 (2 ^ n))
     ∙ sum_by-range f (λ c. length (g c)) 0 (2 ^ n) (λ c from below. same c (omega (arith, below)))
     ∙ sym (length-flat_map g (range_with_len 0 (2 ^ n)))
 
 taken : (n cap : ℕ) (before after : Machine)
-    → sum (each_from 0 (2 ^ n) (taken_count_at (log_lengths n before) after)) ≡ length (newly_injected n before after)
+    → sum (tabulate 0 (2 ^ n) (taken_count_at (log_lengths n before) after)) ≡ length (newly_injected n before after)
 unfolding newly_injected
 taken n cap before after =
     gathered n (taken_count_at (log_lengths n before) after) (λ c. filter_map injected_triple (new_events before after c))
     (λ c below. ap (count_by is_injection_event) (behind n before after c below) ∙ sym (injections (new_events before after c)))
 
 gone : (n cap : ℕ) (before after : Machine)
-    → sum (each_from 0 (2 ^ n) (delivered_count_at (log_lengths n before) after)) ≡ length (newly_delivered n before after)
+    → sum (tabulate 0 (2 ^ n) (delivered_count_at (log_lengths n before) after)) ≡ length (newly_delivered n before after)
 unfolding newly_delivered
 gone n cap before after =
     gathered n (delivered_count_at (log_lengths n before) after) (λ c. filter_map delivered_triple (new_events before after c))
     (λ c below. ap (count_by is_delivery_event) (behind n before after c below) ∙ sym (deliveries (new_events before after c)))
 
-stands : (n : ℕ) (after : Machine) → sum (each_from 0 (2 ^ n) (standing_count_at after)) ≡ length (standing_lines n after)
+stands : (n : ℕ) (after : Machine) → sum (tabulate 0 (2 ^ n) (standing_count_at after)) ≡ length (standing_lines n after)
 unfolding standing_lines
 stands n after =
-    gathered n (standing_count_at after) (λ c. map (standing_triple c) (list_at after.buffers c))
-    (λ c below. sym (length-map (list_at after.buffers c) (standing_triple c)))
+    gathered n (standing_count_at after) (λ c. map (standing_triple c) (nth_or_nil after.buffers c))
+    (λ c below. sym (length-map (nth_or_nil after.buffers c) (standing_triple c)))
 
 pub counts_agree : (n cap : ℕ) (traces : Traces) (machine : Machine)
     → AgreesWithTheAccount n machine (run_of n cap machine (Cycle ∷ []))

@@ -5,7 +5,7 @@ use Rattle.std.specs.List.{range_with_len}
 use Rattle.std.proofs.lemmas.List.FromFn.{map-range_with_len_more}
 use Rattle.std.proofs.lemmas.List.Sums.{sum_by_push}
 use Rattle.std.proofs.lemmas.Grind.{flat_map-append}
-use Rattle.cm_model.specs.Each.{each_from}
+use Rattle.cm_model.specs.Each.{tabulate}
 use Rattle.cm_study.specs.declared.counts.Counts.{Counts}
 use Rattle.cm_model.specs.Machine.{Machine}
 use Rattle.cm_study.specs.Adding.{added, AreCountsWithin}
@@ -14,14 +14,14 @@ use Rattle.cm_study.specs.Counts.{taken_count_at, delivered_count_at, referred_a
 use Rattle.cm_study.specs.Counts.{asking_at, counts_at, counts_to}
 
 -- one more
-pub each_from-more : {X : Type 0} (f : ℕ → X) (count : ℕ)
-    → each_from 0 (count + 1) f ≡ each_from 0 count f ++ f count ∷ []
-unfolding each_from
-each_from-more f count = map-range_with_len_more f 0 count count (omega arith)
+pub tabulate-more : {X : Type 0} (f : ℕ → X) (count : ℕ)
+    → tabulate 0 (count + 1) f ≡ tabulate 0 count f ++ f count ∷ []
+unfolding tabulate
+tabulate-more f count = map-range_with_len_more f 0 count count (omega arith)
 
 -- one more is added
-pub sum-each_from-more : (f : ℕ → ℕ) (count : ℕ) → sum (each_from 0 (count + 1) f) ≡ sum (each_from 0 count f) + f count
-sum-each_from-more f count = ap sum (each_from-more f count) ∙ sum_by_push (λ x. x) (each_from 0 count f) (f count)
+pub sum-tabulate-more : (f : ℕ → ℕ) (count : ℕ) → sum (tabulate 0 (count + 1) f) ≡ sum (tabulate 0 count f) + f count
+sum-tabulate-more f count = ap sum (tabulate-more f count) ∙ sum_by_push (λ x. x) (tabulate 0 count f) (f count)
 
 -- one number more
 pub range-more : (count : ℕ) → range_with_len 0 (count + 1) ≡ range_with_len 0 count ++ count ∷ []
@@ -50,12 +50,12 @@ pub counts_to-more : (count cap : ℕ) (before : List ℕ) (traces : Traces) (ma
     ≡ added (counts_to count cap before traces machine) (counts_at cap before traces machine count)
 unfolding counts_to
 counts_to-more count cap before traces machine = λ i. record {
-  taken = sum-each_from-more (taken_count_at before machine) count i;
-  delivered = sum-each_from-more (delivered_count_at before machine) count i;
-  referred = sum-each_from-more (referred_at traces machine) count i;
-  standing = sum-each_from-more (standing_count_at machine) count i;
-  full = sum-each_from-more (full_at cap machine) count i;
-  asking = sum-each_from-more (asking_at machine) count i;
+  taken = sum-tabulate-more (taken_count_at before machine) count i;
+  delivered = sum-tabulate-more (delivered_count_at before machine) count i;
+  referred = sum-tabulate-more (referred_at traces machine) count i;
+  standing = sum-tabulate-more (standing_count_at machine) count i;
+  full = sum-tabulate-more (full_at cap machine) count i;
+  asking = sum-tabulate-more (asking_at machine) count i;
 }
 
 -- bounds of sums

@@ -4,21 +4,21 @@ use Rattle.std.specs.List.{count_by}
 use Rattle.cm_bits.specs.Bit.{bit_number}
 use Rattle.cm_model.specs.declared.message.Event.{Event}
 use Rattle.cm_model.specs.declared.message.Event.TheVariants.{Injected, Delivered}
-use Rattle.cm_model.specs.Each.{each_from}
+use Rattle.cm_model.specs.Each.{tabulate}
 use Rattle.cm_model.specs.Processor.{SEND, flag}
 use Rattle.cm_model.specs.Chip.{processor_at}
-use Rattle.cm_model.specs.Array.{each_chip, chip_at, list_at}
+use Rattle.cm_model.specs.Array.{each_chip, chip_at, nth_or_nil}
 use Rattle.cm_model.specs.Machine.{Machine}
 use Rattle.cm_study.specs.declared.counts.Counts.{Counts}
 use Rattle.cm_study.specs.Traces.{Traces, trace_of, referrals}
 
 -- by chip, how many events its log has
 abbrev pub log_lengths : ℕ → Machine → List ℕ
-log_lengths n machine = each_chip n (λ c. length (list_at machine.logs c))
+log_lengths n machine = each_chip n (λ c. length (nth_or_nil machine.logs c))
 
 -- the events of a chip behind those that were there before: by chip so many
 abbrev pub events_behind : List ℕ → Machine → ℕ → List Event
-events_behind before machine c = drop (slice_index_or before c 0) (list_at machine.logs c)
+events_behind before machine c = drop (slice_index_or before c 0) (nth_or_nil machine.logs c)
 
 abbrev pub is_injection_event : Event → Bool
 is_injection_event (Injected m) = true
@@ -40,20 +40,20 @@ delivered_count_at before machine c = count_by is_delivery_event (events_behind 
 
 -- how often messages that stand there were referred since
 abbrev pub referred_at : Traces → Machine → ℕ → ℕ
-referred_at traces machine c = sum_by (λ m. referrals (trace_of traces c m) m) (list_at machine.buffers c)
+referred_at traces machine c = sum_by (λ m. referrals (trace_of traces c m) m) (nth_or_nil machine.buffers c)
 
 -- messages that stand there
 abbrev pub standing_count_at : Machine → ℕ → ℕ
-standing_count_at machine c = length (list_at machine.buffers c)
+standing_count_at machine c = length (nth_or_nil machine.buffers c)
 
 -- 1 if it has no room for another, with room for cap
 abbrev pub full_at : ℕ → Machine → ℕ → ℕ
-full_at cap machine c = cond (nat_le cap (length (list_at machine.buffers c))) 1 0
+full_at cap machine c = cond (nat_le cap (length (nth_or_nil machine.buffers c))) 1 0
 
 -- its processors that ask to send
 abbrev pub asking_at : Machine → ℕ → ℕ
 asking_at machine c =
-    sum (each_from 0 16 (λ p. bit_number (flag (processor_at (chip_at machine.chips c) p) SEND)))
+    sum (tabulate 0 16 (λ p. bit_number (flag (processor_at (chip_at machine.chips c) p) SEND)))
 
 -- all of them
 abbrev pub counts_at : ℕ → List ℕ → Traces → Machine → ℕ → Counts
@@ -71,12 +71,12 @@ counts_at cap before traces machine c = record {
 -- of so many chips, from chip 0 on, after a petit cycle, where this was before
 unfoldable pub counts_to : ℕ → ℕ → List ℕ → Traces → Machine → Counts
 counts_to count cap before traces machine = record {
-  taken = sum (each_from 0 count (taken_count_at before machine));
-  delivered = sum (each_from 0 count (delivered_count_at before machine));
-  referred = sum (each_from 0 count (referred_at traces machine));
-  standing = sum (each_from 0 count (standing_count_at machine));
-  full = sum (each_from 0 count (full_at cap machine));
-  asking = sum (each_from 0 count (asking_at machine));
+  taken = sum (tabulate 0 count (taken_count_at before machine));
+  delivered = sum (tabulate 0 count (delivered_count_at before machine));
+  referred = sum (tabulate 0 count (referred_at traces machine));
+  standing = sum (tabulate 0 count (standing_count_at machine));
+  full = sum (tabulate 0 count (full_at cap machine));
+  asking = sum (tabulate 0 count (asking_at machine));
 }
 
 -- of all chips of a cube of n dimensions whose routers have room for cap messages each

@@ -4,7 +4,7 @@ use Rattle.std.specs.List.{flat_map, range_with_len}
 use Rattle.cm_model.specs.declared.message.Event.{Event}
 use Rattle.cm_model.specs.declared.message.Event.TheVariants.{Injected, Delivered}
 use Rattle.cm_model.specs.declared.message.Message.{Message}
-use Rattle.cm_model.specs.Array.{list_at}
+use Rattle.cm_model.specs.Array.{nth_or_nil}
 use Rattle.cm_model.specs.Machine.{Machine}
 use Rattle.cm_model.specs.Router.{target_from}
 use Rattle.cm_bits.specs.Text.{number_cell, last_number_cell}
@@ -71,7 +71,7 @@ delivered_text n clock before traces machine =
 -- the lines of the messages that stand at a chip
 abbrev pub standing_text_at : Traces → Machine → ℕ → List ℕ
 standing_text_at traces machine c =
-    flat_map (λ m. trace_line c m (trace_of traces c m)) (list_at machine.buffers c)
+    flat_map (λ m. trace_line c m (trace_of traces c m)) (nth_or_nil machine.buffers c)
 
 -- of those that stand in all routers
 unfoldable pub standing_text : ℕ → Traces → Machine → List ℕ

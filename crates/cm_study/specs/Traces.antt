@@ -2,7 +2,7 @@
 use Rattle.std.specs.Prelude.{ℕ, ◌+◌, ◌-◌, ◌^◌, ◌==◌, Bool, Option, Some, None, List, map, min, bit_and, bit_xor, count_ones}
 use Rattle.std.specs.List.{filter, find, flat_map, range_with_len}
 use Rattle.cm_model.specs.declared.message.Message.{Message}
-use Rattle.cm_model.specs.Array.{each_chip, list_at}
+use Rattle.cm_model.specs.Array.{each_chip, nth_or_nil}
 use Rattle.cm_model.specs.Machine.{Machine}
 use Rattle.cm_model.specs.Found.{same_tag}
 use Rattle.cm_study.specs.declared.trace.Trace.{Trace}
@@ -32,7 +32,7 @@ or_set_out c m (Some trace) = trace
 
 -- what was known of a message that stands at chip c
 unfoldable pub trace_of : Traces → ℕ → Message → Trace
-trace_of traces c m = or_set_out c m (find (λ trace. same_tag trace.tag m.tag) (list_at traces m.tag.chip))
+trace_of traces c m = or_set_out c m (find (λ trace. same_tag trace.tag m.tag) (nth_or_nil traces m.tag.chip))
 
 -- in a petit cycle each dimension is crossed at most once, and its bit flips: so many were crossed since
 abbrev pub crossings : Trace → Message → ℕ
@@ -55,7 +55,7 @@ trace_after trace m = record {
 
 -- what is known of those that stand at chip c now
 abbrev pub traces_at : Traces → Machine → ℕ → List Trace
-traces_at traces machine c = map (λ m. trace_after (trace_of traces c m) m) (list_at machine.buffers c)
+traces_at traces machine c = map (λ m. trace_after (trace_of traces c m) m) (nth_or_nil machine.buffers c)
 
 -- what is known of all that stand in the routers now
 unfoldable pub all_traces : ℕ → Traces → Machine → List Trace

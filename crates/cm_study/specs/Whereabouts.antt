@@ -4,7 +4,7 @@ use Rattle.std.specs.List.{filter_map, flat_map, range_with_len}
 use Rattle.cm_bits.specs.declared.place.Place.{Place}
 use Rattle.cm_model.specs.declared.message.Message.{Message}
 use Rattle.cm_model.specs.declared.message.Tag.{Tag}
-use Rattle.cm_model.specs.Array.{list_at}
+use Rattle.cm_model.specs.Array.{nth_or_nil}
 use Rattle.cm_model.specs.Machine.{Machine}
 use Rattle.cm_model.specs.Found.{same_tag, delivery_place}
 use Rattle.cm_study.specs.declared.whereabouts.Stand.{Stand}
@@ -25,7 +25,7 @@ stands_among tag c messages = stands_from tag c (length messages) 1 messages
 -- the message of a tag that stands in a router
 unfoldable pub stand_in : ℕ → Tag → Machine → Option Stand
 stand_in n tag machine =
-    slice_get (flat_map (λ c. stands_among tag c (list_at machine.buffers c)) (range_with_len 0 (2 ^ n))) 0
+    slice_get (flat_map (λ c. stands_among tag c (nth_or_nil machine.buffers c)) (range_with_len 0 (2 ^ n))) 0
 
 -- where a message of a tag was delivered, where by chip so many events were there before
 unfoldable pub delivery_in : ℕ → Tag → List ℕ → Machine → Option Place

@@ -3,10 +3,10 @@
 ghost use Rattle.std.specs.Prelude.{◌≡◌, ◌^◌, ◌<◌, ◌≤◌, IfOk, sum, sum_by};
 ghost use Rattle.std.specs.List.{count_by};
 ghost use Rattle.cm_bits.specs.Bit.{bit_number};
-ghost use Rattle.cm_model.specs.Each.{each_from};
+ghost use Rattle.cm_model.specs.Each.{tabulate};
 ghost use Rattle.cm_model.specs.Processor.{SEND, flag};
 ghost use Rattle.cm_model.specs.Chip.{processor_at};
-ghost use Rattle.cm_model.specs.Array.{each_chip, list_at};
+ghost use Rattle.cm_model.specs.Array.{each_chip, nth_or_nil};
 ghost use Rattle.cm_study.specs.Adding.{AreCountsWithin};
 ghost use Rattle.cm_study.specs.Counts.{log_lengths, events_behind, is_injection_event, is_delivery_event, counts_at};
 ghost use Rattle.cm_study.specs.Counts.{counts_of};
@@ -110,7 +110,7 @@ fn log_of<const N: usize, const CAP: usize>(
     chip: u16,
 ) -> Result<&[Event], NoMemory>
     requires chip { chip < 2 ^ N }
-    ensures value { IfOk result (λ log. log.now ≡ list_at machine.now.machine.logs chip) }
+    ensures value { IfOk result (λ log. log.now ≡ nth_or_nil machine.now.machine.logs chip) }
 {
     machine.log(chip).whole().ok_or(NoMemory)
 }
@@ -154,7 +154,7 @@ fn referred(ways: &Ways, chip: u16, messages: &[Message]) -> u128
 /// How many processors of a chip ask to send.
 fn asking(chip: &ChipView<'_>) -> u128
     ensures value { result
-        ≡ sum (each_from 0 16 (λ p. bit_number (flag (processor_at chip.now p) SEND))) }
+        ≡ sum (tabulate 0 16 (λ p. bit_number (flag (processor_at chip.now p) SEND))) }
     ensures within { result ≤ 16 }
 {
     let mut total = 0;

@@ -2,7 +2,7 @@
 
 ghost use Rattle.std.specs.Prelude.{◌≡◌, ◌++◌, ◌∷◌, [], ◌<◌, ◌≤◌, ℕ, List, IfOk, OnOk, length, map, slice_set};
 ghost use Rattle.std.specs.List.{find};
-ghost use Rattle.cm_model.specs.Array.{list_at};
+ghost use Rattle.cm_model.specs.Array.{nth_or_nil};
 ghost use Rattle.cm_model.specs.Found.{same_tag};
 ghost use Rattle.cm_study.specs.declared.trace.Trace.{Trace};
 ghost use Rattle.cm_study.specs.Traces.{trace_of, trace_after, by_sender, traces_after};
@@ -87,7 +87,7 @@ impl Ways {
     /// One message more, of a chip of which there are messages.
     fn push(&mut self, trace: Trace) -> Result<(), NoMemory>
         ensures ok { OnOk result (self.new
-            ≡ slice_set self.old trace.tag.chip (list_at self.old trace.tag.chip ++ trace ∷ [])) }
+            ≡ slice_set self.old trace.tag.chip (nth_or_nil self.old trace.tag.chip ++ trace ∷ [])) }
     {
         let sender = usize::from(trace.tag.chip);
         if sender < self.by_sender.len() {
@@ -122,7 +122,7 @@ impl Ways {
     /// What is known of the messages of a chip.
     fn sent_by(&self, chip: u16) -> &[Trace]
         requires there { chip < length self.now }
-        ensures value { result.now ≡ list_at self.now chip }
+        ensures value { result.now ≡ nth_or_nil self.now chip }
     {
         &self.by_sender[usize::from(chip)]
     }

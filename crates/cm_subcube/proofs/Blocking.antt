@@ -6,7 +6,7 @@ use Rattle.std.proofs.lemmas.List.{map-append}
 use Rattle.std.proofs.lemmas.List.Elements.{All-append, All-cons, All-nil}
 use Rattle.std.proofs.lemmas.List.FromFn.{map-range_with_len_more}
 use Rattle.cm_model.specs.Machine.{Machine}
-use Rattle.cm_model.specs.Each.{each_from}
+use Rattle.cm_model.specs.Each.{tabulate}
 use Rattle.cm_blocks.specs.Parts.{Part, part, block, block_size}
 use Rattle.std.proofs.Math.Nat.{pow-le-pow_right}
 use Rattle.cm_blocks.proofs.Mailing.{block-fits}
@@ -25,9 +25,9 @@ IsBlock-cut n k b machine kept within below dims is = record {
 
 -- one block more
 pub parts-more : (f : ℕ → Part) (b : ℕ) (blocks : List KeptBlock) (one : KeptBlock)
-    → map (λ x. x.kept.part) blocks ≡ each_from 0 b f → one.kept.part ≡ f b
-    → map (λ x. x.kept.part) (blocks ++ one ∷ []) ≡ each_from 0 (b + 1) f
-unfolding each_from
+    → map (λ x. x.kept.part) blocks ≡ tabulate 0 b f → one.kept.part ≡ f b
+    → map (λ x. x.kept.part) (blocks ++ one ∷ []) ≡ tabulate 0 (b + 1) f
+unfolding tabulate
 parts-more f b blocks one were is =
     map-append (λ (x : KeptBlock). x.kept.part) blocks (one ∷ [])
     ∙ ap (λ (parts : List Part). parts ++ one.kept.part ∷ []) were
@@ -40,8 +40,8 @@ fresh-more n cap k events blocks one were is =
     All-append (IsFresh n cap k events) blocks (one ∷ []) were
     (All-cons (IsFresh n cap k events) one [] is (All-nil (IsFresh n cap k events)))
 
-pub none_yet : (f : ℕ → Part) (blocks : List KeptBlock) → blocks ≡ [] → map (λ x. x.kept.part) blocks ≡ each_from 0 0 f
-unfolding each_from
+pub none_yet : (f : ℕ → Part) (blocks : List KeptBlock) → blocks ≡ [] → map (λ x. x.kept.part) blocks ≡ tabulate 0 0 f
+unfolding tabulate
 none_yet f blocks none = ap (map (λ (x : KeptBlock). x.kept.part)) none
 
 -- a block lies within the machine, whose chips are few

@@ -12,9 +12,9 @@ use Rattle.cm_model.specs.declared.act.Act.TheVariants as acts
 use Rattle.cm_model.specs.declared.act.Nano.{Nano}
 use Rattle.cm_model.specs.declared.message.Message.{Message}
 use Rattle.cm_model.specs.Steps.{Instruct, Cross}
-use Rattle.cm_model.specs.Each.{each_from}
+use Rattle.cm_model.specs.Each.{tabulate}
 use Rattle.cm_model.specs.Place.{chip_columns, columns}
-use Rattle.cm_model.proofs.Each.{is_each, length-each_from, same_each_below}
+use Rattle.cm_model.proofs.Each.{is_each, length-tabulate, same_each_below}
 use Rattle.cm_news.specs.Bands.{edge_bits}
 use Rattle.cm_blocks.specs.Parts.{Part, block_size}
 use Rattle.cm_blocks.specs.Parcels.{Parcel, Blank, Mail, Edge}
@@ -51,7 +51,7 @@ pub lanes_of_blank : (n k d : ℕ) (lane : List (Option Message)) → Mail lane 
     → length lane ≡ block_size n k
 unfolding lane_of
 lanes_of_blank n k d lane is = ap (λ (p : Parcel). length (lane_of p)) is
-    ∙ length-each_from {X = Option Message} 0 (block_size n k) (λ c. None)
+    ∙ length-tabulate {X = Option Message} 0 (block_size n k) (λ c. None)
 
 -- where no message is left in it, it is blank
 pub blank_again : (n k d : ℕ) (lane : List (Option Message)) → length lane ≡ block_size n k
@@ -86,7 +86,7 @@ absorbed-instruct k nano parcel new old is = is
 -- an edge has a byte for each column of chips
 as_wide : (n : ℕ) (edge : List ℕ) → length (edge_bits edge) ≡ columns n → length edge ≡ chip_columns n
 as_wide n edge long =
-    let bits = length-each_from 0 (4 * length edge) (λ column. bit (get_or edge (column / 4) 0) (column % 4)) in
+    let bits = length-tabulate 0 (4 * length edge) (λ column. bit (get_or edge (column / 4) 0) (column % 4)) in
     omega (arith, bits, long)
 
 pub edge_as_wide : (n k : ℕ) (one : Kind) (edge : List ℕ) → IsOfKind n k one (Edge (edge_bits edge))
@@ -101,11 +101,11 @@ row_of Blank = []
 row_of (Mail lane) = []
 row_of (Edge row) = row
 
-blank_as_wide : (n : ℕ) (edge : List ℕ) → Edge (edge_bits edge) ≡ Edge (each_from 0 (columns n) (λ column. false))
+blank_as_wide : (n : ℕ) (edge : List ℕ) → Edge (edge_bits edge) ≡ Edge (tabulate 0 (columns n) (λ column. false))
     → length edge ≡ chip_columns n
 unfolding row_of
 blank_as_wide n edge is =
-    as_wide n edge (ap (λ (p : Parcel). length (row_of p)) is ∙ length-each_from 0 (columns n) (λ column. false))
+    as_wide n edge (ap (λ (p : Parcel). length (row_of p)) is ∙ length-tabulate 0 (columns n) (λ column. false))
 
 pub edge_of_blank : (n k : ℕ) (one : Kind) (edge : List ℕ) → Edge (edge_bits edge) ≡ blank_parcel n k one
     → length edge ≡ chip_columns n
@@ -115,9 +115,9 @@ edge_of_blank n k (kind.Dim d) edge is = cc
 
 -- where each byte is 0, no bit is left in it
 no_bits : (n : ℕ) (edge : List ℕ) → length edge ≡ chip_columns n → All (λ four. four ≡ 0) edge
-    → edge_bits edge ≡ each_from 0 (columns n) (λ column. false)
+    → edge_bits edge ≡ tabulate 0 (columns n) (λ column. false)
 no_bits n edge wide none =
-    ap (λ (k : ℕ). each_from 0 (4 * k) (λ column. bit (get_or edge (column / 4) 0) (column % 4))) wide
+    ap (λ (k : ℕ). tabulate 0 (4 * k) (λ column. bit (get_or edge (column / 4) 0) (column % 4))) wide
     ∙ same_each_below false (columns n) (λ column. bit (get_or edge (column / 4) 0) (column % 4)) (λ column. false)
     (λ column inside.
     ap (λ (four : ℕ). bit four (column % 4)) (none (column / 4) 0 (omega (arith, inside, wide)))
@@ -153,7 +153,7 @@ no_error x y e h = cc
 
 pub no_lane : (lane : List (Option Message)) (count : ℕ) → length lane ≡ count
     → ((k : ℕ) (d : Option Message) → k < length lane → get_or lane k d ≡ None)
-    → lane ≡ each_from 0 count (λ place. None)
+    → lane ≡ tabulate 0 count (λ place. None)
 no_lane lane count long none =
     is_each None count (λ place. None) lane long (λ i l. none i None (omega (arith, l, long)))
 

@@ -3,7 +3,7 @@ use Rattle.std.proofs.Common.{◌≡◌, ℕ, ◌+◌, Bool, cond, List, [], ◌
 use Rattle.std.proofs.Common.{ap, arith}
 use Rattle.std.proofs.lemmas.List.Sums.{sum_by-cons, sum_by-append}
 use Rattle.cm_model.specs.declared.act.Nano.{Nano}
-use Rattle.cm_model.specs.Each.{each_from}
+use Rattle.cm_model.specs.Each.{tabulate}
 use Rattle.cm_model.specs.Steps.{Step, Instruct, Look, Inject, Cross, Deliver}
 use Rattle.cm_blocks.specs.Counts.{is_injection, is_delivery, deliveries, events_in}
 use Rattle.cm_blocks.specs.Parts.{Part}
@@ -81,7 +81,7 @@ HasGone-one k step rooms gathered old new seen view is lost =
 -- an instruction with an edge that is not there is one at which no parcel comes
 pub no_edge : (n cap : ℕ) (nano : Nano) (s : Part)
     → part_after n cap (Instruct nano) (Edge (edge_bits [])) s ≡ part_after n cap (Instruct nano) Blank s
-unfolding part_after incoming_in each_from
+unfolding part_after incoming_in tabulate
 no_edge n cap nano s = refl
 
 -- a look changes nothing

@@ -7,8 +7,8 @@ use Rattle.std.proofs.lemmas.List.Folds.{flat_map-map}
 use Rattle.cm_model.specs.Wiring.{Routing}
 use Rattle.cm_model.specs.Machine.{Machine}
 use Rattle.cm_model.specs.Keeping.{IsMachine}
-use Rattle.cm_model.specs.Each.{each_from}
-use Rattle.cm_model.proofs.Each.{length-each_from, get_or-each_below}
+use Rattle.cm_model.specs.Each.{tabulate}
+use Rattle.cm_model.proofs.Each.{length-tabulate, get_or-each_below}
 use Rattle.cm_blocks.specs.Parts.{Part, part, block}
 use Rattle.cm_blocks.specs.Laws.{AreJoined}
 use Rattle.cm_blocks.proofs.Joining.{blocks_are_the_whole}
@@ -20,8 +20,8 @@ unfolding part
 clock-block n k b machine = refl
 
 first_clock-made : (f : ℕ → Part) (count clock : ℕ) → 0 < count → ((b : ℕ) → (f b).clock ≡ clock)
-    → first_clock (each_from 0 count f) ≡ clock
-unfolding each_from
+    → first_clock (tabulate 0 count f) ≡ clock
+unfolding tabulate
 first_clock-made f zero clock some each = absurd (omega (arith, some))
 first_clock-made f (suc count) clock some each = each 0
 
@@ -31,8 +31,8 @@ routing-block n k b machine = refl
 
 first_routing-made : (f : ℕ → Part) (count : ℕ) (routing : Routing) → 0 < count
     → ((b : ℕ) → (f b).routing ≡ routing)
-    → first_routing (each_from 0 count f) ≡ routing
-unfolding each_from
+    → first_routing (tabulate 0 count f) ≡ routing
+unfolding tabulate
 first_routing-made f zero routing some each = absurd (omega (arith, some))
 first_routing-made f (suc count) routing some each = each 0
 
@@ -50,7 +50,7 @@ module _ (n cap k : ℕ) (machine : Machine) (within : k ≤ n) (is : IsMachine 
       (λ b. routing-block n k b machine)
 
   pub joined-blocks : joined (all_blocks n k machine) ≡ machine
-  unfolding each_from
+  unfolding tabulate
   joined-blocks = λ i. record {
     chips = (flat_map-map (λ (s : Part). s.chips) (λ b. block n k b machine) (range_with_len 0 (2 ^ k)) ∙ are.chips) i;
     buffers = (flat_map-map (λ (s : Part). s.buffers) (λ b. block n k b machine) (range_with_len 0 (2 ^ k))
@@ -67,12 +67,12 @@ module _ (n cap k : ℕ) (machine : Machine) (within : k ≤ n) (is : IsMachine 
         (block n k 0 machine)
         (λ b l. ap (λ (s : Part). s.clock)
         (get_or-each_below (2 ^ k) (λ j. block n k j machine) b (block n k 0 machine)
-        (omega (arith, l, length-each_from 0 (2 ^ k) (λ j. block n k j machine))))
+        (omega (arith, l, length-tabulate 0 (2 ^ k) (λ j. block n k j machine))))
         ∙ clock-block n k b machine ∙ sym first_clock-blocks);
     routing = All-from_get_or (λ (s : Part). s.routing ≡ first_routing (all_blocks n k machine)) (all_blocks n k machine)
         (block n k 0 machine)
         (λ b l. ap (λ (s : Part). s.routing)
         (get_or-each_below (2 ^ k) (λ j. block n k j machine) b (block n k 0 machine)
-        (omega (arith, l, length-each_from 0 (2 ^ k) (λ j. block n k j machine))))
+        (omega (arith, l, length-tabulate 0 (2 ^ k) (λ j. block n k j machine))))
         ∙ routing-block n k b machine ∙ sym first_routing-blocks);
   }

@@ -11,7 +11,7 @@ use Rattle.cm_model.specs.Machine.{Machine}
 use Rattle.cm_model.specs.Steps.{Step, Instruct, Look, Inject, Cross, Deliver}
 use Rattle.cm_model.specs.Wiring.{Way, is_cut, way_of}
 use Rattle.cm_model.specs.Buffers.{leaving_place, outgoing}
-use Rattle.cm_model.proofs.Each.{get_or-each_from}
+use Rattle.cm_model.proofs.Each.{get_or-tabulate}
 use Rattle.cm_model.proofs.Wires.{is_cut-across}
 use Rattle.cm_blocks.specs.Parts.{Part, part, block, block_size, buffer_in}
 use Rattle.cm_blocks.specs.Parcels.{Parcel, mail_in, due, sender}
@@ -38,7 +38,7 @@ spared_over n cap k b d machine high c l cut =
     let there : bit_xor here (2 ^ d) ≡ from * block_size n k + c = high_across (n - k) b c d high l in
     let joined : is_cut machine.routing (from * block_size n k + c) d ≡ true =
     ap (λ (e : ℕ). is_cut machine.routing e d) (sym there) ∙ (is_cut-across machine.routing here d ∙ cut) in
-    get_or-each_from (from * block_size n k) (block_size n k)
+    get_or-tabulate (from * block_size n k) (block_size n k)
     (λ e. outgoing (way_of machine.routing e d) cap d (buffer_in sent e)) c None l
     ∙ nobody_leaves (way_of machine.routing (from * block_size n k + c) d) cap d (buffer_in sent (from * block_size n k + c)) joined
 

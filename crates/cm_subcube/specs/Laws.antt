@@ -1,7 +1,7 @@
 -- Laws of blocks, each the contract of a function of its name. Ours.
 use Rattle.std.specs.Prelude.{◌≡◌, ℕ, ◌+◌, ◌*◌, ◌≤◌, ◌^◌, true, List, Some, None, slice_get}
 use Rattle.cm_model.specs.declared.act.Act.{Act}
-use Rattle.cm_model.specs.Each.{each_from}
+use Rattle.cm_model.specs.Each.{tabulate}
 use Rattle.cm_model.specs.Steps.{Step, IsStep, Phase}
 use Rattle.cm_model.specs.Machine.{Machine}
 use Rattle.cm_model.specs.Keeping.{IsMachine}
@@ -18,7 +18,7 @@ use Rattle.cm_subcube.specs.Local.{local_after, IsRoundOf}
 
 -- the 2 ^ k blocks of a machine, in their order
 abbrev pub all_blocks : ℕ → ℕ → Machine → List Part
-all_blocks n k machine = each_from 0 (2 ^ k) (λ b. block n k b machine)
+all_blocks n k machine = tabulate 0 (2 ^ k) (λ b. block n k b machine)
 
 -- they are a whole machine, and that machine
 pub record AreBlocksOf (n cap k : ℕ) (machine : Machine) : Type 0 where

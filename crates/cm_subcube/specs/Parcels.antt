@@ -7,9 +7,9 @@ use Rattle.cm_model.specs.declared.act.Act.TheVariants as act
 use Rattle.cm_model.specs.declared.act.Nano.{Nano}
 use Rattle.cm_model.specs.declared.message.Message.{Message}
 use Rattle.cm_model.specs.Processor.{NEWS}
-use Rattle.cm_model.specs.Each.{each_from}
+use Rattle.cm_model.specs.Each.{tabulate}
 use Rattle.cm_model.specs.Place.{columns}
-use Rattle.cm_model.specs.Array.{list_at}
+use Rattle.cm_model.specs.Array.{nth_or_nil}
 use Rattle.cm_model.specs.Wiring.{is_cut}
 use Rattle.cm_blocks.specs.Parts.{Part, block_size}
 use Rattle.cm_blocks.specs.Parcels.{Parcel, Blank, Mail, Edge, mail_in}
@@ -27,9 +27,9 @@ parcel_of (load.Edge row) = Edge (edge_bits row.items)
 
 -- a parcel of a kind, with no message and no bit in it
 abbrev pub blank_parcel : ℕ → ℕ → Kind → Parcel
-blank_parcel n k kind.North = Edge (each_from 0 (columns n) (λ column. false))
-blank_parcel n k kind.South = Edge (each_from 0 (columns n) (λ column. false))
-blank_parcel n k (kind.Dim d) = Mail (each_from 0 (block_size n k) (λ place. None))
+blank_parcel n k kind.North = Edge (tabulate 0 (columns n) (λ column. false))
+blank_parcel n k kind.South = Edge (tabulate 0 (columns n) (λ column. false))
+blank_parcel n k (kind.Dim d) = Mail (tabulate 0 (block_size n k) (λ place. None))
 
 -- a dimension at which 2 ^ k blocks of a cube of n dimensions exchange
 pub record IsOuter (n k d : ℕ) : Type 0 where
@@ -61,7 +61,7 @@ IsExchange n k round = IsExchangeBy n k round.act round.kind
 -- in dimension d each chip whose wire is not cut has room for one message more
 abbrev pub HaveSpaceOver : ℕ → ℕ → Part → Type 0
 HaveSpaceOver d room s =
-    (c : ℕ) → c < s.count → is_cut s.routing (s.first + c) d ≡ false → length (list_at s.buffers c) < room
+    (c : ℕ) → c < s.count → is_cut s.routing (s.first + c) d ≡ false → length (nth_or_nil s.buffers c) < room
 
 -- and for a chip whose wire is cut none stands in a lane
 abbrev pub SparesCutsOver : ℕ → Part → (ℕ → Option Message) → Type 0
@@ -81,7 +81,7 @@ SparesCuts (kind.Dim d) s parcel = SparesCutsOver d s (mail_in parcel)
 
 -- each message of a lane has room at its chip
 abbrev pub HaveRoomOver : ℕ → Part → (ℕ → Option Message) → Type 0
-HaveRoomOver room s lane = (c : ℕ) → c < s.count → (lane c ≡ None) ⊎ (length (list_at s.buffers c) < room)
+HaveRoomOver room s lane = (c : ℕ) → c < s.count → (lane c ≡ None) ⊎ (length (nth_or_nil s.buffers c) < room)
 
 -- each message of a parcel has
 abbrev pub HasRoomFor : Kind → ℕ → Part → Parcel → Type 0

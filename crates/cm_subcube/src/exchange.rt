@@ -2,7 +2,7 @@
 
 ghost use Rattle.std.specs.Prelude.{◌≡◌, ◌⊎◌, ℕ, ◌/◌, ◌<◌, ◌^◌, IsTrue, None, length, slice_index_or};
 ghost use Rattle.std.specs.List.{All};
-ghost use Rattle.cm_model.specs.Array.{list_at};
+ghost use Rattle.cm_model.specs.Array.{nth_or_nil};
 ghost use Rattle.cm_model.specs.Place.{chip_columns};
 ghost use Rattle.cm_model.specs.Steps.{Instruct, Cross};
 ghost use Rattle.cm_news.specs.Bands.{edge_bits};
@@ -92,7 +92,7 @@ impl Block {
     fn receive(&mut self, mail: &mut [Option<Message>])
         requires lanes { length mail.old ≡ block_size self.old.kept.dims self.old.k }
         requires space { (c : ℕ) → c < self.old.kept.part.count → (slice_index_or mail.old c None ≡ None)
-            ⊎ (length (list_at self.old.kept.part.buffers c) < self.old.kept.room) }
+            ⊎ (length (nth_or_nil self.old.kept.part.buffers c) < self.old.kept.room) }
         ensures kept { (dim : ℕ) → self.new.kept ≡ record self.old.kept {
           part = absorbed self.old.kept.dims self.old.kept.room (Cross dim) (Mail mail.old) self.old.kept.part;
           gathered = self.new.kept.gathered;

@@ -1,7 +1,7 @@
 //! What blocks send one another.
 
 ghost use Rattle.std.specs.Prelude.{◌≡◌, ◌-◌, ◌/◌, ◌≤◌, ◌^◌, false, None, IfOk};
-ghost use Rattle.cm_model.specs.Each.{each_from};
+ghost use Rattle.cm_model.specs.Each.{tabulate};
 ghost use Rattle.cm_model.specs.Place.{columns};
 ghost use Rattle.cm_news.specs.Bands.{edge_bits};
 ghost use Rattle.cm_subcube.specs.Parcels.{blank_parcel};
@@ -56,7 +56,7 @@ impl Parcel {
 /// Nothing for each of 2^`span` chips.
 fn no_messages(alloc: Global, span: u8) -> Result<Vec<Option<Message>>, NoMemory>
     requires few { span ≤ 12 }
-    ensures value { IfOk result (λ lane. lane.items ≡ each_from 0 (2 ^ span) (λ place. None)) }
+    ensures value { IfOk result (λ lane. lane.items ≡ tabulate 0 (2 ^ span) (λ place. None)) }
 {
     let count: usize = 1 << span;
     Ok((0..count).map(|_| None).collect(alloc)?)
@@ -65,7 +65,7 @@ fn no_messages(alloc: Global, span: u8) -> Result<Vec<Option<Message>>, NoMemory
 /// No bit for each column of chips.
 fn no_bits(alloc: Global, dims: u8) -> Result<Vec<u8>, NoMemory>
     requires few { dims ≤ 12 }
-    ensures value { IfOk result (λ row. edge_bits row.items ≡ each_from 0 (columns dims) (λ column. false)) }
+    ensures value { IfOk result (λ row. edge_bits row.items ≡ tabulate 0 (columns dims) (λ column. false)) }
 {
     let count = 1 << dims / 2;
     Ok(vec![in alloc; 0; count]?)

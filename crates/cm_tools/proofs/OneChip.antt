@@ -3,7 +3,7 @@ use Rattle.std.proofs.Common.{◌≡◌, ℕ, ◌+◌, ◌<◌, List, [], ◌∷
 use Rattle.std.proofs.lemmas.List.{map-append, take_more}
 use Rattle.cm_model.specs.declared.act.Nano.{Nano as Instruction}
 use Rattle.cm_model.specs.declared.act.Act.TheVariants.{Nano}
-use Rattle.cm_model.specs.Each.{each_from}
+use Rattle.cm_model.specs.Each.{tabulate}
 use Rattle.cm_model.specs.Chip.{blank_chip}
 use Rattle.cm_model.specs.Array.{Chips, chip_at, after_nano}
 use Rattle.cm_model.specs.Machine.{Machine, blank_machine, run_of, opened, closed}
@@ -14,9 +14,9 @@ use Rattle.cm_tools.specs.Session.{chip_left}
 abbrev pub chips_after : List Instruction → ℕ → Chips
 chips_after nanos count = (run_of 0 7 (blank_machine 0) (map Nano (take count nanos))).chips
 
-pub run-begun : (run : Chips) (nanos : List Instruction) → run ≡ each_from 0 1 (λ c. blank_chip)
+pub run-begun : (run : Chips) (nanos : List Instruction) → run ≡ tabulate 0 1 (λ c. blank_chip)
     → run ≡ chips_after nanos 0
-unfolding run_of blank_machine each_from opened closed
+unfolding run_of blank_machine tabulate opened closed
 run-begun run nanos blank = blank
 
 -- one instruction more
@@ -33,7 +33,7 @@ run-more run next nanos count nano below is before step =
 
 -- there is one
 pub one_more : (next run : Chips) (nano : Instruction) → next ≡ after_nano 0 nano run → length next ≡ 1
-unfolding after_nano each_from
+unfolding after_nano tabulate
 one_more next run nano is = ap length is
 
 -- after all of them

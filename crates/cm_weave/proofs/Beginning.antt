@@ -15,7 +15,7 @@ use Rattle.cm_model.specs.declared.act.Act.TheVariants as act
 use Rattle.cm_model.specs.Machine.{Machine}
 use Rattle.cm_model.specs.Steps.{Phase, Cross, Deliver, steps_of, phases_of, phases_from}
 use Rattle.cm_model.specs.Steps as phased
-use Rattle.cm_model.proofs.Each.{length-each_from, get_or-each_below, is_each}
+use Rattle.cm_model.proofs.Each.{length-tabulate, get_or-each_below, is_each}
 use Rattle.cm_blocks.specs.Counts.{deliveries, events_in}
 use Rattle.cm_blocks.specs.Parts.{Part, block}
 use Rattle.cm_blocks.specs.Rounds.{is_round, before_round, steps_after_round}
@@ -87,7 +87,7 @@ pub just_cut : (n cap k cycles : ℕ) (machine : Machine) (acts : List Act) (blo
 just_cut n cap k cycles machine acts blocks are fresh counted late =
     let count : length blocks ≡ 2 ^ k =
     sym (length-map blocks (λ (b : KeptBlock). b.kept.part)) ∙ ap length are
-    ∙ length-each_from 0 (2 ^ k) (λ b. block n k b machine) in
+    ∙ length-tabulate 0 (2 ^ k) (λ b. block n k b machine) in
     record {
       count = count;
       begun = λ b d l. absurd (omega (arith, l));

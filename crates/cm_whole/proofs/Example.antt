@@ -3,7 +3,7 @@ use Rattle.std.proofs.Common.{◌≡◌, ℕ, zero, suc, true, false, Bool, List
 use Rattle.std.proofs.Common.{nat_lt, arith, ◌&&◌, length}
 use Rattle.std.proofs.lemmas.Bool.{ltb-true}
 use Rattle.std.specs.List.{list_all}
-use Rattle.cm_model.specs.Each.{each_from}
+use Rattle.cm_model.specs.Each.{tabulate}
 use Rattle.cm_language.specs.declared.macros.Context.TheVariants.{Always}
 use Rattle.cm_language.specs.Acts.{acts_of}
 use Rattle.cm_language.specs.Program.{program_of}
@@ -32,7 +32,7 @@ unfolding read_image image_part chip_part many number_at
 image_is_read = refl
 
 text_is_read : program_of whole_sum.text ≡ Ok sum_program
-unfolding program_of each_from
+unfolding program_of tabulate
 text_is_read = refl
 
 pub accepted : AreAccepted whole_sum sum_setup
@@ -49,15 +49,15 @@ says_sum = record {
 }
 
 step_comes_to_it : (session_at sum_setup (codes "step" ∷ [])).position ≡ 1
-unfolding going one_on after_line after_lines each_from
+unfolding going one_on after_line after_lines tabulate
 step_comes_to_it = refl
 
 run_goes_through_it : (session_at sum_setup (codes "step" ∷ codes "run" ∷ [])).position ≡ 11
-unfolding going one_on after_line after_lines each_from
+unfolding going one_on after_line after_lines tabulate
 run_goes_through_it = refl
 
 has_nine_acts : length (acts_of sum Always) ≡ 9
-unfolding each_from
+unfolding tabulate
 has_nine_acts = refl
 
 pub whole : RunWhole whole_sum sum_setup before_sum sum (codes "step" ∷ []) (codes "run" ∷ [])

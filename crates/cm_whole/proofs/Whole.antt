@@ -2,7 +2,7 @@
 use Rattle.std.proofs.Common.{◌≡◌, ℕ, ◌<◌, ◌≤◌, ◌^◌, List, [], length, ap, ◌∙◌, arith}
 use Rattle.cm_bits.specs.Text.{lines_of}
 use Rattle.cm_model.specs.declared.message.Event.{Event}
-use Rattle.cm_model.specs.Array.{list_at}
+use Rattle.cm_model.specs.Array.{nth_or_nil}
 use Rattle.cm_model.specs.Machine.{Machine}
 use Rattle.cm_model.specs.Unlogged.{IsUnlogged}
 use Rattle.cm_model.proofs.Each.{get_or-each_below}
@@ -15,11 +15,11 @@ use Rattle.cm_whole.specs.Whole.{SessionsAreAsWritten}
 use Rattle.cm_whole.proofs.Lines.{is_done}
 
 -- no log of an image's machine has an event
-no_events : (n c i : ℕ) (machine : Machine) → IsUnlogged n machine → c < 2 ^ n → length (list_at machine.logs c) ≤ i
+no_events : (n c i : ℕ) (machine : Machine) → IsUnlogged n machine → c < 2 ^ n → length (nth_or_nil machine.logs c) ≤ i
 no_events n c i machine none inside =
-    let empty : list_at machine.logs c ≡ [] =
-    ap (λ (logs : List (List Event)). list_at logs c) none ∙ get_or-each_below (2 ^ n) (λ k. []) c [] inside in
-    let short : length (list_at machine.logs c) ≡ 0 = ap length empty in
+    let empty : nth_or_nil machine.logs c ≡ [] =
+    ap (λ (logs : List (List Event)). nth_or_nil logs c) none ∙ get_or-each_below (2 ^ n) (λ k. []) c [] inside in
+    let short : length (nth_or_nil machine.logs c) ≡ 0 = ap length empty in
     omega (arith, short)
 
 pub as_written : OnlyTextsAreRead → MacrosStandInTheirProgram → LinesCanBeParted → LinesRunTheirActs

@@ -3,7 +3,7 @@ use Rattle.std.specs.Prelude.{ℕ, ◌+◌, ◌<◌, ◌≤◌, ◌^◌, ◌⊎�
 use Rattle.cm_bits.specs.Text.{lines_of}
 use Rattle.cm_model.specs.declared.message.Message.{Message}
 use Rattle.cm_model.specs.declared.message.Event.TheVariants.{Delivered}
-use Rattle.cm_model.specs.Array.{list_at}
+use Rattle.cm_model.specs.Array.{nth_or_nil}
 use Rattle.cm_model.specs.Account.{Triple}
 use Rattle.cm_model.specs.Deliveries.{Stands, IsInjected, IsInOnePlace, IsAt}
 use Rattle.cm_language.specs.declared.macros.Macro.{Macro}
@@ -46,7 +46,7 @@ pub record IsAsWritten (inputs : Inputs) (setup : Setup) : Type 0 where
       ⊎ IsInjected setup.n (machine_left inputs setup) message → IsInOnePlace setup.n (machine_left inputs setup) message
   -- and every delivery that a log tells of was one of such a message, at one moment of a petit cycle that a line ran
   pub deliveries : (c i d : ℕ) (m : Message) → c < 2 ^ setup.n
-      → IsAt (list_at (machine_left inputs setup).logs c) i (Delivered d m)
+      → IsAt (nth_or_nil (machine_left inputs setup).logs c) i (Delivered d m)
       → IsDeliveryIn setup.n setup.cap setup.machine setup.program.acts (lines_of inputs.commands) c i d m
 
 -- for all bytes of an image and of a text that are accepted, and all bytes of commands

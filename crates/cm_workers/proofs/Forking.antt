@@ -9,7 +9,7 @@ use Rattle.cm_model.specs.Machine.{Machine, run_of}
 use Rattle.cm_model.specs.Account.{account, newly_injected, SameLines}
 use Rattle.cm_model.specs.Keeping.{IsMachine}
 use Rattle.cm_model.proofs.Accounting.{account_is_conserved}
-use Rattle.cm_model.proofs.Each.{length-each_from, get_or-each_below, is_each}
+use Rattle.cm_model.proofs.Each.{length-tabulate, get_or-each_below, is_each}
 use Rattle.cm_model.proofs.Runs.{run_of-nil}
 use Rattle.cm_model.proofs.Keeping.{IsMachine-run_of}
 use Rattle.cm_blocks.specs.Parts.{Part, block}
@@ -34,7 +34,7 @@ pub stand_first : (n cap k cycles : ℕ) (machine : Machine) (acts : List Act)
 stand_first n cap k cycles machine acts blocks posts cut fresh as_many blank counted late =
     let count : length blocks ≡ 2 ^ k =
     sym (length-map blocks (λ (b : KeptBlock). b.kept.part)) ∙ ap length cut
-    ∙ length-each_from 0 (2 ^ k) (λ b. block n k b machine) in
+    ∙ length-tabulate 0 (2 ^ k) (λ b. block n k b machine) in
     record {
       block_count = count;
       post_count = as_many ∙ count;

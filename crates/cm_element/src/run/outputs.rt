@@ -2,7 +2,7 @@
 
 ghost use Rattle.std.specs.Prelude.{◌≡◌, ℕ, ◌+◌, ◌<◌, ◌≤◌, if◌then◌else◌, length, slice_index, slice_set};
 ghost use Rattle.cm_bits.specs.Bit.{bit};
-ghost use Rattle.cm_model.specs.Each.{each_from};
+ghost use Rattle.cm_model.specs.Each.{tabulate};
 ghost use Rattle.cm_model.specs.Instruction.{takes_incoming};
 ghost use Rattle.cm_model.specs.Chip.{chip_after};
 ghost use Rattle.cm_model.specs.Array.{chip_at};
@@ -97,7 +97,7 @@ impl Run {
         requires room { HaveRoomFor (length self.old) outputs.now }
         requires outputs { AreWideOutputs nano.now self.old outputs.now }
         requires incoming { length incoming.now ≡ length self.old }
-        ensures value { self.new ≡ each_from 0 (length self.old)
+        ensures value { self.new ≡ tabulate 0 (length self.old)
             (λ c. chip_after nano.now (bit (slice_index incoming.now c)) (chip_at self.old c)) }
     {
         store_rows(
@@ -155,7 +155,7 @@ fn store_rows(
     requires incoming { length incoming.now ≡ chips }
     ensures rows { AreRows memory.new flags.new stride chips }
     ensures value { chips_of memory.new flags.new stride chips
-        ≡ each_from 0 chips (λ c. chip_after nano.now (bit (slice_index incoming.now c))
+        ≡ tabulate 0 chips (λ c. chip_after nano.now (bit (slice_index incoming.now c))
         (chip_at (chips_of memory.old flags.old stride chips) c)) }
 {
     let at = places(nano, stride);

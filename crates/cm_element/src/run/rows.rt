@@ -2,7 +2,7 @@
 
 ghost use Rattle.std.specs.Prelude.{◌≡◌, ◌≢◌, ℕ, ◌+◌, ◌*◌, ◌<◌, ◌≤◌, ◌^◌, false, true, length, slice_index};
 ghost use Rattle.cm_bits.specs.Bit.{bit};
-ghost use Rattle.cm_model.specs.Each.{each_from};
+ghost use Rattle.cm_model.specs.Each.{tabulate};
 ghost use Rattle.cm_model.specs.Processor.{NEWS};
 ghost use Rattle.cm_model.specs.Instruction.{takes_incoming};
 ghost use Rattle.cm_model.specs.Chip.{chip_after};
@@ -52,7 +52,7 @@ pub(crate) fn step_rows(
     requires rows { AreRows memory.old flags.old stride chips }
     requires apart { nano.now.write ≢ NEWS }
     ensures rows { AreRows memory.new flags.new stride chips }
-    ensures value { chips_of memory.new flags.new stride chips ≡ each_from 0 chips (λ c. chip_after nano.now
+    ensures value { chips_of memory.new flags.new stride chips ≡ tabulate 0 chips (λ c. chip_after nano.now
         (along_chain nano.now (chip_at (chips_of memory.old flags.old stride chips) c))
         (chip_at (chips_of memory.old flags.old stride chips) c)) }
 {
@@ -108,7 +108,7 @@ pub(crate) fn take_rows(
     requires incoming { length incoming.old ≡ chips }
     ensures rows { AreRows memory.new flags.new stride chips }
     ensures value { chips_of memory.new flags.new stride chips
-        ≡ each_from 0 chips (λ c. chip_after nano.now (bit (slice_index incoming.old c))
+        ≡ tabulate 0 chips (λ c. chip_after nano.now (bit (slice_index incoming.old c))
         (chip_at (chips_of memory.old flags.old stride chips) c)) }
 {
     let at = places(nano, stride);

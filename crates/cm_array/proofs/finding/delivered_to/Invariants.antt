@@ -1,8 +1,8 @@
 use Rattle.std.proofs.Common.{ℕ, ◌<◌}
-use Rattle.cm_model.specs.Array.{list_at}
+use Rattle.cm_model.specs.Array.{nth_or_nil}
 use Rattle.cm_petit.specs.Routers.{events_of}
 use Rattle.cm_array.specs.Finding.{TellNone}
 use Rattle.cm_array.proofs.finding.delivered_to.Given as goal
 
 abbrev pub invariant-loop-c : goal.invariant-loop-c
-invariant-loop-c l = (k : ℕ) → k < l.c → TellNone l.tag (list_at (events_of l.logs) k)
+invariant-loop-c l = (k : ℕ) → k < l.c → TellNone l.tag (nth_or_nil (events_of l.logs) k)

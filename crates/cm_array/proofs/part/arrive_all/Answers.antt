@@ -1,7 +1,7 @@
 use Rattle.std.proofs.Common.{◌<◌, ◌++◌, ◌∷◌, [], List, length, set, take, ap, ◌∙◌, arith}
 use Rattle.std.proofs.lemmas.List.{length-set, length-append, length-take}
 use Rattle.cm_model.specs.declared.message.Message.{Message}
-use Rattle.cm_model.specs.Array.{list_at}
+use Rattle.cm_model.specs.Array.{nth_or_nil}
 use Rattle.cm_array.proofs.Laying.{none_come, one_comes, length_come}
 use Rattle.cm_array.proofs.part.arrive_all.Goals as goal
 
@@ -13,16 +13,16 @@ arrive-requires c =
     let old = c.args.to.now.buffers in
     let ms : List Message = c.args.messages.now in
     let i = c.loop-message.message-index in
-    let ys : List Message = list_at old c.args.chip ++ take i ms in
+    let ys : List Message = nth_or_nil old c.args.chip ++ take i ms in
     let is = c.loop-message.invariant in
-    let all = length-append (list_at old c.args.chip) (take i ms) in
+    let all = length-append (nth_or_nil old c.args.chip) (take i ms) in
     let few : length (take i ms) < length ms = omega (arith, length-take i ms) in
     let here = length_come old c.args.chip ys c.requires.chip in
     record {
       chip = omega (arith, ap length is, length-set old c.args.chip ys);
       room = omega (
         arith,
-        ap (λ (lists : List (List Message)). length (list_at lists c.args.chip)) is,
+        ap (λ (lists : List (List Message)). length (nth_or_nil lists c.args.chip)) is,
         here,
         all,
         few,
@@ -36,7 +36,7 @@ loop-message-preserved c =
     let i = c.loop-message.message-index in
     c.arrive.ensures.value
     ∙ ap (λ (lists : List (List Message)). set lists c.args.chip
-    (list_at lists c.args.chip ++ c.message-item.result ∷ []))
+    (nth_or_nil lists c.args.chip ++ c.message-item.result ∷ []))
     c.loop-message.invariant
-    ∙ one_comes old c.args.chip (list_at old c.args.chip) c.args.messages.now i c.message-item.result c.requires.chip
+    ∙ one_comes old c.args.chip (nth_or_nil old c.args.chip) c.args.messages.now i c.message-item.result c.requires.chip
     c.loop-message-test.true c.message-item.is

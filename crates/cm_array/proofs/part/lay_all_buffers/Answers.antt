@@ -1,6 +1,6 @@
 use Rattle.std.proofs.Common.{ℕ, List, [], length, ap, ◌∙◌, arith}
 use Rattle.cm_model.specs.declared.message.Message.{Message}
-use Rattle.cm_model.proofs.Each.{length-each_from}
+use Rattle.cm_model.proofs.Each.{length-tabulate}
 use Rattle.cm_array.proofs.Laying.{buffers_cut, none_stand}
 use Rattle.cm_array.proofs.part.lay_all_buffers.Goals as goal
 
@@ -10,7 +10,7 @@ lay_buffers-requires-clause-here c =
     omega (
       arith,
       ap length c.clear.ensures.value,
-      length-each_from 0 (length c.args.crossing.now.buffers) none,
+      length-tabulate 0 (length c.args.crossing.now.buffers) none,
       c.requires.here,
     )
 
@@ -20,7 +20,7 @@ lay_buffers-requires-clause-few c =
     omega (
       arith,
       ap length c.clear.ensures.value,
-      length-each_from 0 (length c.args.crossing.now.buffers) none,
+      length-tabulate 0 (length c.args.crossing.now.buffers) none,
       c.requires.here,
       c.requires.there,
       c.requires.few,
@@ -36,5 +36,5 @@ returns-clause-value c =
     c.gather.ensures.value
     ∙ buffers_cut c.args.first c.args.count c.args.from.now.buffers c.clear.new.self.buffers
     c.lay_buffers.new.to.buffers
-    (ap length c.clear.ensures.value ∙ length-each_from 0 (length c.args.crossing.now.buffers) none ∙ c.requires.here)
+    (ap length c.clear.ensures.value ∙ length-tabulate 0 (length c.args.crossing.now.buffers) none ∙ c.requires.here)
     c.requires.there c.lay_buffers.ensures.value

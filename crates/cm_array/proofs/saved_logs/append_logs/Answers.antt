@@ -1,7 +1,7 @@
 use Rattle.std.proofs.Common.{◌<◌, ◌∙◌, ◌++◌, [], length, get_or, ap, arith}
 use Rattle.std.proofs.Common.{get_or-set_other}
 use Rattle.std.proofs.lemmas.List.{length-set, length-map}
-use Rattle.cm_model.specs.Array.{list_at}
+use Rattle.cm_model.specs.Array.{nth_or_nil}
 use Rattle.cm_model.proofs.Each.{is_each}
 use Rattle.cm_router.specs.Logs.{Log}
 use Rattle.cm_petit.specs.Routers.{events_of}
@@ -38,7 +38,7 @@ loop-c-preserved c =
 pub returns : goal.returns
 returns c = record {
   value = is_each [] (length c.args.logs.now)
-      (λ k. list_at (events_of c.args.logs.now) k ++ list_at (events_of c.args.more.now) k) (events_of c.loop-c.logs)
+      (λ k. nth_or_nil (events_of c.args.logs.now) k ++ nth_or_nil (events_of c.args.more.now) k) (events_of c.loop-c.logs)
       (length-map c.loop-c.logs (λ (x : Log). x.items) ∙ c.loop-c.invariant.count)
       (λ k l. c.loop-c.invariant.behind k (omega (arith, l, c.loop-c-test.false, c.loop-c.auto.c-end)));
 }

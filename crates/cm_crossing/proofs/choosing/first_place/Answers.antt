@@ -1,5 +1,5 @@
 use Rattle.std.proofs.Common.{sym, ◌∙◌}
-use Rattle.cm_model.specs.Array.{list_at}
+use Rattle.cm_model.specs.Array.{nth_or_nil}
 use Rattle.cm_model.specs.Router.{has_to_cross}
 use Rattle.cm_model.proofs.Leaving.{position-map}
 use Rattle.cm_crossing.specs.Standing.{message_of_ticket}
@@ -9,4 +9,4 @@ pub returns-in-First-clause-value : goal.returns-in-First-clause-value
 returns-in-First-clause-value c =
     rw c.in-First.is
     (c.first_to_cross.ensures.value
-    ∙ sym (position-map (message_of_ticket c.args.row.now) (has_to_cross c.args.dim) (list_at c.args.slots.now c.args.chip)))
+    ∙ sym (position-map (message_of_ticket c.args.row.now) (has_to_cross c.args.dim) (nth_or_nil c.args.slots.now c.args.chip)))

@@ -1,6 +1,6 @@
 use Rattle.std.proofs.Common.{◌≡◌, ◌<◌, length, get_or, below_more, sym, ap, ◌∙◌, arith}
 use Rattle.std.proofs.lemmas.Option.{slice_get_within, get_or_from_slice_get}
-use Rattle.cm_model.specs.Array.{list_at}
+use Rattle.cm_model.specs.Array.{nth_or_nil}
 use Rattle.cm_model.proofs.Leaving.{past_none}
 use Rattle.cm_slots.specs.Tickets.{has_to_go}
 use Rattle.cm_crossing.specs.Standing.{no_ticket}
@@ -9,7 +9,7 @@ use Rattle.cm_crossing.proofs.choosing.first_to_cross.Goals as goal
 
 pub returns-then-has_to_go : goal.returns-then-has_to_go
 returns-then-has_to_go c =
-    let ts = list_at c.args.slots.now c.args.chip in
+    let ts = nth_or_nil c.args.slots.now c.args.chip in
     let place = c.loop-ticket.place in
     let t = c.in-Some.ticket in
     let inside : place < length ts = slice_get_within ts place t (sym c.in-Some.ensures.value) in
@@ -23,7 +23,7 @@ returns-then-has_to_go c =
 
 pub loop-ticket-preserved : goal.loop-ticket-preserved
 loop-ticket-preserved c =
-    let ts = list_at c.args.slots.now c.args.chip in
+    let ts = nth_or_nil c.args.slots.now c.args.chip in
     let t = c.in-Some.ticket in
     let is : get_or ts c.loop-ticket.place no_ticket ≡ t =
     get_or_from_slice_get ts c.loop-ticket.place t no_ticket (sym c.in-Some.ensures.value) in
@@ -35,6 +35,6 @@ loop-ticket-preserved c =
 
 pub returns-clause-value : goal.returns-clause-value
 returns-clause-value c =
-    let ts = list_at c.args.slots.now c.args.chip in
+    let ts = nth_or_nil c.args.slots.now c.args.chip in
     let past = past_none ts c.loop-ticket.place (sym c.in_default.ensures.value) in
     none_found (has_to_go c.args.dim) ts no_ticket (λ k l. c.loop-ticket.invariant.none k (omega (arith, l, past)))

@@ -1,5 +1,5 @@
 use Rattle.std.proofs.Common.{◌≡◌, ℕ, ◌-◌, ◌<◌, ◌≤◌, false, get_or}
-use Rattle.cm_model.specs.Array.{list_at}
+use Rattle.cm_model.specs.Array.{nth_or_nil}
 use Rattle.cm_slots.specs.Tickets.{has_to_go}
 use Rattle.cm_crossing.specs.Standing.{no_ticket}
 use Rattle.cm_crossing.proofs.choosing.first_to_cross.Given as goal
@@ -9,6 +9,6 @@ decreases-loop-ticket l = 15 - l.place
 
 abbrev pub invariant-loop-ticket : goal.invariant-loop-ticket
 invariant-loop-ticket l = record {
-  none : (k : ℕ) → k < l.place → has_to_go l.dim (get_or (list_at l.slots l.chip) k no_ticket) ≡ false;
+  none : (k : ℕ) → k < l.place → has_to_go l.dim (get_or (nth_or_nil l.slots l.chip) k no_ticket) ≡ false;
   most : l.place ≤ 15;
 }

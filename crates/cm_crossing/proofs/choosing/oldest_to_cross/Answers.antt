@@ -1,13 +1,13 @@
 use Rattle.std.proofs.Common.{◌-◌, ◌<◌, length, sym, ◌∙◌, arith}
 use Rattle.std.proofs.lemmas.List.{length-map}
-use Rattle.cm_model.specs.Array.{list_at}
+use Rattle.cm_model.specs.Array.{nth_or_nil}
 use Rattle.cm_crossing.specs.Standing.{message_of_ticket, standing}
 use Rattle.cm_crossing.proofs.Places.{older_found, older_behind}
 use Rattle.cm_crossing.proofs.choosing.oldest_to_cross.Goals as goal
 
 pub loop-place-preserved-then-goes_first : goal.loop-place-preserved-then-goes_first
 loop-place-preserved-then-goes_first c =
-    let ts = list_at c.args.slots.now c.args.chip in
+    let ts = nth_or_nil c.args.slots.now c.args.chip in
     let was = c.loop-place.invariant in
     let place = c.loop-place.place in
     let some : 0 < place = omega (arith, c.loop-place-test.true) in
@@ -22,7 +22,7 @@ loop-place-preserved-then-goes_first c =
 
 pub loop-place-preserved : goal.loop-place-preserved
 loop-place-preserved c =
-    let ts = list_at c.args.slots.now c.args.chip in
+    let ts = nth_or_nil c.args.slots.now c.args.chip in
     let was = c.loop-place.invariant in
     let place = c.loop-place.place in
     let some : 0 < place = omega (arith, c.loop-place-test.true) in

@@ -1,8 +1,8 @@
 use Rattle.std.proofs.Common.{◌≡◌, ◌+◌, ◌^◌, ◌<◌, ◌∙◌, length, get_or, ap, inl, inr, ⊎_elim, arith}
 use Rattle.std.specs.List.{All}
-use Rattle.cm_model.specs.Array.{list_at}
+use Rattle.cm_model.specs.Array.{nth_or_nil}
 use Rattle.cm_model.specs.Wiring.{way_of}
-use Rattle.cm_model.proofs.Each.{length-each_from}
+use Rattle.cm_model.proofs.Each.{length-tabulate}
 use Rattle.cm_model.proofs.Flips.{across_below}
 use Rattle.cm_router.specs.Routes.{routing_of}
 use Rattle.cm_crossing.specs.Standing.{HasMessage}
@@ -20,9 +20,9 @@ take_in_by_chip-requires c =
     let d = c.args.dim in
     let room = c.args.sizes.room in
     let many : length left ≡ 2 ^ c.args.span =
-    ap length c.leave_by_chip.ensures.value ∙ (length-each_from 0 (length old) _ ∙ c.requires.count) in
+    ap length c.leave_by_chip.ensures.value ∙ (length-tabulate 0 (length old) _ ∙ c.requires.count) in
     let lanes : length gone ≡ 2 ^ c.args.span =
-    ap length c.leave_by_chip.ensures.going ∙ (length-each_from 0 (length old) _ ∙ c.requires.count) in
+    ap length c.leave_by_chip.ensures.going ∙ (length-tabulate 0 (length old) _ ∙ c.requires.count) in
     let kept : All (HasMessage (length row)) gone =
     rw c.leave_by_chip.ensures.going
     (gone_kept room d (length row) (λ b. way_of routing (c.args.first + b) d) row old c.requires.kept (length old)) in
@@ -31,7 +31,7 @@ take_in_by_chip-requires c =
       rows = omega (arith, many, lanes);
       across = λ b l. rw many (across_below c.args.span d b c.requires.dim (rw many at l));
       numbers = λ k e l. kept_more (length row) 65535 (get_or gone k e) c.requires.few (kept k e l);
-      space = λ b l. ⊎_elim (λ none. inl none) (λ (less : length (list_at left b) < room).
+      space = λ b l. ⊎_elim (λ none. inl none) (λ (less : length (nth_or_nil left b) < room).
           inr (omega (arith, less, c.args.sizes.bounds.most_room)))
           (space_across row routing room d c.args.span c.args.first old left gone c.requires.begins c.requires.dim
           c.requires.count c.leave_by_chip.ensures.value c.leave_by_chip.ensures.going c.requires.within

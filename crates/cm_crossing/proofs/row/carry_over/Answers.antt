@@ -2,7 +2,7 @@ use Rattle.std.proofs.Common.{◌≡◌, ◌<◌, [], length, get_or, set, sym, 
 use Rattle.std.proofs.lemmas.Grind.{elements}
 use Rattle.std.proofs.lemmas.List.{append_assoc, append-nil, map_more, take_all}
 use Rattle.std.proofs.lemmas.Option.{slice_get_within, get_or_from_slice_get}
-use Rattle.cm_model.specs.Array.{list_at}
+use Rattle.cm_model.specs.Array.{nth_or_nil}
 use Rattle.cm_model.proofs.Leaving.{past_none}
 use Rattle.cm_slots.specs.declared.ticket.Ticket.{Ticket}
 use Rattle.cm_crossing.specs.Standing.{message_of_ticket, no_ticket}
@@ -15,13 +15,13 @@ loop-ticket-preserved c =
     let kept = c.keep-number.ensures in
     let place = c.loop-ticket.place in
     let t = c.in-Some.ticket in
-    let before = list_at c.args.slots.now c.args.here in
-    let queue = list_at c.loop-ticket.slots c.args.here in
+    let before = nth_or_nil c.args.slots.now c.args.here in
+    let queue = nth_or_nil c.loop-ticket.slots c.args.here in
     let inside : place < length queue = slice_get_within queue place t (sym c.in-Some.ensures.value) in
     let same : get_or before place no_ticket ≡ t =
     sym (was.ahead place (omega arith)) ∙ get_or_from_slice_get queue place t no_ticket (sym c.in-Some.ensures.value) in
     let new : Ticket = record { rel = c.message_of-message.result.rel; number = c.keep-number.result } in
-    let here : list_at c.replace.new.self c.args.here ≡ set queue place new = grind (arith, elements) in
+    let here : nth_or_nil c.replace.new.self c.args.here ≡ set queue place new = grind (arith, elements) in
     let more = map_more (message_of_ticket c.args.row.now) before place no_ticket (omega (arith, was.long)) in
     record {
       items = rw (kept.items, was.items, append_assoc, more, same, c.message_of-message.ensures.value);
@@ -37,9 +37,9 @@ loop-ticket-preserved c =
 pub returns : goal.returns
 returns c =
     let was = c.loop-ticket.invariant in
-    let queue = list_at c.loop-ticket.slots c.args.here in
+    let queue = nth_or_nil c.loop-ticket.slots c.args.here in
     let past = past_none queue c.loop-ticket.place (sym c.in_default.ensures.value) in
-    let all = take_all c.loop-ticket.place (list_at c.args.slots.now c.args.here) (omega (arith, was.long)) in
+    let all = take_all c.loop-ticket.place (nth_or_nil c.args.slots.now c.args.here) (omega (arith, was.long)) in
     record {
       items = rw all at was.items;
       value = record {

@@ -1,5 +1,5 @@
 use Rattle.std.proofs.Common.{◌≡◌, ℕ, ◌+◌, ◌-◌, ◌<◌, ◌≤◌, ◌++◌, length, take, get_or, vec_len, vec_capacity}
-use Rattle.cm_model.specs.Array.{list_at}
+use Rattle.cm_model.specs.Array.{nth_or_nil}
 use Rattle.cm_crossing.specs.Standing.{standing, no_ticket, IsWritten}
 use Rattle.cm_crossing.proofs.row.carry_over.Given as goal
 
@@ -8,12 +8,12 @@ decreases-loop-ticket l = 15 - l.place
 
 abbrev pub invariant-loop-ticket : goal.invariant-loop-ticket
 invariant-loop-ticket l = record {
-  items : l.spare.items ≡ l.fn.spare.items ++ standing l.row (take l.place (list_at l.fn.slots l.here));
-  long : length (list_at l.slots l.here) ≡ length (list_at l.fn.slots l.here);
-  done : (j : ℕ) → j < l.place → get_or (list_at l.slots l.here) j no_ticket
-      ≡ record { rel = (get_or (list_at l.fn.slots l.here) j no_ticket).rel; number = length l.fn.spare.items + j };
+  items : l.spare.items ≡ l.fn.spare.items ++ standing l.row (take l.place (nth_or_nil l.fn.slots l.here));
+  long : length (nth_or_nil l.slots l.here) ≡ length (nth_or_nil l.fn.slots l.here);
+  done : (j : ℕ) → j < l.place → get_or (nth_or_nil l.slots l.here) j no_ticket
+      ≡ record { rel = (get_or (nth_or_nil l.fn.slots l.here) j no_ticket).rel; number = length l.fn.spare.items + j };
   ahead : (j : ℕ) → l.place ≤ j
-      → get_or (list_at l.slots l.here) j no_ticket ≡ get_or (list_at l.fn.slots l.here) j no_ticket;
+      → get_or (nth_or_nil l.slots l.here) j no_ticket ≡ get_or (nth_or_nil l.fn.slots l.here) j no_ticket;
   others : IsWritten l.here l.fn.slots l.slots;
   most : l.place ≤ 15;
   len : vec_len l.spare ≡ vec_len l.fn.spare + l.place;

@@ -2,7 +2,7 @@ use Rattle.std.proofs.Common.{◌≡◌, ℕ, ◌<◌, [], length, below_more, a
 use Rattle.std.proofs.lemmas.Grind.{elements}
 use Rattle.std.proofs.lemmas.List.{length-map}
 use Rattle.std.proofs.lemmas.List.Elements.{All-from_get_or}
-use Rattle.cm_model.specs.Array.{list_at}
+use Rattle.cm_model.specs.Array.{nth_or_nil}
 use Rattle.cm_crossing.specs.Standing.{standing, all_standing, HaveMessages, AreTogether, AreLaidOut}
 use Rattle.cm_crossing.proofs.Carrying.{standing_at}
 use Rattle.cm_crossing.proofs.Keeping.{laid_value, laid_kept, laid_together, laid_longer}
@@ -15,7 +15,7 @@ loop-c-preserved c =
     record {
       long = grind (arith, elements);
       done = below_more _ _ (λ k h.
-          let other : list_at next k ≡ list_at c.loop-c.slots k = grind (arith, elements) in
+          let other : nth_or_nil next k ≡ nth_or_nil c.loop-c.slots k = grind (arith, elements) in
           rw (c.carry_over.ensures.items, other) (laid_longer (was.done k h) _))
           (rw (← was.ahead c.loop-c.c (omega arith)) c.carry_over.ensures.value);
       ahead = grind (arith, elements);
@@ -29,7 +29,7 @@ returns c =
     let row = c.args.row.now in
     let spare = c.loop-c.spare.items in
     let laid : (k : ℕ) → k < length c.loop-c.slots
-    → AreLaidOut row spare (list_at c.args.slots.now k) (list_at c.loop-c.slots k) =
+    → AreLaidOut row spare (nth_or_nil c.args.slots.now k) (nth_or_nil c.loop-c.slots k) =
     λ k l. was.done k (omega (arith, was.long, c.chips-c-end.ensures.value, c.loop-c-test.false)) in
     record {
       value = ext_get_or [] (all_standing spare c.loop-c.slots) (all_standing row c.args.slots.now)

@@ -6,7 +6,7 @@ use Rattle.std.proofs.lemmas.List.Edits.{length-remove}
 use Rattle.std.proofs.lemmas.Option.{slice_get_within}
 use Rattle.std.specs.List.{slice_get}
 use Rattle.cm_model.specs.Processor.{Processor}
-use Rattle.cm_model.specs.Array.{Chips, chip_at, list_at}
+use Rattle.cm_model.specs.Array.{Chips, chip_at, nth_or_nil}
 use Rattle.cm_model.specs.Letters.{chip_after_delivery}
 use Rattle.cm_model.proofs.Leaving.{past_none}
 use Rattle.cm_model.proofs.Scan.{HandsOver, scan_ends}
@@ -20,30 +20,30 @@ use Rattle.cm_crossing.proofs.row.deliver_at.Goals as goal
 
 pub next_given-place-requires-clause-kept : goal.next_given-place-requires-clause-kept
 next_given-place-requires-clause-kept c =
-    let queue = list_at c.loop-ticket.slots c.args.chip in
-    let here : list_at c.remove.new.self c.args.chip ≡ remove queue c.loop-ticket.place = grind (arith, elements) in
+    let queue = nth_or_nil c.loop-ticket.slots c.args.chip in
+    let here : nth_or_nil c.remove.new.self c.args.chip ≡ remove queue c.loop-ticket.place = grind (arith, elements) in
     rw here (without_kept _ queue (Some c.loop-ticket.place) c.loop-ticket.invariant.kept)
 
 pub next_given-place-requires-clause-from : goal.next_given-place-requires-clause-from
 next_given-place-requires-clause-from c =
-    let queue = list_at c.loop-ticket.slots c.args.chip in
-    let here : list_at c.remove.new.self c.args.chip ≡ remove queue c.loop-ticket.place = grind (arith, elements) in
+    let queue = nth_or_nil c.loop-ticket.slots c.args.chip in
+    let here : nth_or_nil c.remove.new.self c.args.chip ≡ remove queue c.loop-ticket.place = grind (arith, elements) in
     let inside = slice_get_within queue c.loop-ticket.place c.in-Some.ticket (sym c.in-Some.ensures.value) in
     rw here (grind (arith, length-remove, inside))
 
 pub loop-ticket-smaller-then-is_delivered : goal.loop-ticket-smaller-then-is_delivered
 loop-ticket-smaller-then-is_delivered c =
-    let queue = list_at c.loop-ticket.slots c.args.chip in
-    let here : list_at c.remove.new.self c.args.chip ≡ remove queue c.loop-ticket.place = grind (arith, elements) in
+    let queue = nth_or_nil c.loop-ticket.slots c.args.chip in
+    let here : nth_or_nil c.remove.new.self c.args.chip ≡ remove queue c.loop-ticket.place = grind (arith, elements) in
     let inside = slice_get_within queue c.loop-ticket.place c.in-Some.ticket (sym c.in-Some.ensures.value) in
-    let long : length (list_at c.remove.new.self c.args.chip) + 1 ≡ length queue =
+    let long : length (nth_or_nil c.remove.new.self c.args.chip) + 1 ≡ length queue =
     rw here (grind (arith, length-remove, inside)) in
     omega (arith, long, c.next_given-place.ensures.from)
 
 pub next_given-place-requires-else-is_delivered-clause-from
     : goal.next_given-place-requires-else-is_delivered-clause-from
 next_given-place-requires-else-is_delivered-clause-from c =
-    let queue = list_at c.loop-ticket.slots c.args.chip in
+    let queue = nth_or_nil c.loop-ticket.slots c.args.chip in
     omega (arith, slice_get_within queue c.loop-ticket.place c.in-Some.ticket (sym c.in-Some.ensures.value))
 
 pub loop-ticket-preserved-then-is_delivered : goal.loop-ticket-preserved-then-is_delivered
@@ -61,16 +61,16 @@ loop-ticket-preserved-then-is_delivered c =
     ap (λ (r : Chips). chip_at r place) put ∙ get_or-set_same old place chip [] (omega (arith, was.inside)) in
     let next : HandsOver true (chip_at first place) m (chip_at old place) chip =
     λ seen gone. step.step (chip_at first place) (chip_at old place) seen gone was.receivers in
-    let queue = list_at c.loop-ticket.slots place in
+    let queue = nth_or_nil c.loop-ticket.slots place in
     let is : Some c.in-Some.ticket ≡ slice_get queue c.loop-ticket.place = c.in-Some.ensures.value in
     let inside = slice_get_within queue c.loop-ticket.place c.in-Some.ticket (sym is) in
-    let here : list_at c.remove.new.self place ≡ remove queue c.loop-ticket.place = grind (arith, elements) in
+    let here : nth_or_nil c.remove.new.self place ≡ remove queue c.loop-ticket.place = grind (arith, elements) in
     let passing = c.next_given-place.ensures in
     let able : IsPlane c.is_delivered.new.receivers
     (can_receive (chip_at (run_after c.is_delivered.new.deliveries run) place)) =
     rw now (step.receivers (chip_at first place) (chip_at old place) was.scan.seen was.scan.gone was.receivers) in
     record {
-      scan = scan_to c.loop-ticket.place c.next_given-place.result c.args.row.now (list_at c.remove.new.self place)
+      scan = scan_to c.loop-ticket.place c.next_given-place.result c.args.row.now (nth_or_nil c.remove.new.self place)
           passing.from passing.within
           (λ j t from below at. passing.passed j t from below at (chip_at first place) _ able)
           (rw (here, step.log, now) (scan_taken c.args.row.now queue c.in-Some.ticket is was.scan next));
@@ -101,7 +101,7 @@ loop-ticket-preserved c =
     ap (λ (r : Chips). chip_at r place) put ∙ get_or-set_same old place chip [] (omega (arith, was.inside)) in
     let next : HandsOver false (chip_at first place) m chip chip =
     λ seen gone. step.step (chip_at first place) chip seen gone was.receivers in
-    let queue = list_at c.loop-ticket.slots place in
+    let queue = nth_or_nil c.loop-ticket.slots place in
     let is : Some c.in-Some.ticket ≡ slice_get queue c.loop-ticket.place = c.in-Some.ensures.value in
     let passing = c.next_given-place-else-is_delivered.ensures in
     let able : IsPlane c.is_delivered.new.receivers
@@ -127,7 +127,7 @@ loop-ticket-preserved c =
 pub returns : goal.returns
 returns c =
     let was = c.loop-ticket in
-    let queue = list_at was.slots c.args.chip in
+    let queue = nth_or_nil was.slots c.args.chip in
     let past = past_none queue was.place (sym c.in_default.ensures.value) in
     let all = scan_ends _ _ _ _ _ _ _ _ was.invariant.scan (rw length-map past) in
     record {

@@ -2,14 +2,14 @@ use Rattle.std.proofs.Common.{◌≡◌, ◌≢◌, ◌<◌, Some, length, sym, 
 use Rattle.std.specs.List.{slice_get}
 use Rattle.std.proofs.lemmas.Bool.{cases_eq}
 use Rattle.std.proofs.lemmas.Option.{slice_get_within}
-use Rattle.cm_model.specs.Array.{list_at}
+use Rattle.cm_model.specs.Array.{nth_or_nil}
 use Rattle.cm_crossing.proofs.row.next_given.Goals as goal
 
 pub loop-ticket-preserved : goal.loop-ticket-preserved
 loop-ticket-preserved c =
     let was = c.loop-ticket.invariant in
     let place = c.loop-ticket.place in
-    let queue = list_at c.args.slots.now c.args.here in
+    let queue = nth_or_nil c.args.slots.now c.args.here in
     let is : Some c.in-Some.ticket ≡ slice_get queue place = c.in-Some.ensures.value in
     let inside : place < length queue = slice_get_within queue place c.in-Some.ticket (sym is) in
     record {

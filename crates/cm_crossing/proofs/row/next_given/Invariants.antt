@@ -1,7 +1,7 @@
 use Rattle.std.proofs.Common.{◌≡◌, ◌-◌, ◌<◌, ◌≤◌, ℕ, false, Some, List, length}
 use Rattle.std.specs.List.{slice_get}
 use Rattle.cm_model.specs.declared.message.Message.{Message}
-use Rattle.cm_model.specs.Array.{list_at}
+use Rattle.cm_model.specs.Array.{nth_or_nil}
 use Rattle.cm_model.specs.Chip.{IsPlane}
 use Rattle.cm_model.specs.Letters.{can_receive}
 use Rattle.cm_model.specs.Processor.{Processor}
@@ -15,9 +15,9 @@ decreases-loop-ticket l = 15 - l.place
 
 abbrev pub invariant-loop-ticket : goal.invariant-loop-ticket
 invariant-loop-ticket l = record {
-  passed : (j : ℕ) (t : Ticket) → l.from ≤ j → j < l.place → Some t ≡ slice_get (list_at l.slots l.here) j
+  passed : (j : ℕ) (t : Ticket) → l.from ≤ j → j < l.place → Some t ≡ slice_get (nth_or_nil l.slots l.here) j
       → (before chip : List Processor) → IsPlane l.receivers (can_receive chip) → (seen : List Message)
       → HasDelivered before seen chip → HasHandedOver false before seen (message_of_ticket l.row t) chip;
   from : l.from ≤ l.place;
-  within : l.place ≤ length (list_at l.slots l.here);
+  within : l.place ≤ length (nth_or_nil l.slots l.here);
 }

@@ -1,7 +1,7 @@
 use Rattle.std.proofs.Common.{◌≡◌, ◌++◌, [], ◌∷◌, sym, arith}
 use Rattle.std.proofs.lemmas.Grind.{elements}
 use Rattle.std.proofs.lemmas.List.{length-append, map-append, get_or_at}
-use Rattle.cm_model.specs.Array.{list_at}
+use Rattle.cm_model.specs.Array.{nth_or_nil}
 use Rattle.cm_slots.specs.declared.ticket.Ticket.{Ticket}
 use Rattle.cm_crossing.specs.Standing.{no_message}
 use Rattle.cm_crossing.proofs.Keeping.{standing_kept}
@@ -12,9 +12,9 @@ returns c =
     let kept = c.keep-number.ensures in
     let m = c.args.message.now in
     let row = c.args.row.now.items in
-    let queue = list_at c.args.slots.now c.args.here in
+    let queue = nth_or_nil c.args.slots.now c.args.here in
     let t : Ticket = record { rel = m.rel; number = c.keep-number.result } in
-    let here : list_at c.arrive.new.self c.args.here ≡ queue ++ t ∷ [] = grind (arith, elements) in
+    let here : nth_or_nil c.arrive.new.self c.args.here ≡ queue ++ t ∷ [] = grind (arith, elements) in
     let others = standing_kept row (m ∷ []) queue c.requires.kept in
     let newest = get_or_at row m [] no_message c.keep-number.result (sym kept.number) in
     record {

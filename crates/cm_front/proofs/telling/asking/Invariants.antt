@@ -1,11 +1,11 @@
 use Rattle.std.proofs.Common.{◌≡◌, ◌*◌, ◌≤◌, sum}
-use Rattle.cm_model.specs.Each.{each_from}
+use Rattle.cm_model.specs.Each.{tabulate}
 use Rattle.cm_study.specs.Counts.{asking_at}
 use Rattle.cm_front.proofs.telling.asking.Given as goal
 
 -- those of so many chips
 abbrev pub invariant-loop-chip : goal.invariant-loop-chip
 invariant-loop-chip g l = record {
-  so_far : l.total ≡ sum (each_from 0 l.chip (asking_at l.machine.machine));
+  so_far : l.total ≡ sum (tabulate 0 l.chip (asking_at l.machine.machine));
   within : l.total ≤ l.chip * 16;
 }

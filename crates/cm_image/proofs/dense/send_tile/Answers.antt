@@ -1,7 +1,7 @@
 use Rattle.std.proofs.Common.{◌≡◌, ◌<◌, ◌≤◌, ◌+◌, ◌*◌, ◌++◌, ◌^◌, ℕ, List, length, get_or, refl, sym, ap, ◌∙◌, subst}
 use Rattle.std.proofs.Common.{arith, length-drop}
 use Rattle.std.proofs.lemmas.List.{take_rest, get_or-drop}
-use Rattle.cm_model.specs.Array.{list_at}
+use Rattle.cm_model.specs.Array.{nth_or_nil}
 use Rattle.cm_image_format.specs.Image.{chip_text}
 use Rattle.cm_image_format.specs.Whole.{memory_plane_of, image_of_chip}
 use Rattle.cm_image.specs.Planes.{chips_text, planes_below}
@@ -23,7 +23,7 @@ push_chip-requires g c =
     let place : ℕ = c.from-place.result * 4128 in
     let planes : List ℕ = c.args.planes.now in
     let below : number < 2 ^ g.row.N = omega (arith, c.requires.chips, c.loop-c-test.true) in
-    let room : length (list_at c.args.machine.now.machine.buffers number) ≤ g.row.CAP =
+    let room : length (nth_or_nil c.args.machine.now.machine.buffers number) ≤ g.row.CAP =
     c.buffer-buffer.ensures.whole.room number below in
     record {
       listed = ap (λ (k : ℕ). get_or c.args.counts.now k 0) c.from.ensures

@@ -1,5 +1,5 @@
 use Rattle.std.proofs.Common.{◌≡◌, ◌<◌, ◌≤◌, ◌^◌, ℕ, length, get_or, ap, ◌∙◌, arith}
-use Rattle.cm_model.specs.Array.{chip_at, list_at}
+use Rattle.cm_model.specs.Array.{chip_at, nth_or_nil}
 use Rattle.cm_image_format.specs.Image.{chip_text}
 use Rattle.cm_image_format.specs.Whole.{image_of_chip}
 use Rattle.cm_image.specs.Planes.{chips_text}
@@ -15,7 +15,7 @@ loop-c-init g c = record {
 pub chip_len-len-requires : goal.chip_len-len-requires
 chip_len-len-requires g c =
     let below : c.loop-c.c < 2 ^ g.row.N = omega (arith, c.chip_count-count.ensures.value) in
-    let room : length (list_at c.args.machine.now.machine.buffers c.loop-c.c) ≤ g.row.CAP =
+    let room : length (nth_or_nil c.args.machine.now.machine.buffers c.loop-c.c) ≤ g.row.CAP =
     c.buffer.ensures.whole.room c.loop-c.c below in
     record { few = rw c.buffer.ensures.value (omega (arith, room)) }
 

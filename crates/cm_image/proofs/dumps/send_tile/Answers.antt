@@ -2,7 +2,7 @@ use Rattle.std.proofs.Common.{◌≡◌, ◌<◌, ◌≤◌, ◌+◌, ◌++◌, 
 use Rattle.std.proofs.Common.{arith}
 use Rattle.std.specs.List.{flat_map}
 use Rattle.cm_model.specs.Processor.{Processor}
-use Rattle.cm_model.specs.Array.{chip_at, list_at}
+use Rattle.cm_model.specs.Array.{chip_at, nth_or_nil}
 use Rattle.cm_image_format.specs.Image.{chip_text}
 use Rattle.cm_image_format.specs.Whole.{image_of_chip}
 use Rattle.cm_image.specs.Planes.{chips_text, planes_below, listed_below, listing_at}
@@ -22,7 +22,7 @@ pub push_chip-requires : goal.push_chip-requires
 push_chip-requires g c =
     let number : ℕ = c.args.first + c.loop-c.c in
     let below : number < 2 ^ g.row.N = omega (arith, c.requires.chips, c.loop-c-test.true) in
-    let room : length (list_at c.args.machine.now.machine.buffers number) ≤ g.row.CAP =
+    let room : length (nth_or_nil c.args.machine.now.machine.buffers number) ≤ g.row.CAP =
     c.buffer-buffer.ensures.whole.room number below in
     let same : c.view.result ≡ chip_at c.args.machine.now.machine.chips number =
     c.view.ensures.value ∙ c.requires.tile c.loop-c.c c.loop-c-test.true in

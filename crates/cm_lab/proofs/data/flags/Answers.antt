@@ -1,17 +1,17 @@
 use Rattle.std.proofs.Common.{◌≡◌, ℕ, ◌++◌, ◌∷◌, [], Bool, length, ap, ◌∙◌, sym, arith}
 use Rattle.cm_bits.specs.declared.place.Place.{Place}
 use Rattle.cm_bits.specs.Bit.{bit_number}
-use Rattle.cm_model.specs.Each.{each_from}
+use Rattle.cm_model.specs.Each.{tabulate}
 use Rattle.cm_model.specs.Processor.{flag}
 use Rattle.cm_model.specs.Chip.{processor_at}
 use Rattle.cm_model.specs.Array.{processor_of}
-use Rattle.cm_model.proofs.Each.{length-each_from}
+use Rattle.cm_model.proofs.Each.{length-tabulate}
 use Rattle.cm_lab.specs.Data.{processors, place_in, flags_of}
-use Rattle.cm_lab.proofs.Filling.{each_from-more}
+use Rattle.cm_lab.proofs.Filling.{tabulate-more}
 use Rattle.cm_lab.proofs.data.flags.Goals as goal
 
 pub loop-index-init : goal.loop-index-init
-unfolding each_from
+unfolding tabulate
 loop-index-init g c = c.in_ok-flags.ensures.items
 
 pub loop-index-preserved : goal.loop-index-preserved
@@ -25,8 +25,8 @@ loop-index-preserved g c =
     ∙ ap (λ (place : Place). flag (processor_of chips place) number) c.place_in-here.ensures.value in
     c.in-Ok.ensures.items
     ∙ (λ j. c.loop-index.invariant j ++ c.bit_number.ensures.value j ∷ [])
-    ∙ ap (λ (b : Bool). each_from 0 c.loop-index.index read ++ bit_number b ∷ []) bit
-    ∙ sym (each_from-more read c.loop-index.index)
+    ∙ ap (λ (b : Bool). tabulate 0 c.loop-index.index read ++ bit_number b ∷ []) bit
+    ∙ sym (tabulate-more read c.loop-index.index)
 
 pub returns : goal.returns
 unfolding flags_of
@@ -39,6 +39,6 @@ returns g c =
       c.loop-index.auto.index-end,
       c.processors-count.ensures.value,
     ) in
-    let value : c.loop-index.flags.items ≡ each_from 0 (processors g.row.N) read =
-    c.loop-index.invariant ∙ ap (λ (count : ℕ). each_from 0 count read) all in
-    record { value = value; count = ap length value ∙ length-each_from 0 (processors g.row.N) read }
+    let value : c.loop-index.flags.items ≡ tabulate 0 (processors g.row.N) read =
+    c.loop-index.invariant ∙ ap (λ (count : ℕ). tabulate 0 count read) all in
+    record { value = value; count = ap length value ∙ length-tabulate 0 (processors g.row.N) read }

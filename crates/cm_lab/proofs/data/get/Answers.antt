@@ -1,16 +1,16 @@
 use Rattle.std.proofs.Common.{◌≡◌, ℕ, ◌++◌, ◌∷◌, [], length, ap, ◌∙◌, sym, arith}
 use Rattle.cm_bits.specs.declared.place.Place.{Place}
-use Rattle.cm_model.specs.Each.{each_from}
+use Rattle.cm_model.specs.Each.{tabulate}
 use Rattle.cm_model.specs.Processor.{field_value}
 use Rattle.cm_model.specs.Chip.{processor_at}
 use Rattle.cm_model.specs.Array.{processor_of}
-use Rattle.cm_model.proofs.Each.{length-each_from}
+use Rattle.cm_model.proofs.Each.{length-tabulate}
 use Rattle.cm_lab.specs.Data.{processors, place_in, numbers_of}
-use Rattle.cm_lab.proofs.Filling.{each_from-more}
+use Rattle.cm_lab.proofs.Filling.{tabulate-more}
 use Rattle.cm_lab.proofs.data.get.Goals as goal
 
 pub loop-index-init : goal.loop-index-init
-unfolding each_from
+unfolding tabulate
 loop-index-init g c = c.in_ok-numbers.ensures.items
 
 pub loop-index-preserved : goal.loop-index-preserved
@@ -25,7 +25,7 @@ loop-index-preserved g c =
     c.args.field.len) c.place_in-place.ensures.value in
     c.in-Ok.ensures.items
     ∙ (λ j. c.loop-index.invariant j ++ number j ∷ [])
-    ∙ sym (each_from-more read c.loop-index.index)
+    ∙ sym (tabulate-more read c.loop-index.index)
 
 pub returns : goal.returns
 unfolding numbers_of
@@ -38,6 +38,6 @@ returns g c =
       c.loop-index.auto.index-end,
       c.processors-count.ensures.value,
     ) in
-    let value : c.loop-index.numbers.items ≡ each_from 0 (processors g.row.N) read =
-    c.loop-index.invariant ∙ ap (λ (count : ℕ). each_from 0 count read) all in
-    record { value = value; count = ap length value ∙ length-each_from 0 (processors g.row.N) read }
+    let value : c.loop-index.numbers.items ≡ tabulate 0 (processors g.row.N) read =
+    c.loop-index.invariant ∙ ap (λ (count : ℕ). tabulate 0 count read) all in
+    record { value = value; count = ap length value ∙ length-tabulate 0 (processors g.row.N) read }

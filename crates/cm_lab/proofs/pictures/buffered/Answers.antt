@@ -1,27 +1,27 @@
 use Rattle.std.proofs.Common.{◌≡◌, ℕ, ◌^◌, ◌++◌, ◌∷◌, [], length, ap, ◌∙◌, sym, arith}
-use Rattle.cm_model.specs.Each.{each_from}
-use Rattle.cm_model.specs.Array.{list_at}
-use Rattle.cm_model.proofs.Each.{length-each_from}
+use Rattle.cm_model.specs.Each.{tabulate}
+use Rattle.cm_model.specs.Array.{nth_or_nil}
+use Rattle.cm_model.proofs.Each.{length-tabulate}
 use Rattle.cm_lab.specs.Pictures.{buffered}
 use Rattle.cm_lab.proofs.Orders.{chips_in_columns}
-use Rattle.cm_lab.proofs.Filling.{each_from-more}
+use Rattle.cm_lab.proofs.Filling.{tabulate-more}
 use Rattle.cm_lab.proofs.pictures.buffered.Goals as goal
 
 pub loop-chip-init : goal.loop-chip-init
-unfolding each_from
+unfolding tabulate
 loop-chip-init g c = c.in_ok-dots.ensures.items
 
 pub loop-chip-preserved : goal.loop-chip-preserved
 loop-chip-preserved g c =
-    let count = λ (k : ℕ). length (list_at c.args.machine.now.machine.buffers k) in
+    let count = λ (k : ℕ). length (nth_or_nil c.args.machine.now.machine.buffers k) in
     c.in-Ok.ensures.items
     ∙ (λ j. c.loop-chip.invariant j ++ ap length c.buffer.ensures.value j ∷ [])
-    ∙ sym (each_from-more count c.loop-chip.chip)
+    ∙ sym (tabulate-more count c.loop-chip.chip)
 
 pub returns : goal.returns
 unfolding buffered
 returns g c =
-    let count = λ (k : ℕ). length (list_at c.args.machine.now.machine.buffers k) in
+    let count = λ (k : ℕ). length (nth_or_nil c.args.machine.now.machine.buffers k) in
     let all : c.loop-chip.chip ≡ 2 ^ g.row.N = omega (
       arith,
       c.loop-chip-test.false,
@@ -29,6 +29,6 @@ returns g c =
       c.processors.ensures.value,
       c.processors.ensures.within,
     ) in
-    let value : c.loop-chip.dots.items ≡ each_from 0 (2 ^ g.row.N) count =
-    c.loop-chip.invariant ∙ ap (λ (chips : ℕ). each_from 0 chips count) all in
-    record { value = value; count = ap length value ∙ length-each_from 0 (2 ^ g.row.N) count ∙ chips_in_columns g.row.N }
+    let value : c.loop-chip.dots.items ≡ tabulate 0 (2 ^ g.row.N) count =
+    c.loop-chip.invariant ∙ ap (λ (chips : ℕ). tabulate 0 chips count) all in
+    record { value = value; count = ap length value ∙ length-tabulate 0 (2 ^ g.row.N) count ∙ chips_in_columns g.row.N }

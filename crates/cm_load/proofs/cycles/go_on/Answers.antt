@@ -4,10 +4,10 @@ use Rattle.std.proofs.Math.Nat.{pow-le-pow_right}
 use Rattle.std.proofs.lemmas.Nat.{one_shl}
 use Rattle.cm_bits.specs.Bit.{bit}
 use Rattle.cm_model.specs.declared.message.Event.{Event}
-use Rattle.cm_model.specs.Each.{each_from}
+use Rattle.cm_model.specs.Each.{tabulate}
 use Rattle.cm_model.specs.Processor.{RECV}
 use Rattle.cm_model.specs.Array.{chip_at}
-use Rattle.cm_model.proofs.Each.{length-each_from}
+use Rattle.cm_model.proofs.Each.{length-tabulate}
 use Rattle.cm_element.specs.Wide.{with_flag_plane}
 use Rattle.cm_router.specs.Logs.{Log}
 use Rattle.cm_router.specs.Routes.{routing_of}
@@ -35,20 +35,20 @@ returns-clause-ok c =
     (sym c.requires.load)
     c.ask_all.ensures.value
     (c.in_ok-empty_logs.ensures.empty
-    ∙ ap (λ (k : ℕ). each_from {X = List Event} 0 k (λ x. [])) c.requires.routers.log_count)
+    ∙ ap (λ (k : ℕ). tabulate {X = List Event} 0 k (λ x. [])) c.requires.routers.log_count)
     c.cycle.ensures.value c.from-clock.ensures c.cycle.ensures.counter
     (c.taken_in.ensures.value ∙ sym (sum_by-map (count_by is_injection_event) (λ (log : Log). log.items) logs))
     (c.in_ok-push_latencies.ensures.ok
     ∙ ap (λ (xs : List ℕ). c.args.told.now.latencies.items ++ xs)
     (sym (flat_map-map (flat_map (latency_told c.args.t)) (λ (log : Log). log.items) logs)))
     (c.fetch_all.ensures.value
-    ∙ ap (λ (k : ℕ). each_from 0 k (λ x. with_flag_plane (chip_at c.cycle.new.run x) RECV (bit 0)))
+    ∙ ap (λ (k : ℕ). tabulate 0 k (λ x. with_flag_plane (chip_at c.cycle.new.run x) RECV (bit 0)))
     (chip_count c.args.sizes.dims c.args.sizes.bounds.dimension))
 
 pub returns-clause-routers : goal.returns-clause-routers
 returns-clause-routers c = record {
   chip_count = ap length c.fetch_all.ensures.value
-      ∙ (length-each_from 0 (1 * 2 ^ c.args.sizes.dims % 65536)
+      ∙ (length-tabulate 0 (1 * 2 ^ c.args.sizes.dims % 65536)
       (λ x. with_flag_plane (chip_at c.cycle.new.run x) RECV (bit 0))
       ∙ chip_count c.args.sizes.dims c.args.sizes.bounds.dimension);
   buffer_count = c.cycle.ensures.routers.buffer_count;

@@ -1,6 +1,6 @@
 use Rattle.std.proofs.Common.{◌≡◌, ℕ, List, [], ap, ◌∙◌, refl}
 use Rattle.cm_model.specs.declared.message.Message.{Message}
-use Rattle.cm_model.specs.Each.{each_from}
+use Rattle.cm_model.specs.Each.{tabulate}
 use Rattle.cm_router.specs.Routes.{routing_of}
 use Rattle.cm_load.specs.Offers.{places}
 use Rattle.cm_load.specs.Loaded.{Loaded, unloaded, loaded_for}
@@ -12,7 +12,7 @@ pub go_through-requires-clause-routers : goal.go_through-requires-clause-routers
 go_through-requires-clause-routers c =
     routers c.args.load.now.dims c.args.chips c.in_ok-rows.rows c.in_ok-crossing.crossing.buffers c.args.logs.now
     c.requires.chips c.in_ok-rows.ensures.value
-    (c.in_ok-crossing.ensures.value ∙ ap (λ (k : ℕ). each_from {X = List Message} 0 k (λ x. [])) c.from.ensures)
+    (c.in_ok-crossing.ensures.value ∙ ap (λ (k : ℕ). tabulate {X = List Message} 0 k (λ x. [])) c.from.ensures)
     c.requires.logs c.args.room
 
 pub returns : goal.returns
@@ -24,7 +24,7 @@ returns c =
     (unloaded c.args.load.now.dims (routing_of c.args.routing.now)) _ _ _ _
     (begins c.args.load.now.dims c.args.chips c.in_ok-rows.rows c.in_ok-crossing.crossing.buffers c.args.logs.now
     c.requires.chips c.in_ok-rows.ensures.value
-    (c.in_ok-crossing.ensures.value ∙ ap (λ (k : ℕ). each_from {X = List Message} 0 k (λ x. [])) c.from.ensures)
+    (c.in_ok-crossing.ensures.value ∙ ap (λ (k : ℕ). tabulate {X = List Message} 0 k (λ x. [])) c.from.ensures)
     c.requires.logs
     (routing_of c.args.routing.now) c.args.sources.now (places c.args.load.now.dims) c.new-latencies.result.items
     c.requires.sources refl c.new-latencies.ensures.items)

@@ -1,14 +1,14 @@
 use Rattle.std.proofs.Common.{◌≡◌, ◌+◌, ◌≤◌, ◌++◌, map}
 use Rattle.std.specs.Vec.{vec_len, vec_capacity}
 use Rattle.cm_model.specs.declared.act.Act.TheVariants as act
-use Rattle.cm_model.specs.Each.{each_from}
+use Rattle.cm_model.specs.Each.{tabulate}
 use Rattle.cm_language.specs.Acts.{nano}
 use Rattle.cm_macros.proofs.pushes.push_bits.Given as goal
 
 abbrev pub invariant-loop-i : goal.invariant-loop-i
 invariant-loop-i l = record {
   items : l.list.items ≡ l.initial.list.items ++ map act.Nano
-      (each_from 0 l.i (λ k. nano l.context (l.x.at + k) (l.y.at + k) l.read l.write l.tables.memory l.tables.flag));
+      (tabulate 0 l.i (λ k. nano l.context (l.x.at + k) (l.y.at + k) l.read l.write l.tables.memory l.tables.flag));
   len : vec_len l.list ≡ vec_len l.initial.list + l.i;
   capacity : vec_capacity l.initial.list ≤ vec_capacity l.list;
 }

@@ -1,13 +1,13 @@
 use Rattle.std.proofs.Common.{◌≡◌, ℕ, ◌+◌, refl, sym, ap, ◌∙◌, arith}
 use Rattle.cm_bits.specs.Bit.{bit_number}
-use Rattle.cm_model.specs.Each.{each_from}
+use Rattle.cm_model.specs.Each.{tabulate}
 use Rattle.cm_model.specs.Processor.{SEND, flag}
 use Rattle.cm_model.specs.Chip.{processor_at}
-use Rattle.cm_study.proofs.Sums.{sum-each_from-more}
+use Rattle.cm_study.proofs.Sums.{sum-tabulate-more}
 use Rattle.cm_study.proofs.counting.asking.Goals as goal
 
 pub loop-p-init : goal.loop-p-init
-unfolding each_from
+unfolding tabulate
 loop-p-init c = record { so_far = refl; within = omega arith }
 
 pub loop-p-preserved : goal.loop-p-preserved
@@ -17,6 +17,6 @@ loop-p-preserved c =
     let one : c.bit_number-total.result ≡ read c.loop-p.p =
     c.bit_number-total.ensures.value ∙ ap bit_number c.flag.ensures.value ∙ ap read proc in
     record {
-      so_far = (λ i. c.loop-p.invariant.so_far i + one i) ∙ sym (sum-each_from-more read c.loop-p.p);
+      so_far = (λ i. c.loop-p.invariant.so_far i + one i) ∙ sym (sum-tabulate-more read c.loop-p.p);
       within = omega (arith, c.loop-p.invariant.within, c.bit_number-total.ensures.within);
     }

@@ -1,12 +1,12 @@
 use Rattle.std.proofs.Common.{refl, sym, ◌∙◌, arith}
-use Rattle.cm_model.specs.Each.{each_from}
+use Rattle.cm_model.specs.Each.{tabulate}
 use Rattle.cm_study.specs.Adding.{added}
 use Rattle.cm_study.specs.Counts.{counts_to}
 use Rattle.cm_study.proofs.Sums.{counts_to-more, added-within}
 use Rattle.cm_study.proofs.counting.counts.Goals as goal
 
 pub loop-chip-init : goal.loop-chip-init
-unfolding counts_to each_from
+unfolding counts_to tabulate
 loop-chip-init g c = record {
   so_far = refl;
   within = record {

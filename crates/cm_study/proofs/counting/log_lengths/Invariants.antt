@@ -1,8 +1,8 @@
 use Rattle.std.proofs.Common.{◌≡◌, length}
-use Rattle.cm_model.specs.Each.{each_from}
-use Rattle.cm_model.specs.Array.{list_at}
+use Rattle.cm_model.specs.Each.{tabulate}
+use Rattle.cm_model.specs.Array.{nth_or_nil}
 use Rattle.cm_study.proofs.counting.log_lengths.Given as goal
 
 -- those of so many chips
 abbrev pub invariant-loop-chip : goal.invariant-loop-chip
-invariant-loop-chip g l = l.lengths.items ≡ each_from 0 l.chip (λ c. length (list_at l.machine.machine.logs c))
+invariant-loop-chip g l = l.lengths.items ≡ tabulate 0 l.chip (λ c. length (nth_or_nil l.machine.machine.logs c))

@@ -1,13 +1,13 @@
 use Rattle.std.proofs.Common.{length, take_all, ap, ◌∙◌}
 use Rattle.cm_model.specs.Chip.{blank_chip}
-use Rattle.cm_model.proofs.Each.{length-each_from}
+use Rattle.cm_model.proofs.Each.{length-tabulate}
 use Rattle.cm_tools.proofs.OneChip.{run-begun, run-more, run-ended, one_more}
 use Rattle.cm_tools.proofs.one_chip.run_chip.Goals as goal
 
 pub loop-nano-init : goal.loop-nano-init
 loop-nano-init c = record {
   ran = run-begun c.in_ok-run.run' c.args.nanos.now c.in_ok-run.ensures.value;
-  count = ap length c.in_ok-run.ensures.value ∙ length-each_from 0 1 (λ k. blank_chip);
+  count = ap length c.in_ok-run.ensures.value ∙ length-tabulate 0 1 (λ k. blank_chip);
 }
 
 pub loop-nano-preserved : goal.loop-nano-preserved

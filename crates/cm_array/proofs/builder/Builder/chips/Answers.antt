@@ -1,6 +1,6 @@
 use Rattle.std.proofs.Common.{◌≡◌, length, arith}
 use Rattle.cm_model.specs.Array.{Chips}
-use Rattle.cm_model.proofs.Each.{length-each_from}
+use Rattle.cm_model.proofs.Each.{length-tabulate}
 use Rattle.cm_element.specs.Runs.{chip_beside, chips_beside}
 use Rattle.cm_array.specs.declared.parts.Parts.{Parts}
 use Rattle.cm_array.specs.Building.{parts_built}
@@ -16,7 +16,7 @@ invariant_of-self g c =
     let parts : Parts = parts_built c.self.inside in
     let from : Chips = chips_beside c.args.memory.now c.args.flags.now c.args.count in
     let long : length from ≡ c.args.count =
-    length-each_from 0 c.args.count (chip_beside c.args.memory.now c.args.flags.now) in
+    length-tabulate 0 c.args.count (chip_beside c.args.memory.now c.args.flags.now) in
     AreUnfinished-with_chips g.row.N g.row.CAP parts c.lay_planes.new.self from c.args.first
     (omega (arith, long, c.requires.chips))
     (λ k h. c.lay_planes.ensures.whole k (omega (arith, h, long))) c.lay_planes.ensures.value c.self.invariant

@@ -1,5 +1,5 @@
 use Rattle.std.proofs.Common.{◌≡◌, ◌<◌, ◌^◌, ℕ, length, sym, ap, ◌∙◌, arith, subst}
-use Rattle.cm_model.specs.Array.{list_at}
+use Rattle.cm_model.specs.Array.{nth_or_nil}
 use Rattle.cm_model.specs.Machine.{Machine}
 use Rattle.cm_array.specs.declared.parts.Parts.{Parts}
 use Rattle.cm_array.specs.Building.{parts_built}
@@ -14,13 +14,13 @@ invariant_of-self g c =
     let below : c.from.result < 2 ^ g.row.N = omega arith in
     let is : machine_of parts ≡ c.args.self.now = c.self.view_is in
     let place : c.from.result ≡ c.args.chip = c.from.ensures in
-    let room : length (list_at (machine_of parts).buffers c.args.chip) < g.row.CAP =
-    subst (λ (m : Machine). length (list_at m.buffers c.args.chip) < g.row.CAP) (sym is) c.requires.room in
+    let room : length (nth_or_nil (machine_of parts).buffers c.args.chip) < g.row.CAP =
+    subst (λ (m : Machine). length (nth_or_nil m.buffers c.args.chip) < g.row.CAP) (sym is) c.requires.room in
     let born : c.args.message.tag.birth < (machine_of parts).clock =
     subst (λ (m : Machine). c.args.message.tag.birth < m.clock) (sym is) c.requires.born in
     AreUnfinished-with_message g.row.N g.row.CAP parts c.from.result c.arrive.new.self c.args.message c.self.invariant
     below c.arrive.ensures.value
-    (subst (λ (i : ℕ). length (list_at (machine_of parts).buffers i) < g.row.CAP) (sym place) room)
+    (subst (λ (i : ℕ). length (nth_or_nil (machine_of parts).buffers i) < g.row.CAP) (sym place) room)
     c.look_at.ensures.message born
 
 pub returns : goal.returns

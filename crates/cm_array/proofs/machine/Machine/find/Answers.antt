@@ -2,7 +2,7 @@ use Rattle.std.proofs.Common.{◌≡◌, ◌<◌, ℕ, List, None, length, ap, �
 use Rattle.std.specs.List.{All}
 use Rattle.cm_model.specs.declared.message.Event.{Event}
 use Rattle.cm_model.specs.declared.found.Found.{Found}
-use Rattle.cm_model.specs.Array.{list_at}
+use Rattle.cm_model.specs.Array.{nth_or_nil}
 use Rattle.cm_model.specs.Found.{IsWhereabouts, delivery_place}
 use Rattle.cm_model.proofs.Finding.{messages_are_found}
 use Rattle.cm_router.specs.Logs.{Log}
@@ -67,8 +67,8 @@ returns-in-None-clause-value g c =
     let parts = c.self.inside.parts in
     let machine = c.args.self.now.machine in
     let tag = c.args.tag in
-    let logs : (k : ℕ) → k < length parts.logs.items → TellNone tag (list_at (events_of parts.logs.items) k) =
-    subst (λ (xs : List Log). (k : ℕ) → k < length xs → TellNone tag (list_at (events_of xs) k)) c.deref.ensures.value
+    let logs : (k : ℕ) → k < length parts.logs.items → TellNone tag (nth_or_nil (events_of parts.logs.items) k) =
+    subst (λ (xs : List Log). (k : ℕ) → k < length xs → TellNone tag (nth_or_nil (events_of xs) k)) c.deref.ensures.value
     (c.in_default-delivered_to.ensures.none refl) in
     let many : c.len.result ≡ length parts.logs.items = omega (arith, c.len.ensures, parts.logs.ok.0) in
     let row : All (λ (e : Event). teller e < length parts.logs.items → delivery_place tag e ≡ None) parts.row.items =

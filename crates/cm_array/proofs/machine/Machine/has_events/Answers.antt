@@ -2,7 +2,7 @@ use Rattle.std.proofs.Common.{◌≡◌, ◌∙◌, List, [], length, sym, ap, s
 use Rattle.std.specs.List.{All}
 use Rattle.std.proofs.lemmas.List.{length-map}
 use Rattle.cm_model.specs.declared.message.Event.{Event}
-use Rattle.cm_model.specs.Array.{list_at}
+use Rattle.cm_model.specs.Array.{nth_or_nil}
 use Rattle.cm_router.specs.Logs.{Log}
 use Rattle.cm_petit.specs.Routers.{events_of}
 use Rattle.cm_array.specs.Parts.{Kept}
@@ -17,7 +17,7 @@ returns-else-not-is_empty g c =
       none = λ no. subst (λ (kept : Kept). All (λ (log : List Event). log ≡ []) kept.machine.logs) c.self.view_is
           (nothing_told (events_of logs) parts.row.items
           (empty_log parts.row c.is_empty.result c.is_empty.ensures c.if-not-is_empty.false)
-          (λ k l. ap (λ (xs : List Log). list_at (events_of xs) k) (sym c.deref.ensures.value)
+          (λ k l. ap (λ (xs : List Log). nth_or_nil (events_of xs) k) (sym c.deref.ensures.value)
           ∙ c.has_events.ensures.none no k
           (omega (arith, l, length-map logs (λ (log : Log). log.items), ap length c.deref.ensures.value))));
     }

@@ -1,11 +1,11 @@
 use Rattle.std.proofs.Common.{◌<◌, ◌++◌, ◌∙◌, length, sym, ap, arith}
-use Rattle.cm_model.specs.Array.{list_at}
+use Rattle.cm_model.specs.Array.{nth_or_nil}
 use Rattle.cm_router.specs.Rows.{events_of_chip}
 use Rattle.cm_router.proofs.Telling.{with_row_at}
 use Rattle.cm_petit.specs.Routers.{events_of}
 use Rattle.cm_array.specs.Parts.{Kept}
 use Rattle.cm_array.proofs.Machines.{length-events, length-logs, AreUnderWay-parts}
-use Rattle.cm_array.proofs.Searching.{list_at-events_of}
+use Rattle.cm_array.proofs.Searching.{nth_or_nil-events_of}
 use Rattle.cm_array.proofs.machine.Machine.log.Goals as goal
 
 pub index-requires : goal.index-requires
@@ -29,8 +29,8 @@ returns-clause-value g c =
     let there : c.from.result < length logs = omega (arith, c.requires.chip, c.from.ensures, long) in
     let inside : chip < length (events_of logs) =
     omega (arith, c.requires.chip, length-events g.row.N g.row.CAP parts under) in
-    let dealt = c.deref.ensures.value ∙ sym (list_at-events_of logs c.from.result c.index.result.now there c.index.ensures)
-    ∙ ap (list_at (events_of logs)) c.from.ensures in
+    let dealt = c.deref.ensures.value ∙ sym (nth_or_nil-events_of logs c.from.result c.index.result.now there c.index.ensures)
+    ∙ ap (nth_or_nil (events_of logs)) c.from.ensures in
     c.of.ensures.value ∙ (λ i. dealt i ++ events_of_chip chip (c.deref-2.ensures.value i))
     ∙ sym (with_row_at (events_of logs) parts.row.items chip inside)
-    ∙ ap (λ (kept : Kept). list_at kept.machine.logs chip) c.self.view_is
+    ∙ ap (λ (kept : Kept). nth_or_nil kept.machine.logs chip) c.self.view_is

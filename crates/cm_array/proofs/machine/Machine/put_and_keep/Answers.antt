@@ -6,7 +6,7 @@ use Rattle.std.proofs.lemmas.Iterator.Consumers.{YieldsList-turn, YieldsList-end
 use Rattle.cm_model.specs.declared.message.Message.{Message}
 use Rattle.cm_model.specs.declared.message.Event.{Event}
 use Rattle.cm_model.specs.Wiring.{Routing, IsWireOf}
-use Rattle.cm_model.proofs.Each.{length-each_from}
+use Rattle.cm_model.proofs.Each.{length-tabulate}
 use Rattle.cm_blocks.specs.Parts.{Part}
 use Rattle.cm_router.specs.Logs.{Log}
 use Rattle.cm_petit.specs.Routers.{events_of}
@@ -31,7 +31,7 @@ loop-piece-init g c =
           c.clear.new.self.buffers k c.clear.ensures.value;
       chip_count = were.machine.chip_count;
       buffer_count = ap length c.clear.ensures.value
-          ∙ length-each_from 0 (length parts.crossing.buffers) none ∙ were.machine.buffer_count;
+          ∙ length-tabulate 0 (length parts.crossing.buffers) none ∙ were.machine.buffer_count;
       log_count = length-logs g.row.N g.row.CAP parts (AreUnderWay-parts g.row.N g.row.CAP parts were);
       sent_count = were.sized.sent_count;
       incoming_count = were.sized.incoming_count;

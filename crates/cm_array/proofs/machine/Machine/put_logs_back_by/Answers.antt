@@ -1,8 +1,8 @@
 use Rattle.std.proofs.Common.{◌≡◌, ◌^◌, ◌++◌, ℕ, List, length, ap, sym, subst, ◌∙◌, refl}
 use Rattle.std.proofs.lemmas.List.{length-map}
 use Rattle.std.specs.Global.{Vec}
-use Rattle.cm_model.specs.Array.{list_at}
-use Rattle.cm_model.specs.Each.{each_from}
+use Rattle.cm_model.specs.Array.{nth_or_nil}
+use Rattle.cm_model.specs.Each.{tabulate}
 use Rattle.cm_array.specs.declared.parts.Parts.{Parts}
 use Rattle.cm_router.specs.Logs.{Log, log_rooms_of}
 use Rattle.cm_router.specs.Routes.{routing_of}
@@ -44,7 +44,7 @@ append_logs-requires-clause-room g c =
 put_back : (n : ℕ) (parts : Parts) (now : Vec Log) (earlier : List Log) (aside : Aside) (kept : Kept)
     → events_of earlier ≡ aside.logs → machine_of parts ≡ kept.machine → length (events_of parts.logs.items) ≡ 2 ^ n
     → events_of now.items
-    ≡ each_from 0 (2 ^ n) (λ c. list_at (events_of earlier) c ++ list_at (events_of parts.logs.items) c)
+    ≡ tabulate 0 (2 ^ n) (λ c. nth_or_nil (events_of earlier) c ++ nth_or_nil (events_of parts.logs.items) c)
     → machine_of (record parts { logs = now }) ≡ logs_appended n aside.logs kept.machine
 put_back n parts now earlier aside kept same_logs same long is =
     let told = row_behind n (events_of earlier) (events_of parts.logs.items) (events_of now.items) parts.row.items long is

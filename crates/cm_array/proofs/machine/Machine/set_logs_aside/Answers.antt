@@ -1,7 +1,7 @@
 use Rattle.std.proofs.Common.{◌≡◌, List, [], length, ap, sym, ◌∙◌, refl}
 use Rattle.std.specs.Vec.{with_items}
 use Rattle.cm_model.specs.declared.message.Event.{Event}
-use Rattle.cm_model.specs.Each.{each_from}
+use Rattle.cm_model.specs.Each.{tabulate}
 use Rattle.cm_router.specs.Routes.{routing_of}
 use Rattle.cm_model.specs.Array.{each_chip}
 use Rattle.cm_router.specs.Logs.{Log}
@@ -22,7 +22,7 @@ told_by_none : (g : Over) (c : After-replace g) → with_row (events_of c.replac
 told_by_none g c =
     (λ i. with_row (events_of (c.replace.ensures.after i).items) (c.in_ok-deal_out.ensures.ok i))
     ∙ with_row-nil (events_of c.in_ok-none.none.items) ∙ c.in_ok-none.ensures.value
-    ∙ ap (λ k. each_from {X = List Event} 0 k (λ b. [])) (c.chips.ensures.value ∙ c.self.invariant.machine.chip_count)
+    ∙ ap (λ k. tabulate {X = List Event} 0 k (λ b. [])) (c.chips.ensures.value ∙ c.self.invariant.machine.chip_count)
 
 machine_is : (g : Over) (c : After-replace g) → machine_of (record c.self.inside.parts {
   logs = c.replace.new.dest;

@@ -1,5 +1,5 @@
 use Rattle.std.proofs.Common.{ℕ, ◌-◌, ◌≤◌, ◌<◌}
-use Rattle.cm_model.specs.Array.{chip_at, list_at}
+use Rattle.cm_model.specs.Array.{chip_at, nth_or_nil}
 use Rattle.cm_router.specs.Idle.{IsPassedOver}
 use Rattle.cm_crossing.proofs.crossing.Crossing.next_injecting.Given as goal
 
@@ -9,7 +9,7 @@ decreases-loop-chip l = l.chips - l.chip
 abbrev pub invariant-loop-chip : goal.invariant-loop-chip
 invariant-loop-chip l = record {
   none : (c : ℕ) → l.from ≤ c → c < l.chip
-      → IsPassedOver l.sizes.room (list_at l.self.buffers c) (chip_at l.run c);
+      → IsPassedOver l.sizes.room (nth_or_nil l.self.buffers c) (chip_at l.run c);
   from : l.from ≤ l.chip;
   most : l.chip ≤ l.chips;
 }

@@ -1,5 +1,5 @@
 use Rattle.std.proofs.Common.{ℕ, ◌*◌, ap, ◌∙◌}
-use Rattle.cm_model.specs.Each.{each_from}
+use Rattle.cm_model.specs.Each.{tabulate}
 use Rattle.cm_model.specs.Chip.{blank_chip}
 use Rattle.cm_element.proofs.Columns.{blank_rows}
 use Rattle.cm_element.proofs.run.Run.blank.Goals as goal
@@ -10,5 +10,5 @@ returns c = record {
       (16 * c.stride_of-stride.result) c.stride_of-stride.result c.from-chips.result
       c.in_ok-memory.ensures.value
       (c.in-Ok.ensures.items_if_clones_equal (λ y same. same))
-      ∙ ap (λ (n : ℕ). each_from 0 n (λ c. blank_chip)) c.from-chips.ensures;
+      ∙ ap (λ (n : ℕ). tabulate 0 n (λ c. blank_chip)) c.from-chips.ensures;
 }

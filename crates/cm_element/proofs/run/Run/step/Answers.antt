@@ -1,7 +1,7 @@
 use Rattle.std.proofs.Common.{ℕ, List, [], length, get_or, ap, ◌∙◌, arith}
 use Rattle.std.proofs.lemmas.List.{with_items_is}
 use Rattle.cm_model.specs.declared.act.Nano.{Nano}
-use Rattle.cm_model.specs.Each.{each_from}
+use Rattle.cm_model.specs.Each.{tabulate}
 use Rattle.cm_model.specs.Chip.{chip_after}
 use Rattle.cm_element.specs.Runs.{chips_of}
 use Rattle.cm_element.specs.Steps.{along_chain}
@@ -22,7 +22,7 @@ returns-clause-value c =
     rw (← c.self.view_is, length-chips_of run.memory run.flags.items run.stride run.chips)
     ((λ j. chips_of memory (flags_is j) run.stride run.chips)
     ∙ c.step_rows.ensures.value
-    ∙ (λ j. each_from 0 run.chips (λ i. chip_after nano
+    ∙ (λ j. tabulate 0 run.chips (λ i. chip_after nano
     (along_chain nano (get_or (chips_of run.memory (lent_flags.value j) run.stride run.chips) i []))
     (get_or (chips_of run.memory (lent_flags.value j) run.stride run.chips) i []))))
 

@@ -3,7 +3,7 @@ use Rattle.std.proofs.Common.{arith, rules, subst}
 use Rattle.std.specs.Prelude.{vec_capacity}
 use Rattle.std.specs.Vec.{with_items}
 use Rattle.std.proofs.lemmas.List.{with_items_is}
-use Rattle.cm_model.specs.Each.{each_from}
+use Rattle.cm_model.specs.Each.{tabulate}
 use Rattle.cm_model.specs.Array.{Chips}
 use Rattle.cm_element.specs.Planes.{chip_of}
 use Rattle.cm_element.specs.Runs.{chips_beside}
@@ -126,7 +126,7 @@ returns-clause-full c = λ all.
     let chips : c.args.self.now ++ chip_of (planes_of told.0) one ∷ []
     ≡ chips_beside (with_items c.lengthen.new.words memory).items (with_items c.lengthen-2.new.words flags).items (run.count + 1) =
     (λ i. sym c.self.view_is i ++ chip_of (told.2 i) one ∷ [])
-    ∙ (λ i. front ++ chip_of (each_from 0 4096 (λ a. get_or memory (c.from-place.ensures i * 4128 + a) 0)) one ∷ [])
+    ∙ (λ i. front ++ chip_of (tabulate 0 4096 (λ a. get_or memory (c.from-place.ensures i * 4128 + a) 0)) one ∷ [])
     ∙ sym (chips_pushed run.memory.items memory run.flags.items flags one run.count (memory_below c) (flags_below c)
     (flags_here c) (search rules))
     ∙ sym (λ i. chips_beside (memory_is c i) (flags_are c i) (run.count + 1)) in

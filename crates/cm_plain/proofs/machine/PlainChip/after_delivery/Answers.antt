@@ -1,14 +1,14 @@
 use Rattle.std.proofs.Common.{ℕ, sym, ◌∙◌, ap, length, arith}
 use Rattle.std.specs.List.{find}
-use Rattle.cm_model.specs.Each.{each_from}
+use Rattle.cm_model.specs.Each.{tabulate}
 use Rattle.cm_model.specs.Chip.{processor_at}
 use Rattle.cm_model.specs.Letters.{is_for, processor_after_delivery, chip_after_delivery}
-use Rattle.cm_model.proofs.Each.{length-each_from}
-use Rattle.cm_plain.proofs.Made.{each_from-zero, pushed}
+use Rattle.cm_model.proofs.Each.{length-tabulate}
+use Rattle.cm_plain.proofs.Made.{tabulate-zero, pushed}
 use Rattle.cm_plain.proofs.machine.PlainChip.after_delivery.Goals as goal
 
 pub loop-number-init : goal.loop-number-init
-loop-number-init c = c.new-processors.ensures.items ∙ sym (each_from-zero _)
+loop-number-init c = c.new-processors.ensures.items ∙ sym (tabulate-zero _)
 
 pub loop-number-preserved : goal.loop-number-preserved
 loop-number-preserved c =
@@ -22,13 +22,13 @@ loop-number-preserved c =
     ∙ ap (λ (p : ℕ). processor_after_delivery (find (is_for p) messages) (processor_at chip p)) number_is)
 
 pub invariant_of-result : goal.invariant_of-result
-invariant_of-result c = ap length c.loop-number.invariant ∙ length-each_from 0 c.loop-number.number _ ∙ omega arith
+invariant_of-result c = ap length c.loop-number.invariant ∙ length-tabulate 0 c.loop-number.number _ ∙ omega arith
 
 pub returns : goal.returns
 unfolding chip_after_delivery
 returns c = record {
   value = c.loop-number.invariant
-      ∙ ap (λ (n : ℕ). each_from 0 n
+      ∙ ap (λ (n : ℕ). tabulate 0 n
       (λ p. processor_after_delivery (find (is_for p) c.args.messages.now) (processor_at c.args.self.now p)))
       (omega arith);
 }

@@ -1,13 +1,13 @@
 use Rattle.std.proofs.Common.{ℕ, sym, ◌∙◌, ap, length, arith}
-use Rattle.cm_model.specs.Each.{each_from}
+use Rattle.cm_model.specs.Each.{tabulate}
 use Rattle.cm_model.specs.Chip.{processor_at}
 use Rattle.cm_model.specs.Letters.{is_among, processor_after_injection, chip_after_injection}
-use Rattle.cm_model.proofs.Each.{length-each_from}
-use Rattle.cm_plain.proofs.Made.{each_from-zero, pushed}
+use Rattle.cm_model.proofs.Each.{length-tabulate}
+use Rattle.cm_plain.proofs.Made.{tabulate-zero, pushed}
 use Rattle.cm_plain.proofs.machine.PlainChip.after_injection.Goals as goal
 
 pub loop-number-init : goal.loop-number-init
-loop-number-init c = c.new-processors.ensures.items ∙ sym (each_from-zero _)
+loop-number-init c = c.new-processors.ensures.items ∙ sym (tabulate-zero _)
 
 pub loop-number-preserved : goal.loop-number-preserved
 loop-number-preserved c =
@@ -21,13 +21,13 @@ loop-number-preserved c =
     ∙ ap (λ (p : ℕ). processor_after_injection (is_among p taken) (processor_at chip p)) number_is)
 
 pub invariant_of-result : goal.invariant_of-result
-invariant_of-result c = ap length c.loop-number.invariant ∙ length-each_from 0 c.loop-number.number _ ∙ omega arith
+invariant_of-result c = ap length c.loop-number.invariant ∙ length-tabulate 0 c.loop-number.number _ ∙ omega arith
 
 pub returns : goal.returns
 unfolding chip_after_injection
 returns c = record {
   value = c.loop-number.invariant
-      ∙ ap (λ (n : ℕ). each_from 0 n
+      ∙ ap (λ (n : ℕ). tabulate 0 n
       (λ p. processor_after_injection (is_among p c.args.taken.now) (processor_at c.args.self.now p)))
       (omega arith);
 }

@@ -1,14 +1,14 @@
 use Rattle.std.proofs.Common.{ℕ, sym, ◌∙◌, ap, length, arith}
-use Rattle.cm_model.specs.Each.{each_from}
+use Rattle.cm_model.specs.Each.{tabulate}
 use Rattle.cm_model.specs.Instruction.{processor_after}
 use Rattle.cm_model.specs.Array.{chip_at, incoming}
 use Rattle.cm_model.specs.Chip.{chip_after, processor_at}
-use Rattle.cm_model.proofs.Each.{length-each_from}
-use Rattle.cm_plain.proofs.Made.{each_from-zero, pushed}
+use Rattle.cm_model.proofs.Each.{length-tabulate}
+use Rattle.cm_plain.proofs.Made.{tabulate-zero, pushed}
 use Rattle.cm_plain.proofs.machine.PlainMachine.chip_after.Goals as goal
 
 pub loop-number-init : goal.loop-number-init
-loop-number-init g c = c.new-processors.ensures.items ∙ sym (each_from-zero _)
+loop-number-init g c = c.new-processors.ensures.items ∙ sym (tabulate-zero _)
 
 pub loop-number-preserved : goal.loop-number-preserved
 loop-number-preserved g c =
@@ -24,13 +24,13 @@ loop-number-preserved g c =
     number_is)
 
 pub invariant_of-result : goal.invariant_of-result
-invariant_of-result g c = ap length c.loop-number.invariant ∙ length-each_from 0 c.loop-number.number _ ∙ omega arith
+invariant_of-result g c = ap length c.loop-number.invariant ∙ length-tabulate 0 c.loop-number.number _ ∙ omega arith
 
 pub returns : goal.returns
 unfolding chip_after
 returns g c = record {
   value = c.loop-number.invariant
-      ∙ ap (λ (n : ℕ). each_from 0 n
+      ∙ ap (λ (n : ℕ). tabulate 0 n
       (λ p. processor_after c.args.nano.now (incoming g.row.N c.args.nano.now c.args.self.now c.args.chip p)
       (processor_at (chip_at c.args.self.now c.args.chip) p))) (omega arith);
 }

@@ -1,5 +1,5 @@
 use Rattle.std.proofs.Common.{◌≡◌}
-use Rattle.cm_model.specs.Each.{each_from}
+use Rattle.cm_model.specs.Each.{tabulate}
 use Rattle.cm_model.specs.Instruction.{processor_after}
 use Rattle.cm_model.specs.Chip.{processor_at}
 use Rattle.cm_model.specs.Array.{chip_at, incoming}
@@ -7,5 +7,5 @@ use Rattle.cm_plain.proofs.machine.PlainMachine.chip_after.Given as goal
 
 abbrev pub invariant-loop-number : goal.invariant-loop-number
 invariant-loop-number g l =
-    l.processors.items ≡ each_from 0 l.number
+    l.processors.items ≡ tabulate 0 l.number
     (λ p. processor_after l.nano (incoming g.row.N l.nano l.self l.chip p) (processor_at (chip_at l.self l.chip) p))

@@ -1,13 +1,13 @@
 use Rattle.std.proofs.Common.{ℕ, ◌+◌, sym, ◌∙◌, ap, arith}
-use Rattle.cm_model.specs.Each.{each_from}
+use Rattle.cm_model.specs.Each.{tabulate}
 use Rattle.cm_model.specs.Array.{after_nano, chip_at, incoming}
 use Rattle.cm_model.specs.Chip.{chip_after}
-use Rattle.cm_plain.proofs.Made.{each_from-zero, pushed}
+use Rattle.cm_plain.proofs.Made.{tabulate-zero, pushed}
 use Rattle.cm_plain.proofs.machine.PlainMachine.chips_after.Goals as goal
 
 pub loop-chip-init : goal.loop-chip-init
 loop-chip-init g c = record {
-  items = c.in_ok-chips.ensures.items ∙ sym (each_from-zero _);
+  items = c.in_ok-chips.ensures.items ∙ sym (tabulate-zero _);
   len = omega (arith, c.in_ok-chips.ensures.len);
   room = omega (arith, c.in_ok-chips.ensures.capacity, c.len.ensures, c.self.invariant.1);
 }
@@ -26,5 +26,5 @@ returns-clause-value g c =
     let nano = c.args.nano.now in
     let chips = c.args.self.now in
     c.loop-chip.invariant.items
-    ∙ ap (λ (n : ℕ). each_from 0 n (λ k. chip_after nano (incoming g.row.N nano chips k) (chip_at chips k)))
+    ∙ ap (λ (n : ℕ). tabulate 0 n (λ k. chip_after nano (incoming g.row.N nano chips k) (chip_at chips k)))
     (omega arith ∙ c.chip_count-chip-end.ensures.value)

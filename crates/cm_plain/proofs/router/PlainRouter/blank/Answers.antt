@@ -5,7 +5,7 @@ use Rattle.cm_model.specs.Array.{each_chip}
 use Rattle.cm_model.specs.declared.rule.Rule.TheVariants.{First}
 use Rattle.cm_model.specs.Wiring.{plain_routing}
 use Rattle.cm_model.specs.Machine.{Machine, blank_machine}
-use Rattle.cm_model.proofs.Each.{length-each_from}
+use Rattle.cm_model.proofs.Each.{length-tabulate}
 use Rattle.cm_plain.proofs.router.PlainRouter.blank.Goals as goal
 
 -- a machine with nothing in it, and so many memory bits in each processor
@@ -27,8 +27,8 @@ bare-whole n addresses full = ap (bare n) full
 pub invariant_of-result : goal.invariant_of-result
 invariant_of-result g c = (
   c.requires.dimension,
-  ap length c.in_ok-buffers.ensures.value ∙ length-each_from 0 (2 ^ g.row.N) _,
-  ap length c.in_ok-logs.ensures.value ∙ length-each_from 0 (2 ^ g.row.N) _,
+  ap length c.in_ok-buffers.ensures.value ∙ length-tabulate 0 (2 ^ g.row.N) _,
+  ap length c.in_ok-logs.ensures.value ∙ length-tabulate 0 (2 ^ g.row.N) _,
 )
 
 pub returns-clause-blank : goal.returns-clause-blank

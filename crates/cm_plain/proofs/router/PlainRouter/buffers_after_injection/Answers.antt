@@ -1,12 +1,12 @@
 use Rattle.std.proofs.Common.{rules, ◌≡◌, ℕ, ◌^◌, ◌++◌, sym, ap, ◌∙◌, arith}
-use Rattle.cm_model.specs.Each.{each_from}
-use Rattle.cm_model.specs.Array.{list_at}
+use Rattle.cm_model.specs.Each.{tabulate}
+use Rattle.cm_model.specs.Array.{nth_or_nil}
 use Rattle.cm_model.specs.Buffers.{sent_in}
-use Rattle.cm_plain.proofs.Made.{each_from-zero, pushed}
+use Rattle.cm_plain.proofs.Made.{tabulate-zero, pushed}
 use Rattle.cm_plain.proofs.router.PlainRouter.buffers_after_injection.Goals as goal
 
 pub loop-chip-init : goal.loop-chip-init
-loop-chip-init g c = c.new-buffers.ensures.items ∙ sym (each_from-zero _)
+loop-chip-init g c = c.new-buffers.ensures.items ∙ sym (tabulate-zero _)
 
 pub loop-chip-preserved : goal.loop-chip-preserved
 loop-chip-preserved g c =
@@ -18,6 +18,6 @@ returns g c =
     let all : c.loop-chip.chip ≡ 2 ^ g.row.N = omega arith ∙ c.chip_count-chip-end.ensures.value in
     record {
       value = c.loop-chip.invariant
-          ∙ ap (λ (n : ℕ). each_from 0 n
-          (λ k. list_at c.args.self.now.buffers k ++ sent_in g.row.N g.row.CAP c.args.self.now k)) all;
+          ∙ ap (λ (n : ℕ). tabulate 0 n
+          (λ k. nth_or_nil c.args.self.now.buffers k ++ sent_in g.row.N g.row.CAP c.args.self.now k)) all;
     }

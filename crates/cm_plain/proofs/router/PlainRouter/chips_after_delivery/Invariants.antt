@@ -1,5 +1,5 @@
 use Rattle.std.proofs.Common.{◌≡◌}
-use Rattle.cm_model.specs.Each.{each_from}
+use Rattle.cm_model.specs.Each.{tabulate}
 use Rattle.cm_model.specs.Array.{chip_at}
 use Rattle.cm_model.specs.Letters.{chip_after_delivery}
 use Rattle.cm_model.specs.Buffers.{delivered_in}
@@ -7,4 +7,4 @@ use Rattle.cm_plain.proofs.router.PlainRouter.chips_after_delivery.Given as goal
 
 abbrev pub invariant-loop-chip : goal.invariant-loop-chip
 invariant-loop-chip g l =
-    l.chips.items ≡ each_from 0 l.chip (λ c. chip_after_delivery (delivered_in l.self c) (chip_at l.self.chips c))
+    l.chips.items ≡ tabulate 0 l.chip (λ c. chip_after_delivery (delivered_in l.self c) (chip_at l.self.chips c))

@@ -1,13 +1,13 @@
 use Rattle.std.proofs.Common.{◌^◌, ◌∙◌, ap, length}
 use Rattle.cm_model.specs.Buffers.{machine_after_dimension}
-use Rattle.cm_model.proofs.Each.{length-each_from}
+use Rattle.cm_model.proofs.Each.{length-tabulate}
 use Rattle.cm_plain.proofs.router.PlainRouter.cross.Goals as goal
 
 pub invariant_of-self : goal.invariant_of-self
 invariant_of-self g c = (
   c.self.invariant.0,
   ap length c.in_ok-buffers.ensures.value
-      ∙ length-each_from 0 (2 ^ g.row.N) _,
+      ∙ length-tabulate 0 (2 ^ g.row.N) _,
   c.self.invariant.2,
 )
 

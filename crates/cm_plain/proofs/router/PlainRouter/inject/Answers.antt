@@ -1,13 +1,13 @@
 use Rattle.std.proofs.Common.{◌^◌, ◌∙◌, ap, length}
 use Rattle.cm_model.specs.Buffers.{machine_after_injection}
-use Rattle.cm_model.proofs.Each.{length-each_from}
+use Rattle.cm_model.proofs.Each.{length-tabulate}
 use Rattle.cm_plain.proofs.router.PlainRouter.inject.Goals as goal
 
 pub invariant_of-self : goal.invariant_of-self
 invariant_of-self g c = (
   c.self.invariant.0,
-  ap length c.in_ok-buffers.ensures.value ∙ length-each_from 0 (2 ^ g.row.N) _,
-  ap length c.in_ok-logs.ensures.value ∙ length-each_from 0 (2 ^ g.row.N) _,
+  ap length c.in_ok-buffers.ensures.value ∙ length-tabulate 0 (2 ^ g.row.N) _,
+  ap length c.in_ok-logs.ensures.value ∙ length-tabulate 0 (2 ^ g.row.N) _,
 )
 
 pub returns : goal.returns

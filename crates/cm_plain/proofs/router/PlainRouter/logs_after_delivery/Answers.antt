@@ -1,13 +1,13 @@
 use Rattle.std.proofs.Common.{rules, ◌≡◌, ℕ, ◌^◌, ◌++◌, map, sym, ap, ◌∙◌, arith}
-use Rattle.cm_model.specs.Each.{each_from}
+use Rattle.cm_model.specs.Each.{tabulate}
 use Rattle.cm_model.specs.declared.message.Event.TheVariants.{Delivered}
-use Rattle.cm_model.specs.Array.{list_at}
+use Rattle.cm_model.specs.Array.{nth_or_nil}
 use Rattle.cm_model.specs.Buffers.{delivered_in}
-use Rattle.cm_plain.proofs.Made.{each_from-zero, pushed}
+use Rattle.cm_plain.proofs.Made.{tabulate-zero, pushed}
 use Rattle.cm_plain.proofs.router.PlainRouter.logs_after_delivery.Goals as goal
 
 pub loop-chip-init : goal.loop-chip-init
-loop-chip-init g c = c.new-logs.ensures.items ∙ sym (each_from-zero _)
+loop-chip-init g c = c.new-logs.ensures.items ∙ sym (tabulate-zero _)
 
 pub loop-chip-preserved : goal.loop-chip-preserved
 loop-chip-preserved g c =
@@ -19,6 +19,6 @@ returns g c =
     let all : c.loop-chip.chip ≡ 2 ^ g.row.N = omega arith ∙ c.chip_count-chip-end.ensures.value in
     record {
       value = c.loop-chip.invariant
-          ∙ ap (λ (n : ℕ). each_from 0 n
-          (λ k. list_at c.args.self.now.logs k ++ map (λ m. Delivered k m) (delivered_in c.args.self.now k))) all;
+          ∙ ap (λ (n : ℕ). tabulate 0 n
+          (λ k. nth_or_nil c.args.self.now.logs k ++ map (λ m. Delivered k m) (delivered_in c.args.self.now k))) all;
     }

@@ -1,10 +1,10 @@
 use Rattle.std.proofs.Common.{◌≡◌, ◌++◌, map}
-use Rattle.cm_model.specs.Each.{each_from}
+use Rattle.cm_model.specs.Each.{tabulate}
 use Rattle.cm_model.specs.declared.message.Event.TheVariants.{Injected}
-use Rattle.cm_model.specs.Array.{list_at}
+use Rattle.cm_model.specs.Array.{nth_or_nil}
 use Rattle.cm_model.specs.Buffers.{sent_in}
 use Rattle.cm_plain.proofs.router.PlainRouter.logs_after_injection.Given as goal
 
 abbrev pub invariant-loop-chip : goal.invariant-loop-chip
 invariant-loop-chip g l =
-    l.logs.items ≡ each_from 0 l.chip (λ c. list_at l.self.logs c ++ map Injected (sent_in g.row.N g.row.CAP l.self c))
+    l.logs.items ≡ tabulate 0 l.chip (λ c. nth_or_nil l.self.logs c ++ map Injected (sent_in g.row.N g.row.CAP l.self c))

@@ -1,6 +1,6 @@
 use Rattle.std.proofs.Common.{◌≡◌, []}
-use Rattle.cm_model.specs.Each.{each_from}
+use Rattle.cm_model.specs.Each.{tabulate}
 use Rattle.cm_plain.proofs.router.PlainRouter.no_buffers.Given as goal
 
 abbrev pub invariant-loop-chip : goal.invariant-loop-chip
-invariant-loop-chip g l = l.buffers.items ≡ each_from 0 l._chip (λ c. [])
+invariant-loop-chip g l = l.buffers.items ≡ tabulate 0 l._chip (λ c. [])

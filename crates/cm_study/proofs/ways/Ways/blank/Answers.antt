@@ -1,13 +1,13 @@
 use Rattle.std.proofs.Common.{◌≡◌, ℕ, ◌++◌, ◌∷◌, ◌^◌, List, [], map, sym, ap, ◌∙◌, arith}
 use Rattle.std.proofs.lemmas.List.{map-append}
-use Rattle.cm_model.specs.Each.{each_from}
+use Rattle.cm_model.specs.Each.{tabulate}
 use Rattle.cm_study.specs.declared.trace.Trace.{Trace}
 use Rattle.cm_study.specs.Traces.{by_sender}
-use Rattle.cm_study.proofs.Sums.{each_from-more}
+use Rattle.cm_study.proofs.Sums.{tabulate-more}
 use Rattle.cm_study.proofs.ways.Ways.blank.Goals as goal
 
 pub loop-chip-init : goal.loop-chip-init
-unfolding each_from
+unfolding tabulate
 loop-chip-init g c = record {
   so_far = ap (map (λ traces. traces.items)) c.in_ok-by_sender.ensures.items;
   within = omega arith;
@@ -20,7 +20,7 @@ loop-chip-preserved g c =
       so_far = ap (map (λ traces. traces.items)) c.in-Ok.ensures.items
           ∙ map-append (λ traces. traces.items) c.loop-chip.by_sender.items (c.no_traces.result ∷ [])
           ∙ (λ j. c.loop-chip.invariant.so_far j ++ c.no_traces.ensures.value j ∷ [])
-          ∙ sym (each_from-more none c.loop-chip._chip);
+          ∙ sym (tabulate-more none c.loop-chip._chip);
       within = omega (arith, c.loop-chip-test.true);
     }
 
@@ -34,4 +34,4 @@ returns g c =
       c.chip_count-chips.ensures.value,
     ) in
     let none : ℕ → List Trace = λ b. [] in
-    record { value = c.loop-chip.invariant.so_far ∙ ap (λ (k : ℕ). each_from 0 k none) all }
+    record { value = c.loop-chip.invariant.so_far ∙ ap (λ (k : ℕ). tabulate 0 k none) all }

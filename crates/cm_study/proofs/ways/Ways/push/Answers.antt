@@ -1,6 +1,6 @@
 use Rattle.std.proofs.Common.{◌≡◌, ◌<◌, ◌++◌, ◌∷◌, [], length, set, ap, ◌∙◌, arith}
 use Rattle.std.specs.Global.{Vec}
-use Rattle.cm_model.specs.Array.{list_at}
+use Rattle.cm_model.specs.Array.{nth_or_nil}
 use Rattle.cm_study.specs.declared.trace.Trace.{Trace}
 use Rattle.cm_study.proofs.Sending.{lent-more}
 use Rattle.cm_study.proofs.ways.Ways.push.Goals as goal
@@ -15,5 +15,5 @@ returns-in_ok-push_trace c =
       ok = lent-more rows c.from-sender.result c.push_trace.new.traces c.args.trace c.index_mut-sent.result.now inside
           (c.in_ok-push_trace.ensures.ok
           ∙ ap (λ (row : Vec Trace). row.items ++ c.args.trace ∷ []) c.index_mut-sent.ensures.value)
-          ∙ (λ j. set (c.self.view_is j) (at j) (list_at (c.self.view_is j) (at j) ++ c.args.trace ∷ []));
+          ∙ (λ j. set (c.self.view_is j) (at j) (nth_or_nil (c.self.view_is j) (at j) ++ c.args.trace ∷ []));
     }
