@@ -6,7 +6,7 @@ ghost use Rattle.std.specs.Prelude.{◌+◌, ◌^◌, ◌≤◌, IsTrue};
 use crate::routes::{Routes, is_of_cube, routed};
 use cm_array::step;
 use cm_bits::{Addr, Dir, Field, FlagNo, Proc};
-use cm_crossing::{Crossing, Sizes};
+use cm_crossing::{RouterEngine, Shape};
 use cm_element::Run;
 use cm_message::{Event, Message, Tag};
 use cm_model::Nano;
@@ -79,26 +79,26 @@ pub(crate) fn next(seed: u64) -> u64 {
 // A run of chips with its messages and logs, of which no contract tells anything.
 #[derive(Drop)]
 pub(crate) struct Band {
-    sizes: Sizes,
+    sizes: Shape,
     span: u8,
     first: u16,
     routing: Routing,
     pub(crate) run: Run,
-    crossing: Crossing,
+    crossing: RouterEngine,
     pub(crate) logs: Vec<Vec<Event>>,
     clock: u64,
 }
 
 // The sizes of a machine; numbers beyond what there is are cut to it.
-pub(crate) fn sizes(dims: u8, room: u8) -> Sizes {
-    Sizes {
+pub(crate) fn sizes(dims: u8, room: u8) -> Shape {
+    Shape {
         dims: dims.min(12),
         room: room.clamp(1, 15),
     }
 }
 
 // Whether so many chips of a machine stand from this one on.
-fn are_chips(sizes: Sizes, first: u16, count: usize) -> bool
+fn are_chips(sizes: Shape, first: u16, count: usize) -> bool
     ensures band { IsTrue result → first + count ≤ 2 ^ sizes.dims }
 {
     count <= 4096 && usize::from(first) + count <= 1 << sizes.dims
@@ -142,7 +142,7 @@ pub(crate) fn blank_logs(alloc: Global, chips: u16) -> Result<Vec<Vec<Event>>, F
 impl Band {
     pub(crate) fn blank(
         alloc: Global,
-        sizes: Sizes,
+        sizes: Shape,
         span: u8,
         first: u16,
         routes: Routes,
@@ -154,7 +154,7 @@ impl Band {
             first,
             logs: blank_logs(alloc, chips)?,
             routing: routed(alloc, sizes.dims, routes)?,
-            crossing: Crossing::new(alloc, usize::from(chips))?,
+            crossing: RouterEngine::new(alloc, usize::from(chips))?,
             run: Run::blank(alloc, chips)?,
             clock: 0,
         })
@@ -247,7 +247,7 @@ impl Band {
 // Runs of one machine, of so many dimensions each, from these chips on.
 fn blank_bands(
     alloc: Global,
-    sizes: Sizes,
+    sizes: Shape,
     spans: &[(u8, u16)],
     routes: Routes,
 ) -> Result<Vec<Band>, Fail> {
@@ -259,11 +259,11 @@ fn blank_bands(
 }
 
 fn cross_one(
-    sizes: Sizes,
+    sizes: Shape,
     span: u8,
     routing: &Routing,
     first: u16,
-    crossing: &mut Crossing,
+    crossing: &mut RouterEngine,
     dim: u8,
 ) -> bool {
     if span > sizes.dims
@@ -344,7 +344,12 @@ pub(crate) fn has_same_planes(left: &Run, here: u16, right: &Run, there: u16) ->
     true
 }
 
-fn has_same_messages(left: &mut Crossing, here: u16, right: &mut Crossing, there: u16) -> bool {
+fn has_same_messages(
+    left: &mut RouterEngine,
+    here: u16,
+    right: &mut RouterEngine,
+    there: u16,
+) -> bool {
     let here = usize::from(here);
     let there = usize::from(there);
     left.gather();
@@ -518,7 +523,12 @@ fn are_moved(here: &[Message], there: &[Message], first: u16) -> bool {
             .all(|(m, other)| moved(*m, first) == *other)
 }
 
-fn has_moved_messages(left: &mut Crossing, right: &mut Crossing, chip: u16, first: u16) -> bool {
+fn has_moved_messages(
+    left: &mut RouterEngine,
+    right: &mut RouterEngine,
+    chip: u16,
+    first: u16,
+) -> bool {
     let chip = usize::from(chip);
     left.gather();
     right.gather();
@@ -555,7 +565,7 @@ fn ask_both(here: &mut Run, there: &mut Run, seed: u64) -> u64 {
 }
 
 // Whether a run that begins at chip 5 has the messages of one that begins at chip 0, and other tags.
-fn have_moved_messages(here: &mut Crossing, there: &mut Crossing) -> bool {
+fn have_moved_messages(here: &mut RouterEngine, there: &mut RouterEngine) -> bool {
     for chip in 0u16..2 {
         if !has_moved_messages(here, there, chip, 5) {
             return false;

@@ -2,7 +2,7 @@
 
 use crate::bands::{Band, ask, blank_logs, has_same_planes, next, sizes};
 use crate::routes::{Routes, is_of_cube, routed};
-use cm_crossing::Sizes;
+use cm_crossing::Shape;
 use cm_element::Run;
 use cm_message::Event;
 use cm_petit::{are_nodes, cycle_of_nodes, has_log_room};
@@ -60,7 +60,7 @@ const CYCLES: u64 = 6;
 // Chips with a node and a log each, of which no contract tells anything.
 #[derive(Drop)]
 struct Noded {
-    sizes: Sizes,
+    sizes: Shape,
     routing: Routing,
     run: Run,
     nodes: Vec<Node>,
@@ -68,7 +68,7 @@ struct Noded {
     clock: u64,
 }
 
-fn blank_nodes(alloc: Global, sizes: Sizes, chips: u16) -> Result<Vec<Node>, Fail> {
+fn blank_nodes(alloc: Global, sizes: Shape, chips: u16) -> Result<Vec<Node>, Fail> {
     let mut nodes = Vec::new(alloc);
     for _chip in 0..chips {
         nodes.push(Node::new(sizes.room))?;
@@ -77,7 +77,7 @@ fn blank_nodes(alloc: Global, sizes: Sizes, chips: u16) -> Result<Vec<Node>, Fai
 }
 
 impl Noded {
-    fn blank(alloc: Global, sizes: Sizes, routes: Routes) -> Result<Noded, Fail> {
+    fn blank(alloc: Global, sizes: Shape, routes: Routes) -> Result<Noded, Fail> {
         let chips: u16 = 1 << (sizes.dims & 7);
         Ok(Noded {
             sizes,
@@ -146,7 +146,7 @@ fn stay_alike(whole: &mut Band, noded: &mut Noded, seed: u64) -> bool {
 fn noded_goes_with(
     alloc: Global,
     whole: &mut Band,
-    sizes: Sizes,
+    sizes: Shape,
     routes: Routes,
     seed: u64,
 ) -> Result<bool, Fail> {

@@ -1,7 +1,7 @@
 //! Tickets of a run of chips beside plain lists: who comes, crosses and is taken out.
 
 use crate::bands::sizes;
-use cm_slots::{Sizes, Slots, Ticket};
+use cm_slots::{Shape, Ticket, TicketQueues};
 use std::alloc::Global;
 use std::test::Fail;
 
@@ -78,7 +78,7 @@ fn cross(alloc: Global, lists: &mut Vec<List>, room: usize, dim: u8) -> Result<(
     Ok(())
 }
 
-fn is_same(slots: &Slots, chip: usize, list: &List) -> bool {
+fn is_same(slots: &TicketQueues, chip: usize, list: &List) -> bool {
     if chip >= slots.chips()
         || slots.len(chip) != list.len()
         || slots.ticket(chip, list.len()).is_some()
@@ -93,7 +93,7 @@ fn is_same(slots: &Slots, chip: usize, list: &List) -> bool {
     true
 }
 
-fn are_same(slots: &Slots, lists: &[List]) -> bool {
+fn are_same(slots: &TicketQueues, lists: &[List]) -> bool {
     for chip in 0..lists.len() {
         if !is_same(slots, chip, &lists[chip]) {
             return false;
@@ -111,7 +111,7 @@ fn drawn(seed: u64) -> Ticket {
 
 // A drawn ticket comes, if there is room for it.
 fn arrive(
-    slots: &mut Slots,
+    slots: &mut TicketQueues,
     room: usize,
     chip: usize,
     list: &mut List,
@@ -125,7 +125,7 @@ fn arrive(
     Ok(())
 }
 
-fn replace(slots: &mut Slots, chip: usize, list: &mut List, seed: u64) {
+fn replace(slots: &mut TicketQueues, chip: usize, list: &mut List, seed: u64) {
     let place = (seed >> 36 & 15) as usize;
     let ticket = drawn(seed);
     if chip < slots.chips()
@@ -138,7 +138,7 @@ fn replace(slots: &mut Slots, chip: usize, list: &mut List, seed: u64) {
     }
 }
 
-fn remove(slots: &mut Slots, chip: usize, list: &mut List, seed: u64) {
+fn remove(slots: &mut TicketQueues, chip: usize, list: &mut List, seed: u64) {
     let place = (seed >> 33 & 15) as usize;
     if chip < slots.chips() && place < slots.len(chip) && place < list.len() {
         slots.remove(chip, place);
@@ -148,7 +148,7 @@ fn remove(slots: &mut Slots, chip: usize, list: &mut List, seed: u64) {
 
 // Some come to each chip, one may be replaced, and one may be taken out.
 fn change(
-    slots: &mut Slots,
+    slots: &mut TicketQueues,
     room: usize,
     lists: &mut Vec<List>,
     most: u64,
@@ -170,7 +170,7 @@ fn change(
 }
 
 // The tickets cross, where the chips span so many dimensions and none has more than there is room for.
-fn cross_slots(slots: &mut Slots, span: u8, sizes: Sizes, dim: u8) {
+fn cross_slots(slots: &mut TicketQueues, span: u8, sizes: Shape, dim: u8) {
     if span <= 12
         && slots.chips() == 1 << span
         && dim < span
@@ -183,9 +183,9 @@ fn cross_slots(slots: &mut Slots, span: u8, sizes: Sizes, dim: u8) {
 // Whether the tickets stand as the lists do now, after each dimension in which all cross, and in a copy.
 fn goes_alike(
     alloc: Global,
-    slots: &mut Slots,
+    slots: &mut TicketQueues,
     lists: &mut Vec<List>,
-    sizes: Sizes,
+    sizes: Shape,
 ) -> Result<bool, Fail> {
     let mut alike = are_same(slots, lists);
     for dim in 0..sizes.dims {
@@ -198,7 +198,7 @@ fn goes_alike(
 
 fn stay_alike(
     alloc: Global,
-    slots: &mut Slots,
+    slots: &mut TicketQueues,
     lists: &mut Vec<List>,
     case: (u8, u8, u64, u64),
 ) -> Result<bool, Fail> {
@@ -220,7 +220,7 @@ fn go_alike(alloc: Global, case: (u8, u8, u64, u64)) -> Result<bool, Fail> {
         return Ok(false);
     }
     let mut lists = lists(alloc, chips)?;
-    let mut slots = Slots::new(alloc, chips)?;
+    let mut slots = TicketQueues::new(alloc, chips)?;
     stay_alike(alloc, &mut slots, &mut lists, case)
 }
 

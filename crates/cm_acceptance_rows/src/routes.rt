@@ -3,7 +3,7 @@
 ghost use Rattle.std.specs.Prelude.{◌≡◌, IsTrue};
 
 use cm_bits::Edge;
-use cm_crossing::Sizes;
+use cm_crossing::Shape;
 use cm_router::{Cuts, Routing, Rule};
 use std::alloc::Global;
 use std::test::Fail;
@@ -23,7 +23,7 @@ impl Routes {
 }
 
 // Whether routing is that of the cube.
-pub(crate) fn is_of_cube(routing: &Routing, sizes: Sizes) -> bool
+pub(crate) fn is_of_cube(routing: &Routing, sizes: Shape) -> bool
     ensures cube { IsTrue result → routing.now.cuts.dims ≡ sizes.dims }
 {
     routing.cuts.dims() == sizes.dims

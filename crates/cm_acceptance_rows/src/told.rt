@@ -2,7 +2,7 @@
 
 use crate::bands::{Band, ask, has_same_planes, next, sizes};
 use crate::routes::{Routes, is_of_cube, routed};
-use cm_crossing::{Crossing, Sizes};
+use cm_crossing::{RouterEngine, Shape};
 use cm_element::Run;
 use cm_message::Event;
 use cm_petit::cycle_into_row;
@@ -41,10 +41,10 @@ const ROW_ROOM: usize = 2048;
 // Chips with their messages and one row of events, of which no contract tells anything.
 #[derive(Drop)]
 struct Rowed {
-    sizes: Sizes,
+    sizes: Shape,
     routing: Routing,
     run: Run,
-    crossing: Crossing,
+    crossing: RouterEngine,
     row: Vec<Event>,
     clock: u64,
 }
@@ -72,13 +72,13 @@ fn tells(row: &[Event], chip: u16, log: &[Event]) -> bool {
 }
 
 impl Rowed {
-    fn blank(alloc: Global, sizes: Sizes, routes: Routes) -> Result<Rowed, Fail> {
+    fn blank(alloc: Global, sizes: Shape, routes: Routes) -> Result<Rowed, Fail> {
         let chips: u16 = 1 << (sizes.dims & 7);
         Ok(Rowed {
             sizes,
             row: Vec::with_capacity(alloc, ROW_ROOM)?,
             routing: routed(alloc, sizes.dims, routes)?,
-            crossing: Crossing::new(alloc, usize::from(chips))?,
+            crossing: RouterEngine::new(alloc, usize::from(chips))?,
             run: Run::blank(alloc, chips)?,
             clock: 0,
         })
@@ -148,7 +148,7 @@ fn stay_alike(whole: &mut Band, rowed: &mut Rowed, seed: u64) -> bool {
 fn rowed_goes_with(
     alloc: Global,
     whole: &mut Band,
-    sizes: Sizes,
+    sizes: Shape,
     routes: Routes,
     seed: u64,
 ) -> Result<bool, Fail> {

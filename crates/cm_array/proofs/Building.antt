@@ -21,7 +21,7 @@ use Rattle.cm_model.proofs.Blanks.{IsMachine-blank_at}
 use Rattle.cm_element.specs.Near.{with_near}
 use Rattle.cm_router.specs.Routes.{routing_of}
 use Rattle.cm_crossing.specs.Standing.{InFlight}
-use Rattle.cm_array.specs.declared.parts.Parts.{Parts}
+use Rattle.cm_array.specs.declared.chip_state.ChipState.{ChipState}
 use Rattle.cm_array.specs.Parts.{machine_of, AreParts}
 use Rattle.cm_array.specs.Pokes.{machine_with_message}
 use Rattle.cm_array.specs.Building.{IsUnfinished, AreUnfinished}
@@ -53,7 +53,7 @@ IsUnfinished-blank n cap clock =
       routing = h.routing;
     }
 
-pub AreUnfinished-blank : (n cap clock : ℕ) (parts : Parts) → AreParts n cap parts
+pub AreUnfinished-blank : (n cap clock : ℕ) (parts : ChipState) → AreParts n cap parts
     → machine_of parts ≡ record (blank_machine n) { clock = clock } → AreUnfinished n cap parts
 AreUnfinished-blank n cap clock parts h is = record {
   sized = h.sized;
@@ -63,7 +63,7 @@ AreUnfinished-blank n cap clock parts h is = record {
 -- ---- another chip
 
 -- with another whole chip in its place
-pub AreUnfinished-with_chip : (n cap : ℕ) (parts : Parts) (run : Chips) (i : ℕ) (chip : List Processor) → IsChip chip
+pub AreUnfinished-with_chip : (n cap : ℕ) (parts : ChipState) (run : Chips) (i : ℕ) (chip : List Processor) → IsChip chip
     → run ≡ set parts.run i chip → AreUnfinished n cap parts → AreUnfinished n cap (record parts { run = run })
 AreUnfinished-with_chip n cap parts run i chip whole is h = record {
   sized = h.sized;
@@ -82,7 +82,7 @@ AreUnfinished-with_chip n cap parts run i chip whole is h = record {
 }
 
 -- with other whole chips in their places from the first on
-pub AreUnfinished-with_chips : (n cap : ℕ) (parts : Parts) (run from : Chips) (first : ℕ)
+pub AreUnfinished-with_chips : (n cap : ℕ) (parts : ChipState) (run from : Chips) (first : ℕ)
     → first + length from ≤ 2 ^ n → ((c : ℕ) → c < length from → IsChip (chip_at from c))
     → run ≡ with_near parts.run from first → AreUnfinished n cap parts → AreUnfinished n cap (record parts { run = run })
 unfolding with_near
@@ -161,7 +161,7 @@ IsUnfinished-with_message n cap machine c m h below room message born =
     }
 
 -- the machine of the parts with such a buffer
-pub machine_of-with_message : (parts : Parts) (i : ℕ) (crossing : InFlight) (m : Message)
+pub machine_of-with_message : (parts : ChipState) (i : ℕ) (crossing : InFlight) (m : Message)
     → crossing.buffers ≡ set parts.crossing.buffers i (nth_or_nil parts.crossing.buffers i ++ m ∷ [])
     → machine_of (record parts { crossing = crossing }) ≡ machine_with_message (machine_of parts) i m
 machine_of-with_message parts i crossing m is =
@@ -173,7 +173,7 @@ machine_of-with_message parts i crossing m is =
       routing = routing_of parts.routing;
     }
 
-pub AreUnfinished-with_message : (n cap : ℕ) (parts : Parts) (i : ℕ) (crossing : InFlight) (m : Message)
+pub AreUnfinished-with_message : (n cap : ℕ) (parts : ChipState) (i : ℕ) (crossing : InFlight) (m : Message)
     → AreUnfinished n cap parts → i < 2 ^ n
     → crossing.buffers ≡ set parts.crossing.buffers i (nth_or_nil parts.crossing.buffers i ++ m ∷ [])
     → length (nth_or_nil (machine_of parts).buffers i) < cap
@@ -210,7 +210,7 @@ IsMachine-finished n cap machine h apart = record {
 }
 
 -- its messages gathered
-pub AreParts-finished : (n cap : ℕ) (parts : Parts) (crossing : InFlight) → AreUnfinished n cap parts
+pub AreParts-finished : (n cap : ℕ) (parts : ChipState) (crossing : InFlight) → AreUnfinished n cap parts
     → crossing.buffers ≡ parts.crossing.buffers → IsTrue crossing.gathered
     → has_tag_twice (standing_messages (machine_of parts)) ≡ false
     → AreParts n cap (record parts { crossing = crossing })

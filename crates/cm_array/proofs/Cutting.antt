@@ -12,19 +12,19 @@ use Rattle.cm_router.specs.declared.routing.Routing.{Routing}
 use Rattle.cm_router.specs.Routes.{routing_of}
 use Rattle.cm_router.specs.Logs.{Log}
 use Rattle.cm_petit.specs.Routers.{events_of, part_from_logs}
-use Rattle.cm_array.specs.declared.parts.Parts.{Parts}
+use Rattle.cm_array.specs.declared.chip_state.ChipState.{ChipState}
 use Rattle.cm_array.specs.Parts.{machine_of, AreParts}
 use Rattle.cm_array.specs.Cuts.{IsKeptPart}
 use Rattle.cm_array.proofs.Machines.{few_chips}
 
 -- no chip of a machine has more messages than any router has room for, and no machine has more chips than this
-pub within_fifteen : (n cap : ℕ) (parts : Parts) → AreParts n cap parts
+pub within_fifteen : (n cap : ℕ) (parts : ChipState) → AreParts n cap parts
     → All (λ ms. length ms ≤ 15) parts.crossing.buffers
 within_fifteen n cap parts h =
     All-from_get_or (λ (ms : List Message). length ms ≤ 15) parts.crossing.buffers []
     (λ c l. omega (arith, h.machine.room c (omega (arith, h.machine.buffer_count, l)), h.sized.sizes.most_room))
 
-pub few_buffers : (n cap : ℕ) (parts : Parts) → AreParts n cap parts → length parts.crossing.buffers ≤ 4096
+pub few_buffers : (n cap : ℕ) (parts : ChipState) → AreParts n cap parts → length parts.crossing.buffers ≤ 4096
 few_buffers n cap parts h = omega (arith, h.machine.buffer_count, few_chips n h.sized.sizes.dimension)
 
 -- the events of some of the logs
@@ -37,7 +37,7 @@ events_of-cut first count logs =
     ∙ sym (ap (take count) (drop-map read first logs) ∙ take-map read count (drop first logs))
 
 -- what is kept of some chips is a cut of what is kept of all
-pub record AreCut (first count : ℕ) (old new : Parts) : Type 0 where
+pub record AreCut (first count : ℕ) (old new : ChipState) : Type 0 where
   pub run : new.run ≡ cut first count old.run
   pub buffers : new.crossing.buffers ≡ cut first count old.crossing.buffers
   pub logs : events_of new.logs.items ≡ cut first count (machine_of old).logs
@@ -46,7 +46,7 @@ pub record AreCut (first count : ℕ) (old new : Parts) : Type 0 where
   pub clock : new.clock ≡ old.clock
   pub routing : new.routing ≡ old.routing
 
-module _ (n cap first count : ℕ) (old new : Parts) (were : AreParts n cap old) (there : first + count ≤ 2 ^ n)
+module _ (n cap first count : ℕ) (old new : ChipState) (were : AreParts n cap old) (there : first + count ≤ 2 ^ n)
     (are : AreCut first count old new) where
   length-run_cut : length new.run ≡ count
   length-run_cut = ap length are.run ∙ length-cut first count old.run (omega (arith, there, were.machine.chip_count))

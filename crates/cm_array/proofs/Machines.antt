@@ -33,7 +33,7 @@ use Rattle.cm_router.specs.Logs.{Log}
 use Rattle.cm_router.specs.Rows.{with_row}
 use Rattle.cm_router.proofs.Telling.{length-with_row, with_row-nil}
 use Rattle.cm_petit.specs.Routers.{events_of, HaveBuffers}
-use Rattle.cm_array.specs.declared.parts.Parts.{Parts}
+use Rattle.cm_array.specs.declared.chip_state.ChipState.{ChipState}
 use Rattle.cm_array.specs.Acts.{cycles_in, is_instruction}
 use Rattle.cm_array.specs.Parts.{machine_of, AreSized, AreParts, AreUnderWay}
 use Rattle.cm_array.proofs.Lists.{each_after_set}
@@ -61,14 +61,14 @@ IsMachine-with_chips n cap machine chips long whole h = record {
 }
 
 -- the parts of a machine between two lists of acts are so between two acts
-pub AreUnderWay-parts : (n cap : ℕ) (parts : Parts) → AreParts n cap parts → AreUnderWay n cap parts
+pub AreUnderWay-parts : (n cap : ℕ) (parts : ChipState) → AreParts n cap parts → AreUnderWay n cap parts
 AreUnderWay-parts n cap parts h = record {
   sized = h.sized;
   machine = h.machine;
 }
 
 -- and once the messages are gathered they are the parts of a machine between two lists
-pub machine_of-gathered : (parts : Parts) (crossing : InFlight) → crossing.buffers ≡ parts.crossing.buffers
+pub machine_of-gathered : (parts : ChipState) (crossing : InFlight) → crossing.buffers ≡ parts.crossing.buffers
     → machine_of (record parts { crossing = crossing }) ≡ machine_of parts
 machine_of-gathered parts crossing same =
     λ i. record {
@@ -79,7 +79,7 @@ machine_of-gathered parts crossing same =
       routing = routing_of parts.routing;
     }
 
-pub AreParts-gathered : (n cap : ℕ) (parts : Parts) (crossing : InFlight) → crossing.buffers ≡ parts.crossing.buffers
+pub AreParts-gathered : (n cap : ℕ) (parts : ChipState) (crossing : InFlight) → crossing.buffers ≡ parts.crossing.buffers
     → IsTrue crossing.gathered
     → AreUnderWay n cap parts → AreParts n cap (record parts { crossing = crossing })
 AreParts-gathered n cap parts crossing same gathered h = record {
@@ -89,7 +89,7 @@ AreParts-gathered n cap parts crossing same gathered h = record {
 }
 
 -- with rows as long, another count, and wires of the same cube, they are sized still
-pub AreSized-again : (n cap count : ℕ) (old new : Parts) → AreSized n cap count old
+pub AreSized-again : (n cap count : ℕ) (old new : ChipState) → AreSized n cap count old
     → length new.sent.items ≡ length old.sent.items → length new.incoming.items ≡ length old.incoming.items
     → new.clock < 2 ^ 63 → new.routing.cuts.dims ≡ old.routing.cuts.dims → AreSized n cap count new
 AreSized-again n cap count old new h sent incoming clock cube = record {
@@ -101,7 +101,7 @@ AreSized-again n cap count old new h sent incoming clock cube = record {
 }
 
 -- after an act the parts are the parts of a machine, if sizes are as before
-pub AreUnderWay-after_act : (n cap : ℕ) (a : Act) (before after : Parts) → AreUnderWay n cap before
+pub AreUnderWay-after_act : (n cap : ℕ) (a : Act) (before after : ChipState) → AreUnderWay n cap before
     → machine_of after ≡ after_act n cap (machine_of before) a
     → length after.sent.items ≡ length before.sent.items → length after.incoming.items ≡ length before.incoming.items
     → after.routing ≡ before.routing → after.clock < 2 ^ 63 → AreUnderWay n cap after
@@ -113,7 +113,7 @@ AreUnderWay-after_act n cap a before after h is same_sent same_incoming routing 
 }
 
 -- after an instruction
-pub AreUnderWay-instructed : (n cap : ℕ) (nano : Nano) (before : Parts) (run : Chips) (sent incoming : Vec ℕ)
+pub AreUnderWay-instructed : (n cap : ℕ) (nano : Nano) (before : ChipState) (run : Chips) (sent incoming : Vec ℕ)
     → AreUnderWay n cap before → run ≡ after_nano n nano before.run
     → length sent.items ≡ length before.sent.items → length incoming.items ≡ length before.incoming.items
     → AreUnderWay n cap (record before { run = run; sent = sent; incoming = incoming })
@@ -123,7 +123,7 @@ AreUnderWay-instructed n cap nano before run sent incoming h is same_sent same_i
     (λ i. record (machine_of before) { chips = is i }) same_sent same_incoming refl h.sized.clock
 
 -- where the counter alone is another after acts, they are the parts of a machine still
-pub AreParts-counted : (n cap : ℕ) (acts : List Act) (parts : Parts) (clock : ℕ) → AreParts n cap parts
+pub AreParts-counted : (n cap : ℕ) (acts : List Act) (parts : ChipState) (clock : ℕ) → AreParts n cap parts
     → machine_of (record parts { clock = clock }) ≡ run_of n cap (machine_of parts) acts → clock < 2 ^ 63
     → AreParts n cap (record parts { clock = clock })
 AreParts-counted n cap acts parts clock h is few = record {
@@ -164,16 +164,16 @@ looked n cap machine (act.Cycle ∷ acts) long none still =
     absurd (omega (arith, still, cycles_in-append (act.Cycle ∷ []) acts))
 
 -- one log for each chip
-pub length-logs : (n cap : ℕ) (parts : Parts) → AreUnderWay n cap parts → length parts.logs.items ≡ 2 ^ n
+pub length-logs : (n cap : ℕ) (parts : ChipState) → AreUnderWay n cap parts → length parts.logs.items ≡ 2 ^ n
 length-logs n cap parts h =
     sym (length-map parts.logs.items (λ (log : Log). log.items))
     ∙ sym (length-with_row (events_of parts.logs.items) parts.row.items) ∙ h.machine.log_count
 
-pub length-events : (n cap : ℕ) (parts : Parts) → AreUnderWay n cap parts → length (events_of parts.logs.items) ≡ 2 ^ n
+pub length-events : (n cap : ℕ) (parts : ChipState) → AreUnderWay n cap parts → length (events_of parts.logs.items) ≡ 2 ^ n
 length-events n cap parts h = length-map parts.logs.items (λ (log : Log). log.items) ∙ length-logs n cap parts h
 
 -- and the buffers of a cube
-pub HaveBuffers-parts : (n cap : ℕ) (parts : Parts) → AreUnderWay n cap parts
+pub HaveBuffers-parts : (n cap : ℕ) (parts : ChipState) → AreUnderWay n cap parts
     → HaveBuffers (2 ^ n) cap parts.run parts.crossing.buffers
 HaveBuffers-parts n cap parts h = record {
   chip_count = h.machine.chip_count;
@@ -195,7 +195,7 @@ pub few_chips : (n : ℕ) → n ≤ 12 → 2 ^ n ≤ 4096
 few_chips n small = let most : 2 ^ n ≤ 2 ^ 12 = pow-le-pow_right (omega arith) small in omega (arith, most)
 
 -- its messages and logs, as they were read, are those of the machine
-pub AreOf-parts : (n cap : ℕ) (parts : Parts) (machine : Machine) → AreParts n cap parts → machine_of parts ≡ machine
+pub AreOf-parts : (n cap : ℕ) (parts : ChipState) (machine : Machine) → AreParts n cap parts → machine_of parts ≡ machine
     → AreOf n machine parts.crossing.buffers parts.logs.items parts.row.items
 AreOf-parts n cap parts machine h view = record {
   buffers = ap (λ (m : Machine). m.buffers) view;
@@ -208,7 +208,7 @@ AreOf-parts n cap parts machine h view = record {
 -- ---- blank parts
 
 -- blank parts are the blank machine, at whatever count of petit cycles
-pub machine_of-blank : (n count : ℕ) (parts : Parts) → count ≡ 2 ^ n → parts.run ≡ tabulate 0 count (λ c. blank_chip)
+pub machine_of-blank : (n count : ℕ) (parts : ChipState) → count ≡ 2 ^ n → parts.run ≡ tabulate 0 count (λ c. blank_chip)
     → parts.crossing.buffers ≡ tabulate 0 count (λ c. []) → events_of parts.logs.items ≡ tabulate 0 count (λ c. [])
     → parts.row.items ≡ [] → routing_of parts.routing ≡ plain_routing → machine_of parts ≡ record (blank_machine n) { clock = parts.clock }
 unfolding blank_machine
@@ -230,7 +230,7 @@ machine_of-blank n count parts all chips buffers logs row plain =
     }
 
 -- they are the parts of a machine
-pub AreParts-blank : (n cap count : ℕ) (parts : Parts) → AreSizes n cap → count ≡ 2 ^ n
+pub AreParts-blank : (n cap count : ℕ) (parts : ChipState) → AreSizes n cap → count ≡ 2 ^ n
     → parts.run ≡ tabulate 0 count (λ c. blank_chip)
     → parts.crossing.buffers ≡ tabulate 0 count (λ c. []) → events_of parts.logs.items ≡ tabulate 0 count (λ c. [])
     → parts.row.items ≡ [] → length parts.sent.items ≡ count → length parts.incoming.items ≡ count → IsTrue parts.crossing.gathered
@@ -254,7 +254,7 @@ unfolding blank_machine
 blank_machine-from_zero n = refl
 
 -- with another whole chip in its place they are still the parts of a machine
-pub AreParts-with_chip : (n cap : ℕ) (parts : Parts) (run : Chips) (i : ℕ) (chip : List Processor) → IsChip chip
+pub AreParts-with_chip : (n cap : ℕ) (parts : ChipState) (run : Chips) (i : ℕ) (chip : List Processor) → IsChip chip
     → run ≡ set parts.run i chip → AreParts n cap parts → AreParts n cap (record parts { run = run })
 AreParts-with_chip n cap parts run i chip whole is h = record {
   sized = h.sized;
@@ -264,7 +264,7 @@ AreParts-with_chip n cap parts run i chip whole is h = record {
 }
 
 -- with a flag put, or not
-pub AreParts-poked_flag : {X Y : Type 0} (result : Result X Y) (n cap : ℕ) (parts : Parts) (run : Chips)
+pub AreParts-poked_flag : {X Y : Type 0} (result : Result X Y) (n cap : ℕ) (parts : ChipState) (run : Chips)
     (i p number : ℕ) (b : Bool) → i < 2 ^ n → (IsErr result ↔ (number ≡ 8))
     → OnOk result (run ≡ set parts.run i (with_flag (chip_at parts.run i) p number b))
     → OnErr result (run ≡ parts.run) → AreParts n cap parts → AreParts n cap (record parts { run = run })
@@ -276,7 +276,7 @@ AreParts-poked_flag (Err y) n cap parts run i p number b below refused ok err h 
     subst (λ (chips : Chips). AreParts n cap (record parts { run = chips })) (sym err) h
 
 -- a copy of the parts of a machine, with working room of its own, are the parts of a machine
-pub AreParts-copied : (n cap count : ℕ) (parts copy : Parts) → AreParts n cap parts → count ≡ length parts.run
+pub AreParts-copied : (n cap count : ℕ) (parts copy : ChipState) → AreParts n cap parts → count ≡ length parts.run
     → copy.run ≡ parts.run → copy.crossing ≡ parts.crossing → events_of copy.logs.items ≡ events_of parts.logs.items
     → copy.row.items ≡ parts.row.items
     → copy.clock ≡ parts.clock → length copy.sent.items ≡ count → length copy.incoming.items ≡ count

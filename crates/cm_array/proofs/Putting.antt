@@ -19,7 +19,7 @@ use Rattle.cm_router.specs.Logs.{Log}
 use Rattle.cm_router.specs.Rows.{with_row}
 use Rattle.cm_router.proofs.Telling.{with_row-nil}
 use Rattle.cm_petit.specs.Routers.{events_of}
-use Rattle.cm_array.specs.declared.parts.Parts.{Parts}
+use Rattle.cm_array.specs.declared.chip_state.ChipState.{ChipState}
 use Rattle.cm_array.specs.Parts.{machine_of, AreParts}
 use Rattle.cm_array.specs.Cuts.{KeptPart, IsLaid, first_clock, first_routing, joined}
 use Rattle.cm_array.proofs.Machines.{AreSized-again}
@@ -100,7 +100,7 @@ some_put lists_of (s ∷ rest) j at now all long some = omega (arith, all)
 -- ---- into a machine
 
 -- what is kept, as much as of a cube of n dimensions, once the first j pieces are put
-pub record ArePut (n : ℕ) (pieces : List Part) (j at : ℕ) (now : Parts) : Type 0 where
+pub record ArePut (n : ℕ) (pieces : List Part) (j at : ℕ) (now : ChipState) : Type 0 where
   pub chips : IsPut (λ s. s.chips) pieces j at now.run
   pub buffers : IsPut (λ s. s.buffers) pieces j at now.crossing.buffers
   pub logs : IsPut (λ s. s.logs) pieces j at (events_of now.logs.items)
@@ -117,7 +117,7 @@ pub record ArePut (n : ℕ) (pieces : List Part) (j at : ℕ) (now : Parts) : Ty
   pub within : 0 < j → now.clock < 2 ^ 63
 
 -- all of them, gathered, are the machine that the pieces are
-module _ (n cap : ℕ) (pieces : List Part) (j at : ℕ) (now : Parts) (crossing : InFlight) (were : ArePut n pieces j at now)
+module _ (n cap : ℕ) (pieces : List Part) (j at : ℕ) (now : ChipState) (crossing : InFlight) (were : ArePut n pieces j at now)
     (all : j ≡ length pieces) (is : IsMachine n cap (joined pieces)) (same : crossing.buffers ≡ now.crossing.buffers)
   where
     long : length now.run ≡ length (joined pieces).chips
@@ -154,7 +154,7 @@ module _ (n cap : ℕ) (pieces : List Part) (j at : ℕ) (now : Parts) (crossing
     }
 
 -- so what is kept then are the parts of a machine
-pub AreParts-put : (n cap : ℕ) (old new : Parts) (machine : Machine) → AreParts n cap old → IsMachine n cap machine
+pub AreParts-put : (n cap : ℕ) (old new : ChipState) (machine : Machine) → AreParts n cap old → IsMachine n cap machine
     → machine_of new ≡ machine → IsTrue new.crossing.gathered
     → length new.sent.items ≡ length old.sent.items → length new.incoming.items ≡ length old.incoming.items
     → new.clock < 2 ^ 63 → new.routing.cuts.dims ≡ old.routing.cuts.dims → AreParts n cap new

@@ -7,7 +7,7 @@ use Rattle.cm_model.specs.Array.{chip_at, nth_or_nil}
 use Rattle.cm_model.specs.Machine.{Machine}
 use Rattle.cm_model.specs.Keeping.{HasRoom, HasMessages}
 use Rattle.cm_model.specs.Unlogged.{IsUnlogged}
-use Rattle.cm_array.specs.declared.parts.Parts.{Parts}
+use Rattle.cm_array.specs.declared.chip_state.ChipState.{ChipState}
 use Rattle.cm_array.specs.declared.builder.Builder.TheInside.{Inside}
 use Rattle.cm_array.specs.Parts.{machine_of, AreSized}
 
@@ -23,7 +23,7 @@ pub record IsUnfinished (n cap : ℕ) (machine : Machine) : Type 0 where
   pub routing : IsRouting n machine.routing
 
 -- the parts that a builder has, whose chips are filled near
-abbrev pub parts_built : {n cap : ℕ} → Inside n cap → Parts
+abbrev pub parts_built : {n cap : ℕ} → Inside n cap → ChipState
 parts_built builder = record {
   run = builder.run;
   logs = builder.logs;
@@ -36,6 +36,6 @@ parts_built builder = record {
 }
 
 -- the parts of such a machine, with sizes and working room as every machine has them
-pub record AreUnfinished (n cap : ℕ) (parts : Parts) : Type 0 where
+pub record AreUnfinished (n cap : ℕ) (parts : ChipState) : Type 0 where
   pub sized : AreSized n cap (2 ^ n) parts
   pub machine : IsUnfinished n cap (machine_of parts)

@@ -7,7 +7,7 @@ use Rattle.cm_model.specs.Machine.{Machine}
 use Rattle.cm_model.specs.Keeping.{IsMachine}
 use Rattle.cm_blocks.specs.Parts.{Part}
 use Rattle.cm_petit.specs.Routers.{part_from_logs}
-use Rattle.cm_array.specs.declared.parts.Parts.{Parts}
+use Rattle.cm_array.specs.declared.chip_state.ChipState.{ChipState}
 use Rattle.cm_array.specs.Parts.{AreSized}
 use Rattle.cm_router.specs.Logs.{log_rooms_of}
 use Rattle.cm_router.specs.Routes.{routing_of}
@@ -24,7 +24,7 @@ pub record KeptPart : Type 0 where
   pub gathered : Bool
 
 -- that of a part that begins at chip `first`
-abbrev pub kept_part : ℕ → ℕ → ℕ → Parts → KeptPart
+abbrev pub kept_part : ℕ → ℕ → ℕ → ChipState → KeptPart
 kept_part dims room first parts = record {
   dims = dims;
   room = room;
@@ -35,7 +35,7 @@ kept_part dims room first parts = record {
 }
 
 -- some chips of a cube of n dimensions, with a buffer, a log and working room for each
-pub record IsKeptPart (n cap first : ℕ) (parts : Parts) : Type 0 where
+pub record IsKeptPart (n cap first : ℕ) (parts : ChipState) : Type 0 where
   pub sized : AreSized n cap (length parts.run) parts
   pub there : first + length parts.run ≤ 2 ^ n
   pub buffer_count : length parts.crossing.buffers ≡ length parts.run

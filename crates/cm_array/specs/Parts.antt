@@ -7,10 +7,10 @@ use Rattle.cm_router.specs.Routes.{routing_of}
 use Rattle.cm_router.specs.Logs.{log_room}
 use Rattle.cm_router.specs.Rows.{with_row}
 use Rattle.cm_petit.specs.Routers.{events_of, machine_from}
-use Rattle.cm_array.specs.declared.parts.Parts.{Parts}
+use Rattle.cm_array.specs.declared.chip_state.ChipState.{ChipState}
 
 -- the machine that the parts are: behind what is dealt out to its log a chip has told what the row tells of it
-abbrev pub machine_of : Parts → Machine
+abbrev pub machine_of : ChipState → Machine
 machine_of parts =
     machine_from (routing_of parts.routing) parts.run parts.crossing.buffers
     (with_row (events_of parts.logs.items) parts.row.items) parts.clock
@@ -25,7 +25,7 @@ pub record Kept : Type 0 where
   pub log_rooms : List ℕ
 
 -- what contracts see of the parts
-abbrev pub kept_of : Parts → Kept
+abbrev pub kept_of : ChipState → Kept
 kept_of parts = record {
   machine = machine_of parts;
   log_rooms = shares (length parts.logs.items) (log_room parts.row);
@@ -46,17 +46,17 @@ pub record IsSized (n cap count : ℕ) (sent incoming : List ℕ) (cycles dims :
   pub cube : dims ≡ n
 
 -- so are parts, whatever their chips are of
-abbrev pub AreSized : ℕ → ℕ → ℕ → Parts → Type 0
+abbrev pub AreSized : ℕ → ℕ → ℕ → ChipState → Type 0
 AreSized n cap count parts =
     IsSized n cap count parts.sent.items parts.incoming.items parts.clock parts.routing.cuts.dims
 
 -- a machine between two acts, when the messages of a chip may be kept anywhere
-pub record AreUnderWay (n cap : ℕ) (parts : Parts) : Type 0 where
+pub record AreUnderWay (n cap : ℕ) (parts : ChipState) : Type 0 where
   pub sized : AreSized n cap (2 ^ n) parts
   pub machine : IsMachine n cap (machine_of parts)
 
 -- and between two lists of acts, when they are gathered, so that they can be read
-pub record AreParts (n cap : ℕ) (parts : Parts) : Type 0 where
+pub record AreParts (n cap : ℕ) (parts : ChipState) : Type 0 where
   pub sized : AreSized n cap (2 ^ n) parts
   pub gathered : IsTrue parts.crossing.gathered
   pub machine : IsMachine n cap (machine_of parts)

@@ -11,11 +11,11 @@ ghost use Rattle.cm_array.specs.Faults.{size_fault, build_fault};
 ghost use Rattle.cm_array.specs.Pokes.{machine_with_plane, machine_with_flag_plane, machine_with_chips};
 ghost use Rattle.cm_array.specs.Pokes.{machine_with_message, machine_with_cut, machine_with_rule};
 
+use crate::chip_state::ChipState;
 use crate::machine::{Machine, MachineFault};
-use crate::parts::Parts;
 use crate::tags::has_tag_twice;
 use cm_bits::{Addr, Edge, FlagNo, NoMemory, Plane};
-use cm_crossing::Crossing;
+use cm_crossing::RouterEngine;
 use cm_element::NearRun;
 use cm_message::{Event, Message};
 use cm_router::{Routing, Rule};
@@ -55,7 +55,7 @@ pub struct Builder<const N: usize, const CAP: usize> {
     clock: u64,
     sent: Vec<Plane>,
     incoming: Vec<Plane>,
-    crossing: Crossing,
+    crossing: RouterEngine,
     routing: Routing,
 }
 
@@ -178,7 +178,7 @@ impl<const N: usize, const CAP: usize> Builder<N, CAP> {
         ensures ok { IsOk result → build_fault self.entry ≡ None }
         ensures refused { IfErr result (λ fault. fault ≢ BuildFault.Memory → build_fault self.entry ≡ Some fault) }
     {
-        let mut parts = Parts {
+        let mut parts = ChipState {
             run: self.run.into_run(),
             logs: self.logs,
             row: self.row,

@@ -9,11 +9,11 @@ ghost use Rattle.cm_petit.specs.Routers.{events_of};
 ghost use Rattle.cm_array.specs.Finding.{TellOf, TellNone, IsToldIn};
 
 use cm_bits::Place;
-use cm_crossing::Crossing;
+use cm_crossing::RouterEngine;
 use cm_message::{Event, Message, Tag};
 
 /// The first chip in whose router a message of the tag stands.
-pub(crate) fn router_of(crossing: &Crossing, tag: &Tag) -> Option<u16>
+pub(crate) fn router_of(crossing: &RouterEngine, tag: &Tag) -> Option<u16>
     requires gathered { IsTrue crossing.now.gathered }
     ensures value { result ≡ find
         (λ c. list_any (λ m. same_tag m.tag tag.now) (nth_or_nil crossing.now.buffers c))

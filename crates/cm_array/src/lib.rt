@@ -2,13 +2,13 @@
 #![tactic(auto)]
 
 mod builder;
+mod chip_state;
 mod finding;
 mod instructions;
 mod log_laws;
 mod log_view;
 mod machine;
 mod part;
-mod parts;
 mod poke_laws;
 mod put;
 mod room;

@@ -22,18 +22,18 @@ ghost use Rattle.cm_array.specs.Parts.{kept_of, AreParts, LacksLogRoom};
 ghost use Rattle.cm_array.specs.Rooms.{IsRoomFor};
 ghost use Rattle.cm_array.specs.Pokes.{machine_with_memory_bit, machine_with_flag};
 
+use crate::chip_state::{
+    ChipState, blank_logs, blank_planes, copied_logs, make_room, pass_time, reserve, run,
+};
 use crate::finding::{delivered_to, router_of, told_in};
 use crate::log_view::Log;
 use crate::part::{Part, lay_all_buffers, lay_chips};
-use crate::parts::{
-    Parts, blank_logs, blank_planes, copied_logs, make_room, pass_time, reserve, run,
-};
 use crate::put::{IntoPart, keep, put_one};
 use crate::room::Room;
 use crate::row::{deal_out, has_events, lay_told};
 use crate::saved_logs::{InTurn, LogAppender, SavedLogs};
 use cm_bits::{Addr, FlagNo, NoMemory, Plane, Proc};
-use cm_crossing::{Crossing, Sizes};
+use cm_crossing::{RouterEngine, Shape};
 use cm_element::{ChipView, Run, ZeroFlag};
 use cm_message::{Event, Message, Tag};
 use cm_model::{Act, Found};
@@ -82,7 +82,7 @@ impl From<NoMemory> for MachineFault {
 /// stands twice in its account, and each message whose injection a log tells of stands there once.
 #[derive(Debug, Drop)]
 pub struct Machine<const N: usize, const CAP: usize> {
-    parts: Parts,
+    parts: ChipState,
 }
 
 impl<const N: usize, const CAP: usize> Model for Machine<N, CAP> {
@@ -124,10 +124,10 @@ impl<const N: usize, const CAP: usize> Machine<N, CAP> {
         let row = Vec::new(alloc);
         let sent = blank_planes(alloc, count)?;
         let incoming = blank_planes(alloc, count)?;
-        let crossing = Crossing::new(alloc, count)?;
+        let crossing = RouterEngine::new(alloc, count)?;
         let routing = Routing::plain(alloc, N as u8)?;
         Ok(Machine {
-            parts: Parts {
+            parts: ChipState {
                 run,
                 logs,
                 row,
@@ -141,7 +141,7 @@ impl<const N: usize, const CAP: usize> Machine<N, CAP> {
     }
 
     /// What it keeps.
-    pub(crate) fn into_parts(self) -> Parts
+    pub(crate) fn into_parts(self) -> ChipState
         ensures value { kept_of result ≡ self.entry }
         ensures parts { AreParts N CAP result }
     {
@@ -149,7 +149,7 @@ impl<const N: usize, const CAP: usize> Machine<N, CAP> {
     }
 
     /// The machine that keeps these.
-    pub(crate) fn of_parts(parts: Parts) -> Self
+    pub(crate) fn of_parts(parts: ChipState) -> Self
         requires parts { AreParts N CAP parts }
         ensures value { result ≡ kept_of parts }
     {
@@ -169,7 +169,7 @@ impl<const N: usize, const CAP: usize> Machine<N, CAP> {
         let crossing = self.parts.crossing.copy(alloc)?;
         let routing = self.parts.routing.copy()?;
         Ok(Machine {
-            parts: Parts {
+            parts: ChipState {
                 run,
                 logs,
                 row,
@@ -254,7 +254,7 @@ impl<const N: usize, const CAP: usize> Machine<N, CAP> {
         Ok(Part {
             sizes,
             first,
-            parts: Parts {
+            parts: ChipState {
                 run,
                 logs,
                 row,
@@ -526,12 +526,12 @@ impl<const N: usize, const CAP: usize> Machine<N, CAP> {
     }
 
     /// The sizes of a whole machine.
-    fn sizes() -> Sizes
+    fn sizes() -> Shape
         requires sizes { AreSizes N CAP }
         ensures dims { result.dims ≡ N }
         ensures room { result.room ≡ CAP }
     {
-        Sizes {
+        Shape {
             dims: N as u8,
             room: CAP as u8,
         }

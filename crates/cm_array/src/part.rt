@@ -13,8 +13,8 @@ ghost use Rattle.cm_blocks.specs.Parts.{cut, chip_in, buffer_in, log_in};
 ghost use Rattle.cm_router.specs.Routes.{routing_of};
 ghost use Rattle.cm_array.specs.Cuts.{kept_part, IsKeptPart, IsLaid};
 
-use crate::parts::Parts;
-use cm_crossing::{Crossing, Sizes};
+use crate::chip_state::ChipState;
+use cm_crossing::{RouterEngine, Shape};
 use cm_element::{ChipView, Run};
 use cm_message::{Event, Message};
 use cm_petit::{leave, take_in};
@@ -30,11 +30,11 @@ use std::mem;
 #[derive(Debug, Drop)]
 pub struct Part {
     /// Of which machine the chips are.
-    pub(crate) sizes: Sizes,
+    pub(crate) sizes: Shape,
     /// The number of the first chip.
     pub(crate) first: u16,
     /// The chips by place, the first at place 0.
-    pub(crate) parts: Parts,
+    pub(crate) parts: ChipState,
 }
 
 impl Model for Part {
@@ -49,7 +49,7 @@ impl Model for Part {
 
 impl Part {
     /// What it keeps of its chips.
-    pub(crate) fn into_parts(self) -> Parts
+    pub(crate) fn into_parts(self) -> ChipState
         ensures value { kept_part self.dims self.room self.part.first result ≡ self }
         ensures kept { IsKeptPart self.dims self.room self.part.first result }
     {
@@ -186,7 +186,12 @@ pub(crate) fn lay_chips(run: &mut Run, from: &Run, first: u16, count: u16)
 }
 
 /// Puts the messages of some chips in the place of all that stand elsewhere, at as many chips.
-pub(crate) fn lay_all_buffers(crossing: &mut Crossing, from: &Crossing, first: usize, count: usize)
+pub(crate) fn lay_all_buffers(
+    crossing: &mut RouterEngine,
+    from: &RouterEngine,
+    first: usize,
+    count: usize,
+)
     requires here { length crossing.old.buffers ≡ count }
     requires there { first + count ≤ length from.now.buffers }
     requires gathered { IsTrue from.now.gathered }
@@ -201,7 +206,13 @@ pub(crate) fn lay_all_buffers(crossing: &mut Crossing, from: &Crossing, first: u
 }
 
 /// Copies the messages of so many chips, from `first` on, to as many others from `at` on, where none stand.
-pub(crate) fn lay_buffers(to: &mut Crossing, at: usize, from: &Crossing, first: usize, count: usize)
+pub(crate) fn lay_buffers(
+    to: &mut RouterEngine,
+    at: usize,
+    from: &RouterEngine,
+    first: usize,
+    count: usize,
+)
     requires here { at + count ≤ length to.old.buffers }
     requires there { first + count ≤ length from.now.buffers }
     requires few { length to.old.buffers ≤ 4096 }
@@ -225,7 +236,7 @@ fn exchange(logs: &mut [Vec<Event>], first: usize, others: &mut [Vec<Event>]) {
 }
 
 /// Messages come to stand last at a chip, in their order.
-fn arrive_all(to: &mut Crossing, chip: usize, messages: &[Message])
+fn arrive_all(to: &mut RouterEngine, chip: usize, messages: &[Message])
     requires chip { chip < length to.old.buffers }
     requires room { length (nth_or_nil to.old.buffers chip) + length messages.now ≤ 15 }
     ensures value { to.new.buffers

@@ -8,8 +8,8 @@ ghost use Rattle.cm_router.specs.Routes.{routing_of};
 ghost use Rattle.cm_petit.specs.Routers.{events_of};
 ghost use Rattle.cm_array.specs.Cuts.{IsLaid};
 
+use crate::chip_state::ChipState;
 use crate::part::{Part, lay_buffers};
-use crate::parts::Parts;
 use cm_message::Event;
 use cm_router::Routing;
 use std::mem;
@@ -36,7 +36,7 @@ impl IntoPart for Part {
 
 /// Puts one part into the place of the chips from `at` on, at which no messages stand, and tells where it ends. The
 /// part has the logs that were there then.
-pub(crate) fn put_one(parts: &mut Parts, at: usize, piece: &mut Part) -> usize
+pub(crate) fn put_one(parts: &mut ChipState, at: usize, piece: &mut Part) -> usize
     requires chips { at + length piece.old.part.chips ≤ length parts.old.run }
     requires buffers { length parts.old.crossing.buffers ≡ length parts.old.run }
     requires logs { length parts.old.logs.items ≡ length parts.old.run }

@@ -3,10 +3,10 @@
 ghost use Rattle.std.specs.Prelude.{◌≤◌, IfOk, length};
 ghost use Rattle.cm_array.specs.Rooms.{IsRoomFor};
 
+use crate::chip_state::{ChipState, blank_logs, blank_planes};
 use crate::part::Part;
-use crate::parts::{Parts, blank_logs, blank_planes};
 use cm_bits::{NoMemory, Plane};
-use cm_crossing::Crossing;
+use cm_crossing::RouterEngine;
 use cm_element::Run;
 use cm_message::Event;
 use std::alloc::Global;
@@ -18,7 +18,7 @@ pub(crate) struct Room {
     pub(crate) logs: Vec<Vec<Event>>,
     pub(crate) sent: Vec<Plane>,
     pub(crate) incoming: Vec<Plane>,
-    pub(crate) crossing: Crossing,
+    pub(crate) crossing: RouterEngine,
 }
 
 impl Room {
@@ -37,7 +37,7 @@ impl Room {
     fn of_part(part: Part) -> Room
         ensures value { IsRoomFor part.part.count result }
     {
-        let Parts {
+        let ChipState {
             run,
             logs,
             row: _,
@@ -66,7 +66,7 @@ impl Room {
         let logs = blank_logs(alloc, count)?;
         let sent = blank_planes(alloc, count)?;
         let incoming = blank_planes(alloc, count)?;
-        let crossing = Crossing::new(alloc, count)?;
+        let crossing = RouterEngine::new(alloc, count)?;
         Ok(Room {
             run,
             logs,

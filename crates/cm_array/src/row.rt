@@ -8,7 +8,7 @@ ghost use Rattle.cm_router.specs.Rows.{teller, events_of_chip, with_row};
 ghost use Rattle.cm_petit.specs.Routers.{events_of};
 ghost use Rattle.cm_array.specs.Rows.{dealt};
 
-use crate::parts::lay_logs;
+use crate::chip_state::lay_logs;
 use cm_bits::NoMemory;
 use cm_message::Event;
 

@@ -7,7 +7,7 @@ ghost use Rattle.cm_model.specs.Unlogged.{has_tag_twice};
 ghost use Rattle.cm_array.specs.Tags.{tag_key, HasEqualNeighbours, AreNeighboursApart};
 
 use cm_bits::NoMemory;
-use cm_crossing::Crossing;
+use cm_crossing::RouterEngine;
 use cm_message::Message;
 use std::alloc::Global;
 
@@ -16,7 +16,7 @@ type Key = (u64, u16, u8);
 
 /// Whether two of the messages that stand there have one tag: then two copies stand side by side once all
 /// are sorted.
-pub(crate) fn has_tag_twice(alloc: Global, crossing: &Crossing) -> Result<bool, NoMemory>
+pub(crate) fn has_tag_twice(alloc: Global, crossing: &RouterEngine) -> Result<bool, NoMemory>
     requires gathered { IsTrue crossing.now.gathered }
     ensures value { IfOk result (λ twice.
         twice ≡ has_tag_twice (flat_map (λ buffer. buffer) crossing.now.buffers)) }
@@ -26,7 +26,7 @@ pub(crate) fn has_tag_twice(alloc: Global, crossing: &Crossing) -> Result<bool, 
     Ok(has_equal_neighbours(&keys))
 }
 
-fn keys_in(alloc: Global, crossing: &Crossing) -> Result<Vec<Key>, NoMemory>
+fn keys_in(alloc: Global, crossing: &RouterEngine) -> Result<Vec<Key>, NoMemory>
     requires gathered { IsTrue crossing.now.gathered }
     ensures value { IfOk result (λ keys.
         keys.items ≡ map tag_key (flat_map (λ buffer. buffer) crossing.now.buffers)) }
@@ -39,7 +39,7 @@ fn keys_in(alloc: Global, crossing: &Crossing) -> Result<Vec<Key>, NoMemory>
 }
 
 /// How many messages stand there, as a hint.
-fn count(crossing: &Crossing) -> usize {
+fn count(crossing: &RouterEngine) -> usize {
     let mut count: usize = 0;
     for c in 0..crossing.chips() {
         count = count.saturating_add(crossing.len(c));

@@ -86,7 +86,7 @@ pub record AreByAge (row : List Message) (count : ℕ) : Type 0 where
 
 -- at most 4,096 chips, and 15 places of the row for each, and four more, in two rows in turn;
 -- each ticket stands for a message; a row of leavers; and so many first messages stand in the order of age
-pub record IsCrossing (row spare : Vec Message Global) (places : ℕ) (queues : List (List Ticket))
+pub record IsRouterEngine (row spare : Vec Message Global) (places : ℕ) (queues : List (List Ticket))
     (leavers : Vec (Option Ticket) Global) (gathered : Bool) (risen : ℕ) : Type 0 where
   pub few : length queues ≤ 4096
   pub enough : 15 * length queues + 4 ≤ places

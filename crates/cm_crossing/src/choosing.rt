@@ -12,15 +12,15 @@ ghost use Rattle.cm_crossing.specs.Standing.{no_message, standing, HaveMessages}
 use crate::row::message_of;
 use cm_message::{Message, Rule};
 use cm_router::is_older;
-use cm_slots::{Sizes, Slots, Ticket};
+use cm_slots::{Shape, Ticket, TicketQueues};
 
 /// The place of whom a chip chooses, with room for so many: of those that have to cross the dimension who goes first by
 /// the rule, or where none has to and no room is left, who goes last.
 pub(crate) fn place_of_chosen(
     row: &[Message],
-    slots: &Slots,
+    slots: &TicketQueues,
     chip: usize,
-    sizes: Sizes,
+    sizes: Shape,
     dim: u8,
     rule: Rule,
 ) -> Option<usize>
@@ -37,7 +37,13 @@ pub(crate) fn place_of_chosen(
     }
 }
 
-fn first_place(row: &[Message], slots: &Slots, chip: usize, dim: u8, rule: Rule) -> Option<usize>
+fn first_place(
+    row: &[Message],
+    slots: &TicketQueues,
+    chip: usize,
+    dim: u8,
+    rule: Rule,
+) -> Option<usize>
     requires chip { chip < length slots.now }
     requires dim { dim < 12 }
     requires kept { HaveMessages (length row.now) (nth_or_nil slots.now chip) }
@@ -51,7 +57,7 @@ fn first_place(row: &[Message], slots: &Slots, chip: usize, dim: u8, rule: Rule)
 }
 
 /// The place of who goes last, where somebody stands there.
-fn last_place(row: &[Message], slots: &Slots, chip: usize, rule: Rule) -> Option<usize>
+fn last_place(row: &[Message], slots: &TicketQueues, chip: usize, rule: Rule) -> Option<usize>
     requires chip { chip < length slots.now }
     requires some { 0 < length (nth_or_nil slots.now chip) }
     requires kept { HaveMessages (length row.now) (nth_or_nil slots.now chip) }
@@ -65,7 +71,7 @@ fn last_place(row: &[Message], slots: &Slots, chip: usize, rule: Rule) -> Option
 }
 
 /// The place of the first that has to cross.
-fn first_to_cross(slots: &Slots, chip: usize, dim: u8) -> Option<usize>
+fn first_to_cross(slots: &TicketQueues, chip: usize, dim: u8) -> Option<usize>
     requires chip { chip < length slots.now }
     requires dim { dim < 12 }
     ensures value { result ≡ position (has_to_go dim) (nth_or_nil slots.now chip) }
@@ -82,7 +88,7 @@ fn first_to_cross(slots: &Slots, chip: usize, dim: u8) -> Option<usize>
 }
 
 /// The place of the oldest that has to cross, gone through from behind.
-fn oldest_to_cross(row: &[Message], slots: &Slots, chip: usize, dim: u8) -> Option<usize>
+fn oldest_to_cross(row: &[Message], slots: &TicketQueues, chip: usize, dim: u8) -> Option<usize>
     requires chip { chip < length slots.now }
     requires dim { dim < 12 }
     requires kept { HaveMessages (length row.now) (nth_or_nil slots.now chip) }
@@ -99,7 +105,7 @@ fn oldest_to_cross(row: &[Message], slots: &Slots, chip: usize, dim: u8) -> Opti
 }
 
 /// The place of the youngest, gone through from behind.
-fn youngest(row: &[Message], slots: &Slots, chip: usize) -> Option<usize>
+fn youngest(row: &[Message], slots: &TicketQueues, chip: usize) -> Option<usize>
     requires chip { chip < length slots.now }
     requires kept { HaveMessages (length row.now) (nth_or_nil slots.now chip) }
     ensures value { result ≡ youngest_place (standing row.now (nth_or_nil slots.now chip)) }
@@ -117,7 +123,7 @@ fn youngest(row: &[Message], slots: &Slots, chip: usize) -> Option<usize>
 /// Whether there is no message at that other place, or it is older than the one at a place.
 fn goes_last(
     row: &[Message],
-    slots: &Slots,
+    slots: &TicketQueues,
     chip: usize,
     place: usize,
     behind: Option<usize>,
@@ -142,7 +148,7 @@ fn goes_last(
 /// Whether the message at a place has to cross, and none at that other place, if one is given, is older.
 fn goes_first(
     row: &[Message],
-    slots: &Slots,
+    slots: &TicketQueues,
     chip: usize,
     dim: u8,
     place: usize,
@@ -173,7 +179,7 @@ fn has_to_go(ticket: Ticket, dim: u8) -> bool
 /// Whether there is a message at a place, if one is given, and it is older than this one.
 fn is_older_at(
     row: &[Message],
-    slots: &Slots,
+    slots: &TicketQueues,
     chip: usize,
     place: Option<usize>,
     message: &Message,
@@ -191,7 +197,7 @@ fn is_older_at(
 }
 
 /// The message at a place.
-fn message_at(row: &[Message], slots: &Slots, chip: usize, place: usize) -> Message
+fn message_at(row: &[Message], slots: &TicketQueues, chip: usize, place: usize) -> Message
     requires chip { chip < length slots.now }
     requires kept { HaveMessages (length row.now) (nth_or_nil slots.now chip) }
     requires place { place < length (nth_or_nil slots.now chip) }

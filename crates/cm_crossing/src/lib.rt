@@ -3,10 +3,10 @@
 #![tactic(auto)]
 
 mod choosing;
-mod crossing;
 mod ranking;
 mod routed;
+mod router_engine;
 mod row;
 
-pub use cm_slots::Sizes;
-pub use crossing::Crossing;
+pub use cm_slots::Shape;
+pub use router_engine::RouterEngine;

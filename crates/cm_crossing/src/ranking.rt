@@ -10,7 +10,7 @@ ghost use Rattle.cm_crossing.specs.Ranking.{moved_ticket, HaveMoved};
 
 use cm_message::Message;
 use cm_router::is_older;
-use cm_slots::{Slots, Ticket};
+use cm_slots::{Ticket, TicketQueues};
 
 /// Where a message has not gone yet.
 const NOWHERE: u16 = 65535;
@@ -114,7 +114,7 @@ fn are_below(moved: &[u16], bound: usize) -> bool
 }
 
 /// Each ticket tells where its message has gone.
-pub(crate) fn renumber(slots: &mut Slots, moved: &[u16])
+pub(crate) fn renumber(slots: &mut TicketQueues, moved: &[u16])
     requires kept { All (HaveMessages (length moved.now)) slots.old }
     requires few { All (λ place. place < 65535) moved.now }
     ensures value { slots.new ≡ map (map (moved_ticket moved.now)) slots.old }
@@ -124,7 +124,7 @@ pub(crate) fn renumber(slots: &mut Slots, moved: &[u16])
     }
 }
 
-fn renumber_at(slots: &mut Slots, moved: &[u16], here: usize)
+fn renumber_at(slots: &mut TicketQueues, moved: &[u16], here: usize)
     requires here { here < length slots.old }
     requires kept { HaveMessages (length moved.now) (nth_or_nil slots.old here) }
     requires few { All (λ place. place < 65535) moved.now }

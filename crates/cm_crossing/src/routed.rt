@@ -16,15 +16,15 @@ ghost use Rattle.cm_crossing.specs.Routed.{ticket_leaving, tickets_staying, tick
 use crate::choosing::place_of_chosen;
 use cm_message::{Message, Rule};
 use cm_router::Routing;
-use cm_slots::{Sizes, Slots, Ticket};
+use cm_slots::{Shape, Ticket, TicketQueues};
 
 /// The tickets of a run of chips cross a dimension that these span: all leave before any comes. The run begins at
 /// chip `first` of the machine. It may be known that the row stands in the order of age.
 pub(crate) fn cross(
     row: &[Message],
     in_order: bool,
-    slots: &mut Slots,
-    sizes: Sizes,
+    slots: &mut TicketQueues,
+    sizes: Shape,
     span: u8,
     routing: &Routing,
     first: u16,
@@ -67,8 +67,8 @@ fn goes_by_age(routing: &Routing, dim: u8) -> bool
 /// The first half by itself: who leaves each chip is taken out, and written down as it arrives across.
 pub(crate) fn leave(
     row: &[Message],
-    slots: &mut Slots,
-    sizes: Sizes,
+    slots: &mut TicketQueues,
+    sizes: Shape,
     routing: &Routing,
     first: u16,
     dim: u8,
@@ -94,8 +94,8 @@ pub(crate) fn leave(
 
 fn cross_by_chip(
     row: &[Message],
-    slots: &mut Slots,
-    sizes: Sizes,
+    slots: &mut TicketQueues,
+    sizes: Shape,
     span: u8,
     routing: &Routing,
     first: u16,
@@ -122,8 +122,8 @@ fn cross_by_chip(
 
 fn leave_by_chip(
     row: &[Message],
-    slots: &mut Slots,
-    sizes: Sizes,
+    slots: &mut TicketQueues,
+    sizes: Shape,
     routing: &Routing,
     first: u16,
     dim: u8,
@@ -146,7 +146,7 @@ fn leave_by_chip(
 }
 
 /// Each chip takes in who was written down at the chip across, behind all that stand there.
-fn take_in_by_chip(slots: &mut Slots, leavers: &[Option<Ticket>], dim: u8)
+fn take_in_by_chip(slots: &mut TicketQueues, leavers: &[Option<Ticket>], dim: u8)
     requires dim { dim < 12 }
     requires rows { length leavers.now ≡ length slots.old }
     requires across { (c : ℕ) → c < length slots.old → bit_xor c (2 ^ dim) < length slots.old }
@@ -167,9 +167,9 @@ fn take_in_by_chip(slots: &mut Slots, leavers: &[Option<Ticket>], dim: u8)
 #[tactic(auto, unfolding(cm_model::specs::Buffers::leaving_place))]
 fn let_leave(
     row: &[Message],
-    slots: &mut Slots,
+    slots: &mut TicketQueues,
     chip: usize,
-    sizes: Sizes,
+    sizes: Shape,
     dim: u8,
     cut: bool,
     rule: Rule,

@@ -25,10 +25,10 @@ use cm_router::{
     Deliveries, Senders, message_sent, receives, tell_injected, who_has_not_arrived_is_kept,
     with_one,
 };
-use cm_slots::{Slots, Ticket};
+use cm_slots::{Ticket, TicketQueues};
 
 /// Gives each message a place in the second row, those of a chip side by side, and its ticket tells that.
-pub(crate) fn compact(row: &[Message], spare: &mut Vec<Message>, slots: &mut Slots)
+pub(crate) fn compact(row: &[Message], spare: &mut Vec<Message>, slots: &mut TicketQueues)
     requires few { length slots.old ≤ 4096 }
     requires capacity { 15 * length slots.old ≤ vec_capacity spare.old }
     requires kept { All (HaveMessages (length row.now)) slots.old }
@@ -45,7 +45,7 @@ pub(crate) fn compact(row: &[Message], spare: &mut Vec<Message>, slots: &mut Slo
 }
 
 /// Gives the messages of one chip places in the second row.
-fn carry_over(row: &[Message], spare: &mut Vec<Message>, slots: &mut Slots, here: usize)
+fn carry_over(row: &[Message], spare: &mut Vec<Message>, slots: &mut TicketQueues, here: usize)
     requires here { here < length slots.old }
     requires few { vec_len spare.old + 15 ≤ 65535 }
     requires capacity { vec_len spare.old + 15 ≤ vec_capacity spare.old }
@@ -73,7 +73,7 @@ fn carry_over(row: &[Message], spare: &mut Vec<Message>, slots: &mut Slots, here
 }
 
 /// The messages of a chip as they stand side by side.
-pub(crate) fn read_out<'a>(row: &'a [Message], slots: &Slots, here: usize) -> &'a [Message]
+pub(crate) fn read_out<'a>(row: &'a [Message], slots: &TicketQueues, here: usize) -> &'a [Message]
     requires here { here < length slots.now }
     requires together { AreTogether row.now (nth_or_nil slots.now here) }
     ensures value { result.now ≡ standing row.now (nth_or_nil slots.now here) }
@@ -89,7 +89,7 @@ pub(crate) fn read_out<'a>(row: &'a [Message], slots: &Slots, here: usize) -> &'
 /// log tells of each. A message goes to both as it is made: read back from one of them it would wait there.
 pub(crate) fn store_injected(
     row: &mut Vec<Message>,
-    slots: &mut Slots,
+    slots: &mut TicketQueues,
     at: usize,
     mut senders: Senders,
     chip: &ChipView<'_>,
@@ -128,7 +128,12 @@ pub(crate) fn store_injected(
 }
 
 /// A message gets a place in the row, and stands last at its chip.
-pub(crate) fn stand(row: &mut Vec<Message>, slots: &mut Slots, here: usize, message: &Message)
+pub(crate) fn stand(
+    row: &mut Vec<Message>,
+    slots: &mut TicketQueues,
+    here: usize,
+    message: &Message,
+)
     requires here { here < length slots.old }
     requires few { vec_len row.old < 65535 }
     requires capacity { vec_len row.old < vec_capacity row.old }
@@ -185,7 +190,7 @@ pub(crate) fn collect(row: &[Message], tickets: &[Option<Ticket>], leavers: &mut
 /// so the chip is told as it is after that.
 pub(crate) fn deliver_at(
     row: &[Message],
-    slots: &mut Slots,
+    slots: &mut TicketQueues,
     run: &Run,
     deliveries: &mut Deliveries,
     chip: u16,
@@ -228,7 +233,13 @@ pub(crate) fn deliver_at(
 
 /// The first place of a chip, from this one on, of a ticket whose message is delivered to one of these receivers; as
 /// many as stand there, if there is none. Nothing is written meanwhile, so that where its slots lie is found once.
-fn next_given(row: &[Message], slots: &Slots, here: usize, from: usize, receivers: Plane) -> usize
+fn next_given(
+    row: &[Message],
+    slots: &TicketQueues,
+    here: usize,
+    from: usize,
+    receivers: Plane,
+) -> usize
     requires stands { here < length slots.now }
     requires kept { HaveMessages (length row.now) (nth_or_nil slots.now here) }
     requires from { from ≤ length (nth_or_nil slots.now here) }

@@ -13,7 +13,7 @@ use crate::offers::Load;
 use crate::sources::Source;
 use crate::telling::{push_latencies, taken_in};
 use cm_bits::NoMemory;
-use cm_crossing::{Crossing, Sizes};
+use cm_crossing::{RouterEngine, Shape};
 use cm_element::Run;
 use cm_message::Event;
 use cm_petit::cycle;
@@ -45,13 +45,13 @@ impl Told {
 
 /// A machine goes on under a load, from this count of petit cycles to that one.
 pub(crate) fn go_through(
-    sizes: Sizes,
+    sizes: Shape,
     routing: &Routing,
     load: &Load,
     from: u32,
     to: u32,
     run: &mut Run,
-    crossing: &mut Crossing,
+    crossing: &mut RouterEngine,
     logs: &mut [Vec<Event>],
     sources: &mut [Source],
     told: &mut Told,
@@ -78,12 +78,12 @@ pub(crate) fn go_through(
 
 /// Petit cycle t.
 fn go_on(
-    sizes: Sizes,
+    sizes: Shape,
     routing: &Routing,
     load: &Load,
     t: u32,
     run: &mut Run,
-    crossing: &mut Crossing,
+    crossing: &mut RouterEngine,
     logs: &mut [Vec<Event>],
     sources: &mut [Source],
     told: &mut Told,

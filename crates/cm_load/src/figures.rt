@@ -16,7 +16,7 @@ use crate::cycles::{Told, go_through};
 use crate::offers::Load;
 use crate::sources::Source;
 use cm_bits::NoMemory;
-use cm_crossing::{Crossing, Sizes};
+use cm_crossing::{RouterEngine, Shape};
 use cm_element::Run;
 use cm_message::Event;
 use cm_router::Routing;
@@ -246,14 +246,14 @@ fn begin(
     ensures value { IfOk result (IsToldOf (loaded_for room load.now (routing_of routing.now) skip cycles)) }
 {
     let mut rows = Run::blank(alloc, chips)?;
-    let mut crossing = Crossing::new(alloc, usize::from(chips))?;
+    let mut crossing = RouterEngine::new(alloc, usize::from(chips))?;
     let latencies = Vec::new(alloc);
     let mut told = Told {
         deepest: 0,
         taken: 0,
         latencies,
     };
-    let sizes = Sizes {
+    let sizes = Shape {
         dims: load.dims,
         room,
     };

@@ -11,18 +11,18 @@ ghost use Rattle.cm_router.specs.Routes.{routing_of};
 ghost use Rattle.cm_router.specs.Logs.{Log};
 ghost use Rattle.cm_petit.specs.Routers.{part_from_logs};
 
-use cm_crossing::{Crossing, Sizes};
+use cm_crossing::{RouterEngine, Shape};
 use cm_message::Message;
 use cm_router::Routing;
 
 /// Messages of a run of 2^`span` chips cross a dimension that these span. The run begins at chip `first` of the
 /// machine, a multiple of their number.
 pub fn cross(
-    sizes: Sizes,
+    sizes: Shape,
     span: u8,
     routing: &Routing,
     first: u16,
-    crossing: &mut Crossing,
+    crossing: &mut RouterEngine,
     dim: u8,
 )
     requires cube { routing.now.cuts.dims ≡ sizes.dims }
@@ -44,10 +44,10 @@ pub fn cross(
 /// The first half of a dimension that leads out of a run of chips: what leaves each of them is taken out, and
 /// written down for the chip across. The run begins at chip `first` of the machine.
 pub fn leave(
-    sizes: Sizes,
+    sizes: Shape,
     routing: &Routing,
     first: u16,
-    crossing: &mut Crossing,
+    crossing: &mut RouterEngine,
     dim: u8,
     leavers: &mut [Option<Message>],
 )
@@ -72,7 +72,7 @@ pub fn leave(
 }
 
 /// The second half: each chip takes in what was written down for it. Nothing is written down then.
-pub fn take_in(sizes: Sizes, crossing: &mut Crossing, leavers: &mut [Option<Message>])
+pub fn take_in(sizes: Shape, crossing: &mut RouterEngine, leavers: &mut [Option<Message>])
     requires lanes { length leavers.old ≡ length crossing.old.buffers }
     requires within { All (λ ms. length ms ≤ sizes.room) crossing.old.buffers }
     requires space { (c : ℕ) → c < length crossing.old.buffers

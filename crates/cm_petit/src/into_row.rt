@@ -13,7 +13,7 @@ ghost use Rattle.cm_router.specs.Logs.{log_room};
 ghost use Rattle.cm_router.specs.Rows.{with_row};
 ghost use Rattle.cm_petit.specs.Routers.{machine_from, part_from, HaveBuffers};
 
-use cm_crossing::{Crossing, Sizes};
+use cm_crossing::{RouterEngine, Shape};
 use cm_element::Run;
 use cm_message::Event;
 use cm_router::{Deliveries, Routing, is_idle, pass_over};
@@ -21,10 +21,10 @@ use cm_router::{Deliveries, Routing, is_idle, pass_over};
 /// One petit cycle, as `cycle` is one, whose events all go into one row. Behind logs by chip the row stands for more
 /// events of each.
 pub fn cycle_into_row(
-    sizes: Sizes,
+    sizes: Shape,
     routing: &Routing,
     run: &mut Run,
-    crossing: &mut Crossing,
+    crossing: &mut RouterEngine,
     row: &mut Vec<Event>,
     clock: &mut u64,
 )
@@ -56,9 +56,9 @@ pub fn cycle_into_row(
 
 /// Every router takes in messages of its chip's processors. A chip that this leaves as it is is passed over.
 fn inject_into_row(
-    sizes: Sizes,
+    sizes: Shape,
     run: &mut Run,
-    crossing: &mut Crossing,
+    crossing: &mut RouterEngine,
     row: &mut Vec<Event>,
     clock: u64,
 )
@@ -85,7 +85,7 @@ fn inject_into_row(
 }
 
 /// Messages that have arrived go to their processors. A chip at which none has arrived is passed over.
-fn deliver_into_row(sizes: Sizes, run: &mut Run, crossing: &mut Crossing, row: &mut Vec<Event>)
+fn deliver_into_row(sizes: Shape, run: &mut Run, crossing: &mut RouterEngine, row: &mut Vec<Event>)
     requires buffers { HaveBuffers (2 ^ sizes.dims) sizes.room run.old crossing.old.buffers }
     requires log_room { 2 ^ sizes.dims * sizes.room ≤ log_room row.old }
     ensures value { (routing : Routes) (logs : List (List Told)) (clock : ℕ) → length logs ≡ 2 ^ sizes.dims

@@ -16,7 +16,7 @@ ghost use Rattle.cm_router.specs.Logs.{log_rooms_of, HaveLogRoom, LoseAtMost};
 ghost use Rattle.cm_petit.specs.Routers.{machine_from_logs, part_from_logs};
 ghost use Rattle.cm_petit.specs.Nodes.{AreNodes, node_at, exchanged};
 
-use cm_crossing::Sizes;
+use cm_crossing::Shape;
 use cm_element::Run;
 use cm_message::{Event, Message, Rule};
 use cm_router::{Node, Routing};
@@ -24,7 +24,7 @@ use cm_router::{Node, Routing};
 /// One petit cycle where each chip's messages stand in a node of its own: what `cycle` does where they stand in a
 /// `Crossing`. The counter stands at `clock`; that it is one more then is for the caller to keep.
 pub fn cycle_of_nodes(
-    sizes: Sizes,
+    sizes: Shape,
     routing: &Routing,
     run: &mut Run,
     nodes: &mut [Node],
@@ -49,7 +49,7 @@ pub fn cycle_of_nodes(
 
 /// Every node takes in messages of its chip's processors.
 fn inject_into_nodes(
-    sizes: Sizes,
+    sizes: Shape,
     run: &mut Run,
     nodes: &mut [Node],
     logs: &mut [Vec<Event>],
@@ -72,7 +72,7 @@ fn inject_into_nodes(
 
 /// Messages cross a dimension: of each pair of chips both send who leaves before either takes in who comes.
 #[tactic(auto, using(crate::proofs::Dimensions::across_differs, crate::proofs::Dimensions::one_way, cm_model::proofs::Flips::xor_twice))]
-fn cross_nodes(sizes: Sizes, routing: &Routing, nodes: &mut [Node], dim: u8)
+fn cross_nodes(sizes: Shape, routing: &Routing, nodes: &mut [Node], dim: u8)
     requires cube { routing.now.cuts.dims ≡ sizes.dims }
     requires dim { dim < sizes.dims }
     requires count { length nodes.old ≡ 2 ^ sizes.dims }
@@ -133,7 +133,7 @@ fn welcome(node: &mut Node, coming: Option<Message>)
 }
 
 /// Messages that have arrived go to their processors.
-fn deliver_from_nodes(sizes: Sizes, run: &mut Run, nodes: &mut [Node], logs: &mut [Vec<Event>])
+fn deliver_from_nodes(sizes: Shape, run: &mut Run, nodes: &mut [Node], logs: &mut [Vec<Event>])
     requires nodes { AreNodes sizes.dims sizes.room run.old nodes.old logs.old }
     requires log_room { HaveLogRoom sizes.room (log_rooms_of logs.old) }
     ensures value { (routing : Routes) (clock : ℕ)

@@ -11,7 +11,7 @@ ghost use Rattle.cm_router.specs.Routes.{routing_of};
 ghost use Rattle.cm_router.specs.Logs.{log_rooms_of, HaveLogRoom, LoseAtMost};
 ghost use Rattle.cm_petit.specs.Routers.{machine_from_logs, part_from_logs, AreRouters};
 
-use cm_crossing::{Crossing, Sizes};
+use cm_crossing::{RouterEngine, Shape};
 use cm_element::Run;
 use cm_message::Event;
 use cm_router::{Deliveries, Routing, is_idle, pass_over};
@@ -20,10 +20,10 @@ use cm_router::{Deliveries, Routing, is_idle, pass_over};
 /// and those that have arrived go to their processors (a dimension at a time: Hillis 1985; the order:
 /// ours). The counter is one more then.
 pub fn cycle(
-    sizes: Sizes,
+    sizes: Shape,
     routing: &Routing,
     run: &mut Run,
-    crossing: &mut Crossing,
+    crossing: &mut RouterEngine,
     logs: &mut [Vec<Event>],
     clock: &mut u64,
 )
@@ -53,10 +53,10 @@ pub fn cycle(
 /// Every router of a run of chips takes in messages of its chip's processors. The run begins at chip `first` of
 /// the machine. A chip that this leaves as it is is passed over.
 pub fn inject(
-    sizes: Sizes,
+    sizes: Shape,
     first: u16,
     run: &mut Run,
-    crossing: &mut Crossing,
+    crossing: &mut RouterEngine,
     logs: &mut [Vec<Event>],
     clock: u64,
 )
@@ -84,10 +84,10 @@ pub fn inject(
 /// Messages of a run of chips that have arrived go to their processors. The run begins at chip `first` of the
 /// machine. A chip at which none has arrived is passed over.
 pub fn deliver(
-    sizes: Sizes,
+    sizes: Shape,
     first: u16,
     run: &mut Run,
-    crossing: &mut Crossing,
+    crossing: &mut RouterEngine,
     logs: &mut [Vec<Event>],
 )
     requires band { first + length run.old ≤ 2 ^ sizes.dims }

@@ -14,13 +14,13 @@ ghost use Rattle.cm_router.specs.Logs.{log_rooms_of, HaveLogRoom};
 ghost use Rattle.cm_petit.specs.Routers.{machine_from, AreRouters, HaveBuffers};
 ghost use Rattle.cm_petit.specs.Nodes.{AreNodes};
 
-use cm_crossing::{Crossing, Sizes};
+use cm_crossing::{RouterEngine, Shape};
 use cm_element::Run;
 use cm_message::{Event, Message};
 use cm_router::{Node, is_idle, pass_over};
 
 /// Whether there are as many buffers and logs as chips, with no more messages at a chip than there is room for.
-pub fn are_routers(sizes: Sizes, run: &Run, crossing: &Crossing, logs: &[Vec<Event>]) -> bool
+pub fn are_routers(sizes: Shape, run: &Run, crossing: &RouterEngine, logs: &[Vec<Event>]) -> bool
     ensures routers { IsTrue result ↔ AreRouters (length run.now) sizes.room run.now crossing.now.buffers logs.now }
 {
     let chips = run.chips();
@@ -28,7 +28,7 @@ pub fn are_routers(sizes: Sizes, run: &Run, crossing: &Crossing, logs: &[Vec<Eve
 }
 
 /// Whether there are as many chips, nodes and logs as the sizes tell, and each node has that room.
-pub fn are_nodes(sizes: Sizes, run: &Run, nodes: &[Node], logs: &[Vec<Event>]) -> bool
+pub fn are_nodes(sizes: Shape, run: &Run, nodes: &[Node], logs: &[Vec<Event>]) -> bool
     ensures nodes { IsTrue result ↔ AreNodes sizes.dims sizes.room run.now nodes.now logs.now }
 {
     let chips = 1 << sizes.dims;
@@ -52,7 +52,7 @@ pub fn has_log_room(logs: &[Vec<Event>], count: usize) -> bool
 }
 
 /// Whether at each chip for which a message is written down there is room for it.
-pub fn has_space(sizes: Sizes, crossing: &Crossing, leavers: &[Option<Message>]) -> bool
+pub fn has_space(sizes: Shape, crossing: &RouterEngine, leavers: &[Option<Message>]) -> bool
     requires lanes { length leavers.now ≡ length crossing.now.buffers }
     ensures space { IsTrue result ↔ ((c : ℕ) → c < length leavers.now → (slice_index_or leavers.now c None ≡ None)
         ⊎ (length (nth_or_nil crossing.now.buffers c) < sizes.room)) }
@@ -67,7 +67,7 @@ pub fn has_space(sizes: Sizes, crossing: &Crossing, leavers: &[Option<Message>])
 
 /// Whether a petit cycle changes nothing but the counter: nobody asks to send, nobody is acknowledged, and no message
 /// stands anywhere. It is found by words of two rows of flags, and by the first slots of the chips.
-pub fn is_at_rest(sizes: Sizes, run: &Run, crossing: &Crossing) -> bool
+pub fn is_at_rest(sizes: Shape, run: &Run, crossing: &RouterEngine) -> bool
     ensures value { IsTrue result ↔ (IsFalse (list_any (has_flag SEND) run.now)
         × IsFalse (list_any (has_flag ACK) run.now) × All (λ ms. ms ≡ []) crossing.now.buffers) }
     ensures rest { IsTrue result → (routing : Routes) (logs : List (List Told)) (clock : ℕ)

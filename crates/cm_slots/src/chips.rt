@@ -8,7 +8,7 @@ ghost use Rattle.cm_slots.specs.Tiles.{IsTile};
 ghost use Rattle.cm_slots.specs.Runs.{IsChanged, AreWithin, tickets_of};
 
 use crate::rows::{ROOM, WIDTH};
-use crate::sizes::Sizes;
+use crate::shape::Shape;
 use crate::ticket::{Ticket, slot_with, ticket_in};
 use crate::tile::Tile;
 
@@ -80,7 +80,7 @@ pub(crate) fn remove(tiles: &mut [Tile], chip: usize, place: usize)
 
 /// The first chip from this one on at which a ticket stands whose message has arrived, or one behind all of
 /// them, where there is room for so many tickets at each. A tile in which none has arrived is passed over.
-pub(crate) fn next_arrived(tiles: &[Tile], from: usize, sizes: Sizes) -> usize
+pub(crate) fn next_arrived(tiles: &[Tile], from: usize, sizes: Shape) -> usize
     requires whole { All IsTile tiles.now }
     requires within { AreWithin sizes.room tiles.now }
     ensures none { (c : ℕ) → from ≤ c → c < result → c / 64 < length tiles.now

@@ -12,12 +12,12 @@ ghost use Rattle.cm_slots.specs.Runs.{AreLeavers};
 use crate::order::Order;
 use crate::passes::leave;
 use crate::rows::{Row, WIDTH};
-use crate::sizes::Sizes;
+use crate::shape::Shape;
 use crate::ticket::{Ticket, ticket_in};
 use crate::tile::Tile;
 
 /// Takes out of each chip who leaves in a dimension; the others close up.
-pub(crate) fn take_out(tiles: &mut [Tile], leaving: &mut [Option<Row>], sizes: Sizes, dim: u8)
+pub(crate) fn take_out(tiles: &mut [Tile], leaving: &mut [Option<Row>], sizes: Shape, dim: u8)
     requires dimension { dim < 12 }
     requires rows { length leaving.old ≡ length tiles.old }
     requires whole { All IsTile tiles.old }
@@ -35,7 +35,7 @@ pub(crate) fn take_out(tiles: &mut [Tile], leaving: &mut [Option<Row>], sizes: S
 }
 
 /// Lets those who stay at each tile close up to its first slot.
-fn close_up(tiles: &mut [Tile], leaving: &[Option<Row>], sizes: Sizes)
+fn close_up(tiles: &mut [Tile], leaving: &[Option<Row>], sizes: Shape)
     requires rows { length leaving.now ≡ length tiles.old }
     requires shape { All IsShaped tiles.old }
     requires quiet { (t : ℕ) → t < length tiles.old → leavers_at leaving.now t ≡ None

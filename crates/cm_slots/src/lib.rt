@@ -10,12 +10,12 @@ mod moving;
 mod order;
 mod passes;
 mod rows;
-mod sizes;
-mod slots;
+mod shape;
 mod ticket;
+mod ticket_queues;
 mod tile;
 mod tiles;
 
-pub use sizes::Sizes;
-pub use slots::Slots;
+pub use shape::Shape;
 pub use ticket::Ticket;
+pub use ticket_queues::TicketQueues;

@@ -12,14 +12,14 @@ ghost use Rattle.cm_slots.specs.Runs.{AreWithin};
 use crate::across::tile_across;
 use crate::order::Order;
 use crate::rows::Row;
-use crate::sizes::Sizes;
+use crate::shape::Shape;
 use crate::tile::Tile;
 
 /// The tickets of all chips cross a dimension, for which who leaves each tile is put down here.
 pub(crate) fn cross(
     tiles: &mut [Tile],
     leaving: &mut [Option<Row>],
-    sizes: Sizes,
+    sizes: Shape,
     dim: u8,
     order: Order,
 )
@@ -41,7 +41,7 @@ pub(crate) fn cross(
 pub(crate) fn leave(
     tiles: &mut [Tile],
     leaving: &mut [Option<Row>],
-    sizes: Sizes,
+    sizes: Shape,
     dim: u8,
     order: Order,
 )
@@ -58,7 +58,7 @@ pub(crate) fn leave(
 
 /// Takes in at each tile who comes across a dimension. Where nobody stood and nobody comes there is
 /// nothing to do.
-fn take_in(tiles: &mut [Tile], leaving: &[Option<Row>], sizes: Sizes, dim: u8)
+fn take_in(tiles: &mut [Tile], leaving: &[Option<Row>], sizes: Shape, dim: u8)
     requires dimension { dim < 12 }
     requires rows { length leaving.now ≡ length tiles.old }
     requires across { (t : ℕ) → t < length tiles.old → tile_across dim t < length tiles.old }

@@ -15,7 +15,7 @@ use crate::across::{has_arrival_over, put_arrivals, put_leavers, put_over};
 use crate::choice::{leave_from, places};
 use crate::order::Order;
 use crate::rows::{ROOM, Row, WIDTH, has_arrival, is_blank, leave, take_in};
-use crate::sizes::Sizes;
+use crate::shape::Shape;
 
 /// 64 chips that stand side by side, and their tickets slot by slot: the one that came first in slot 0.
 #[derive(Debug, Drop)]
@@ -55,7 +55,7 @@ impl Tile {
     /// Takes out of each chip, where there is room for so many tickets, who leaves in a dimension, and
     /// puts them down as they arrive across; of a tile at which nobody stands, none. The slots hold nothing
     /// that counts until who comes has been taken in.
-    pub fn leave(&mut self, leavers: &mut Option<Row>, sizes: Sizes, dim: u8, order: Order)
+    pub fn leave(&mut self, leavers: &mut Option<Row>, sizes: Shape, dim: u8, order: Order)
         requires dimension { dim < 12 }
         requires whole { IsTile self.old }
         requires within { (i : ℕ) → i < 64 → length (numbers_standing_at self.old i) ≤ sizes.room }
@@ -75,7 +75,7 @@ impl Tile {
     /// The same where somebody stands, in the order of arrival. It stands apart so that a tile at which nobody does
     /// costs no more than a look.
     #[inline(never)]
-    fn let_leave(&mut self, leavers: &mut Option<Row>, sizes: Sizes, dim: u8)
+    fn let_leave(&mut self, leavers: &mut Option<Row>, sizes: Shape, dim: u8)
         requires dimension { dim < 12 }
         requires whole { IsTile self.old }
         requires within { (i : ℕ) → i < 64 → length (numbers_standing_at self.old i) ≤ sizes.room }
@@ -88,7 +88,7 @@ impl Tile {
 
     /// The same by number.
     #[inline(never)]
-    fn let_leave_by_number(&mut self, leavers: &mut Option<Row>, sizes: Sizes, dim: u8)
+    fn let_leave_by_number(&mut self, leavers: &mut Option<Row>, sizes: Shape, dim: u8)
         requires dimension { dim < 12 }
         requires whole { IsTile self.old }
         requires within { (i : ℕ) → i < 64 → length (numbers_standing_at self.old i) ≤ sizes.room }
@@ -102,7 +102,7 @@ impl Tile {
 
     /// How much room is enough to find who leaves: where no chip is full, that for one more than stand at any, since
     /// then nobody is the last of a full chip.
-    fn reach(&self, sizes: Sizes) -> usize
+    fn reach(&self, sizes: Shape) -> usize
         requires whole { IsTile self.now }
         ensures some { 0 < result }
         ensures most { result ≤ sizes.room }
@@ -123,7 +123,7 @@ impl Tile {
     }
 
     /// Takes in at each chip who comes across a dimension, of those who leave the tile there.
-    pub fn take_in(&mut self, leavers: &Option<Row>, sizes: Sizes, dim: u8)
+    pub fn take_in(&mut self, leavers: &Option<Row>, sizes: Shape, dim: u8)
         requires dimension { dim < 12 }
         requires shape { IsShaped self.old }
         requires long { IfSome leavers.now (λ row. length row ≡ 64) }
@@ -136,7 +136,7 @@ impl Tile {
     }
 
     /// Lets those who stay at each chip close up: nobody comes.
-    pub fn close_up(&mut self, sizes: Sizes)
+    pub fn close_up(&mut self, sizes: Shape)
         requires shape { IsShaped self.old }
         ensures value { HasTakenIn sizes.room (λ i. 0) self.old self.new }
     {
@@ -145,7 +145,7 @@ impl Tile {
     }
 
     /// Takes in at each chip who has been put down in the first slot.
-    fn take_in_first(&mut self, sizes: Sizes)
+    fn take_in_first(&mut self, sizes: Shape)
         requires shape { IsShaped self.old }
         requires taken { AreTaken self.old.first }
         ensures value { HasTakenIn sizes.room (λ i. slice_index self.old.first i) self.old self.new }
@@ -189,7 +189,7 @@ impl Tile {
 
     /// How much room is enough to take in who comes: where no chip is full but for him, that for one more than stand
     /// behind the first slot of any.
-    fn reach_behind(&self, sizes: Sizes) -> usize
+    fn reach_behind(&self, sizes: Shape) -> usize
         requires shape { IsShaped self.now }
         ensures some { 0 < result }
         ensures most { result ≤ sizes.room }
@@ -217,7 +217,7 @@ impl Tile {
     }
 
     /// Whether at some chip, where there is room for so many tickets, one stands whose message has arrived.
-    pub fn has_arrival(&self, sizes: Sizes) -> bool
+    pub fn has_arrival(&self, sizes: Shape) -> bool
         requires whole { IsTile self.now }
         ensures none { IsFalse result → (i j : ℕ) → i < 64 → j < sizes.room
             → is_arrival (slots_of self.now i j) ≡ false }

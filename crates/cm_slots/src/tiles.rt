@@ -18,7 +18,7 @@ use crate::moving::{have_arrival_over, move_over};
 use crate::order::Order;
 use crate::passes::cross;
 use crate::rows::{Row, WIDTH};
-use crate::sizes::Sizes;
+use crate::shape::Shape;
 use crate::ticket::Ticket;
 use crate::tile::Tile;
 use cm_bits::NoMemory;
@@ -157,7 +157,7 @@ impl Tiles {
 
     /// The first chip from this one on at which a ticket stands whose message has arrived; as many as there are, if
     /// there is none. Nowhere stand more tickets than there is room for.
-    pub fn next_arrived(&self, from: usize, sizes: Sizes) -> usize
+    pub fn next_arrived(&self, from: usize, sizes: Shape) -> usize
         requires from { from ≤ length self.now }
         requires within { All (λ ts. length ts ≤ sizes.room) self.now }
         ensures none { (c : ℕ) → from ≤ c → c < result → list_any has_come (nth_or_nil self.now c) ≡ false }
@@ -188,7 +188,7 @@ impl Tiles {
 
     /// The tickets of chips that span so many dimensions, with room for so many at each, cross one of them: all
     /// leave before any comes.
-    pub fn cross(&mut self, span: u8, sizes: Sizes, dim: u8)
+    pub fn cross(&mut self, span: u8, sizes: Shape, dim: u8)
         requires dimension { span ≤ 12 }
         requires dim { dim < span }
         requires count { length self.old ≡ 2 ^ span }
@@ -208,7 +208,7 @@ impl Tiles {
 
     /// The same, where of those that have to cross the lowest number goes first: at each chip it leaves, or where none
     /// has to and no room is left, the highest.
-    pub fn cross_by_number(&mut self, span: u8, sizes: Sizes, dim: u8)
+    pub fn cross_by_number(&mut self, span: u8, sizes: Shape, dim: u8)
         requires dimension { span ≤ 12 }
         requires dim { dim < span }
         requires count { length self.old ≡ 2 ^ span }
@@ -248,7 +248,7 @@ impl Tiles {
 
     /// The first half of a dimension by itself: who leaves each chip is taken out, and written down as it
     /// arrives across.
-    pub fn leave(&mut self, sizes: Sizes, dim: u8, leavers: &mut [Option<Ticket>])
+    pub fn leave(&mut self, sizes: Shape, dim: u8, leavers: &mut [Option<Ticket>])
         requires dim { dim < 12 }
         requires count { length leavers.old ≡ length self.old }
         requires within { All (λ ts. length ts ≤ sizes.room) self.old }

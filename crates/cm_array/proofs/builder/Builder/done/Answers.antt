@@ -3,7 +3,7 @@ use Rattle.std.specs.List.{flat_map}
 use Rattle.cm_model.specs.declared.message.Message.{Message}
 use Rattle.cm_model.specs.Array.{Chips}
 use Rattle.cm_model.specs.Unlogged.{standing_messages, has_tag_twice}
-use Rattle.cm_array.specs.declared.parts.Parts.{Parts}
+use Rattle.cm_array.specs.declared.chip_state.ChipState.{ChipState}
 use Rattle.cm_array.specs.Parts.{machine_of}
 use Rattle.cm_array.specs.Building.{parts_built, AreUnfinished}
 use Rattle.cm_array.proofs.Building.{AreParts-finished}
@@ -11,9 +11,9 @@ use Rattle.cm_array.proofs.builder.Builder.done.Goals as goal
 
 pub of_parts-requires : goal.of_parts-requires
 of_parts-requires g c =
-    let built : Parts = parts_built c.self.inside in
+    let built : ChipState = parts_built c.self.inside in
     let same : c.into_run.result ≡ built.run = c.into_run.ensures.value in
-    let parts : Parts = record built { run = c.into_run.result } in
+    let parts : ChipState = record built { run = c.into_run.result } in
     let unfinished : AreUnfinished g.row.N g.row.CAP parts =
     subst (λ (run : Chips). AreUnfinished g.row.N g.row.CAP (record parts { run = run })) (sym same) c.self.invariant in
     let apart : has_tag_twice (standing_messages (machine_of parts)) ≡ false =

@@ -9,7 +9,7 @@ use Rattle.cm_petit.specs.Routers.{events_of}
 use Rattle.cm_array.specs.Rows.{dealt}
 use Rattle.cm_array.proofs.Dealing.{dealt-cut}
 use Rattle.cm_array.proofs.Machines.{length-logs, AreUnderWay-parts}
-use Rattle.cm_array.specs.declared.parts.Parts.{Parts}
+use Rattle.cm_array.specs.declared.chip_state.ChipState.{ChipState}
 use Rattle.cm_array.specs.Parts.{Kept}
 use Rattle.cm_array.proofs.Lists.{items-lent}
 use Rattle.cm_array.proofs.Rooms.{room_that_can_be}
@@ -37,7 +37,7 @@ lay_all_buffers-requires-clause-few g c = few_buffers g.row.N g.row.CAP c.self.i
 pub lay_all_buffers-requires-clause-within : goal.lay_all_buffers-requires-clause-within
 lay_all_buffers-requires-clause-within g c = within_fifteen g.row.N g.row.CAP c.self.inside.parts c.self.invariant
 
-parts_cut : (g : Over) → In_ok-routing g → Parts
+parts_cut : (g : Over) → In_ok-routing g → ChipState
 parts_cut g c = record {
   run = c.lay_chips.new.run;
   logs = with_items (with_items c.args.room.logs c.lay_told.new.logs) c.reserve.new.logs;

@@ -1,7 +1,7 @@
 use Rattle.std.proofs.Common.{◌≡◌, ◌+◌, ◌*◌, ◌^◌, ◌<◌, ℕ, rules, sym, subst, arith}
 use Rattle.std.proofs.lemmas.Nat.{pow_pos}
 use Rattle.cm_router.specs.Logs.{log_room}
-use Rattle.cm_array.specs.declared.parts.Parts.{Parts}
+use Rattle.cm_array.specs.declared.chip_state.ChipState.{ChipState}
 use Rattle.cm_array.specs.Parts.{Kept, LacksLogRoom, shares}
 use Rattle.cm_array.proofs.Rooms.{on_err, share_lacks}
 use Rattle.cm_array.proofs.Machines.{length-logs, AreUnderWay-parts}
@@ -17,7 +17,7 @@ returns-in_err-make_room-clause-memory g c =
     let short : log_room c.pass_time.new.parts.row < cycles * (c.chip_count.result * most) =
     omega (arith, c.in_err-make_room.ensures.full) in
     let few : log_room parts.row < cycles * (2 ^ g.row.N * most) =
-    subst (λ (p : Parts). log_room p.row < cycles * (2 ^ g.row.N * most)) same
+    subst (λ (p : ChipState). log_room p.row < cycles * (2 ^ g.row.N * most)) same
     (subst (λ (n : ℕ). log_room c.pass_time.new.parts.row < cycles * (n * most)) c.chip_count.ensures.value short) in
     on_err c.from_residual.result
     (subst (λ (k : Kept). LacksLogRoom (cycles * most) k.log_rooms) c.self.view_is
