@@ -36,7 +36,7 @@ use Rattle.cm_router.specs.Logs.{Log}
 use Rattle.cm_router.specs.Routes.{routing_of}
 use Rattle.cm_petit.specs.Routers.{part_from_logs}
 use Rattle.cm_array.specs.declared.chip_state.ChipState.{ChipState}
-use Rattle.cm_array.specs.Cuts.{KeptPart, kept_part, IsKeptPart}
+use Rattle.cm_array.specs.Cuts.{PartView, part_view, IsPartView}
 use Rattle.cm_array.specs.Bands.{IsBand, IsStepped, edge_from, IsEdgeOf}
 
 from_0 : (c : ℕ) → c - 0 ≡ c
@@ -182,20 +182,20 @@ chips_stay n nano edge old new first is rows fit =
     ∙ length-tabulate first (length old)
     (λ c. chip_after nano (incoming_in n nano (Edge (edge_bits edge)) s c) (chip_in s c))
 
-module _ (dims room first : ℕ) (parts : ChipState) (old : KeptPart) (nano : Nano) (edge : List ℕ) (run : Chips)
-    (sent incoming : Vec ℕ) (view : kept_part dims room first parts ≡ old) (was : IsKeptPart dims room first parts)
+module _ (dims room first : ℕ) (parts : ChipState) (old : PartView) (nano : Nano) (edge : List ℕ) (run : Chips)
+    (sent incoming : Vec ℕ) (view : part_view dims room first parts ≡ old) (was : IsPartView dims room first parts)
     (band : IsBand old.dims old.part) (is : IsStepped dims nano edge parts.run run) where
-  here : IsBand dims (kept_part dims room first parts).part
-  here = subst (λ (k : KeptPart). IsBand k.dims k.part) (sym view) band
+  here : IsBand dims (part_view dims room first parts).part
+  here = subst (λ (k : PartView). IsBand k.dims k.part) (sym view) band
 
   pub as_many : length run ≡ length parts.run
   as_many = chips_stay dims nano edge parts.run run first is here.first was.there
 
-  pub kept_instructed : kept_part dims room first (record parts { run = run; sent = sent; incoming = incoming })
+  pub kept_instructed : part_view dims room first (record parts { run = run; sent = sent; incoming = incoming })
       ≡ record old { part = part_after old.dims old.room (Instruct nano) (Edge (edge_bits edge)) old.part }
   kept_instructed =
-      let before = kept_part dims room first parts in
-      subst (λ (k : KeptPart). kept_part dims room first (record parts { run = run; sent = sent; incoming = incoming })
+      let before = part_view dims room first parts in
+      subst (λ (k : PartView). part_view dims room first (record parts { run = run; sent = sent; incoming = incoming })
       ≡ record k { part = part_after k.dims k.room (Instruct nano) (Edge (edge_bits edge)) k.part }) view
       (λ t. record {
         dims = dims;
@@ -209,7 +209,7 @@ module _ (dims room first : ℕ) (parts : ChipState) (old : KeptPart) (nano : Na
       })
 
   pub IsKeptPart-instructed : length sent.items ≡ length parts.run → length incoming.items ≡ length parts.run
-      → IsKeptPart dims room first (record parts { run = run; sent = sent; incoming = incoming })
+      → IsPartView dims room first (record parts { run = run; sent = sent; incoming = incoming })
   IsKeptPart-instructed sent_count incoming_count =
       let many = as_many in
       record {

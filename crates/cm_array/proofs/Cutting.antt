@@ -14,7 +14,7 @@ use Rattle.cm_router.specs.Logs.{Log}
 use Rattle.cm_petit.specs.Routers.{events_of, part_from_logs}
 use Rattle.cm_array.specs.declared.chip_state.ChipState.{ChipState}
 use Rattle.cm_array.specs.Parts.{machine_of, AreParts}
-use Rattle.cm_array.specs.Cuts.{IsKeptPart}
+use Rattle.cm_array.specs.Cuts.{IsPartView}
 use Rattle.cm_array.proofs.Machines.{few_chips}
 
 -- no chip of a machine has more messages than any router has room for, and no machine has more chips than this
@@ -71,7 +71,7 @@ module _ (n cap first count : ℕ) (old new : ChipState) (were : AreParts n cap 
       omega (arith, is, were.machine.room (first + c) (omega (arith, there, below))))
 
   -- so it is the part of the machine
-  pub IsKeptPart-cut : IsKeptPart n cap first new
+  pub IsKeptPart-cut : IsPartView n cap first new
   IsKeptPart-cut = record {
     sized = record {
       sizes = were.sized.sizes;

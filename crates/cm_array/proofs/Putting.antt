@@ -21,7 +21,7 @@ use Rattle.cm_router.proofs.Telling.{with_row-nil}
 use Rattle.cm_petit.specs.Routers.{events_of}
 use Rattle.cm_array.specs.declared.chip_state.ChipState.{ChipState}
 use Rattle.cm_array.specs.Parts.{machine_of, AreParts}
-use Rattle.cm_array.specs.Cuts.{KeptPart, IsLaid, first_clock, first_routing, joined}
+use Rattle.cm_array.specs.Cuts.{PartView, IsLaid, first_clock, first_routing, joined}
 use Rattle.cm_array.proofs.Machines.{AreSized-again}
 use Rattle.std.proofs.lemmas.Nat.{pow_pos}
 
@@ -72,7 +72,7 @@ next_put {A} {X} lists_of pieces j at s now new next end l is after there put la
     }
 
 -- the next of those that are held
-pub next_held : {A : Type 0} (held : A → KeptPart) (pieces : List A) (j : ℕ) (piece : A) (kept : KeptPart)
+pub next_held : {A : Type 0} (held : A → PartView) (pieces : List A) (j : ℕ) (piece : A) (kept : PartView)
     → (j < length pieces) × (piece ≡ get_or pieces j piece) → kept ≡ held piece
     → (j < length (map (λ x. (held x).part) pieces))
     × (kept.part ≡ get_or (map (λ x. (held x).part) pieces) j kept.part)
@@ -80,7 +80,7 @@ next_held {A} held pieces j piece kept turn is =
     let part_of : A → Part = λ x. (held x).part in (
       omega (arith, turn.0, length-map pieces part_of),
       sym (get_or-map part_of pieces j piece kept.part turn.0 ∙ ap part_of (sym turn.1)
-          ∙ ap (λ (k : KeptPart). k.part) (sym is)),
+          ∙ ap (λ (k : PartView). k.part) (sym is)),
     )
 
 -- all of them

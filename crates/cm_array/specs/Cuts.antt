@@ -13,7 +13,7 @@ use Rattle.cm_router.specs.Logs.{log_rooms_of}
 use Rattle.cm_router.specs.Routes.{routing_of}
 
 -- what contracts see of a part
-pub record KeptPart : Type 0 where
+pub record PartView : Type 0 where
   -- the dimensions of the cube that its chips are of, and how many messages a router has room for
   pub dims : ℕ
   pub room : ℕ
@@ -24,8 +24,8 @@ pub record KeptPart : Type 0 where
   pub gathered : Bool
 
 -- that of a part that begins at chip `first`
-abbrev pub kept_part : ℕ → ℕ → ℕ → ChipState → KeptPart
-kept_part dims room first parts = record {
+abbrev pub part_view : ℕ → ℕ → ℕ → ChipState → PartView
+part_view dims room first parts = record {
   dims = dims;
   room = room;
   part = part_from_logs (routing_of parts.routing) first (length parts.run) parts.run parts.crossing.buffers parts.logs.items
@@ -35,7 +35,7 @@ kept_part dims room first parts = record {
 }
 
 -- some chips of a cube of n dimensions, with a buffer, a log and working room for each
-pub record IsKeptPart (n cap first : ℕ) (parts : ChipState) : Type 0 where
+pub record IsPartView (n cap first : ℕ) (parts : ChipState) : Type 0 where
   pub sized : AreSized n cap (length parts.run) parts
   pub there : first + length parts.run ≤ 2 ^ n
   pub buffer_count : length parts.crossing.buffers ≡ length parts.run

@@ -20,13 +20,13 @@ abbrev pub shares : ℕ → ℕ → List ℕ
 shares chips room = replicate chips (room / chips)
 
 -- a machine, and by chip its share of how many events more the row takes before it has to grow
-pub record Kept : Type 0 where
+pub record MachineView : Type 0 where
   pub machine : Machine
   pub log_rooms : List ℕ
 
 -- what contracts see of the parts
-abbrev pub kept_of : ChipState → Kept
-kept_of parts = record {
+abbrev pub view_of : ChipState → MachineView
+view_of parts = record {
   machine = machine_of parts;
   log_rooms = shares (length parts.logs.items) (log_room parts.row);
 }

@@ -18,7 +18,7 @@ ghost use Rattle.cm_router.specs.Routes.{routing_of};
 ghost use Rattle.cm_array.specs.Cuts.{joined, AreWhole};
 ghost use Rattle.cm_array.specs.SavedLogs.{unlogged, logs_appended, TakeIn};
 ghost use Rattle.cm_array.specs.Faults.{size_fault};
-ghost use Rattle.cm_array.specs.Parts.{kept_of, AreParts, LacksLogRoom};
+ghost use Rattle.cm_array.specs.Parts.{view_of, AreParts, LacksLogRoom};
 ghost use Rattle.cm_array.specs.Rooms.{IsRoomFor};
 ghost use Rattle.cm_array.specs.Pokes.{machine_with_memory_bit, machine_with_flag};
 
@@ -86,11 +86,11 @@ pub struct Machine<const N: usize, const CAP: usize> {
 }
 
 impl<const N: usize, const CAP: usize> Model for Machine<N, CAP> {
-    ghost use Rattle.cm_array.specs.Parts.{Kept, kept_of, AreParts};
+    ghost use Rattle.cm_array.specs.Parts.{MachineView, view_of, AreParts};
 
-    ghost Value = { Kept };
+    ghost Value = { MachineView };
 
-    ghost view = { λ machine. kept_of machine.parts };
+    ghost view = { λ machine. view_of machine.parts };
 
     ghost invariant = { λ machine. AreParts N CAP machine.parts };
 }
@@ -142,7 +142,7 @@ impl<const N: usize, const CAP: usize> Machine<N, CAP> {
 
     /// What it keeps.
     pub(crate) fn into_parts(self) -> ChipState
-        ensures value { kept_of result ≡ self.entry }
+        ensures value { view_of result ≡ self.entry }
         ensures parts { AreParts N CAP result }
     {
         self.parts
@@ -151,7 +151,7 @@ impl<const N: usize, const CAP: usize> Machine<N, CAP> {
     /// The machine that keeps these.
     pub(crate) fn of_parts(parts: ChipState) -> Self
         requires parts { AreParts N CAP parts }
-        ensures value { result ≡ kept_of parts }
+        ensures value { result ≡ view_of parts }
     {
         Machine { parts }
     }

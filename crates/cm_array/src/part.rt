@@ -11,7 +11,7 @@ ghost use Rattle.cm_blocks.specs.Parcels.{Mail, due};
 ghost use Rattle.cm_blocks.specs.Steps.{less, absorbed};
 ghost use Rattle.cm_blocks.specs.Parts.{cut, chip_in, buffer_in, log_in};
 ghost use Rattle.cm_router.specs.Routes.{routing_of};
-ghost use Rattle.cm_array.specs.Cuts.{kept_part, IsKeptPart, IsLaid};
+ghost use Rattle.cm_array.specs.Cuts.{part_view, IsPartView, IsLaid};
 
 use crate::chip_state::ChipState;
 use cm_crossing::{RouterEngine, Shape};
@@ -38,20 +38,20 @@ pub struct Part {
 }
 
 impl Model for Part {
-    ghost use Rattle.cm_array.specs.Cuts.{KeptPart, kept_part, IsKeptPart};
+    ghost use Rattle.cm_array.specs.Cuts.{PartView, part_view, IsPartView};
 
-    ghost Value = { KeptPart };
+    ghost Value = { PartView };
 
-    ghost view = { λ part. kept_part part.sizes.dims part.sizes.room part.first part.parts };
+    ghost view = { λ part. part_view part.sizes.dims part.sizes.room part.first part.parts };
 
-    ghost invariant = { λ part. IsKeptPart part.sizes.dims part.sizes.room part.first part.parts };
+    ghost invariant = { λ part. IsPartView part.sizes.dims part.sizes.room part.first part.parts };
 }
 
 impl Part {
     /// What it keeps of its chips.
     pub(crate) fn into_parts(self) -> ChipState
-        ensures value { kept_part self.dims self.room self.part.first result ≡ self }
-        ensures kept { IsKeptPart self.dims self.room self.part.first result }
+        ensures value { part_view self.dims self.room self.part.first result ≡ self }
+        ensures kept { IsPartView self.dims self.room self.part.first result }
     {
         self.parts
     }

@@ -16,10 +16,10 @@ use std::mem;
 
 /// What holds a part of a machine.
 pub trait IntoPart {
-    ghost use Rattle.cm_array.specs.Cuts.{KeptPart};
+    ghost use Rattle.cm_array.specs.Cuts.{PartView};
 
     /// The part that it holds.
-    ghost held: { Self → KeptPart };
+    ghost held: { Self → PartView };
 
     /// Gives the part that it holds.
     fn into_part(self) -> Part

@@ -7,13 +7,13 @@ use Rattle.cm_model.specs.Whole.{IsChip}
 use Rattle.cm_model.specs.Each.{tabulate}
 use Rattle.cm_model.specs.Array.{Chips, chip_at}
 use Rattle.cm_element.specs.Wide.{with_memory_field}
-use Rattle.cm_array.specs.Parts.{Kept}
+use Rattle.cm_array.specs.Parts.{MachineView}
 use Rattle.cm_lab.specs.declared.order.Order.{Order}
 use Rattle.cm_lab.specs.Data.{processor_with, number_for, chip_with_numbers, chips_with_numbers}
 use Rattle.cm_lab.proofs.Filling.{filled, each_filled-none, each_filled-all, get_or-each_filled, each_filled-more}
 
 -- the machine with other chips
-abbrev pub with_chips : Kept → Chips → Kept
+abbrev pub with_chips : MachineView → Chips → MachineView
 with_chips kept chips = record kept { machine = record kept.machine { chips = chips } }
 
 -- ---- a chip

@@ -17,7 +17,7 @@ use Rattle.cm_blocks.specs.Parts.{Part, block}
 use Rattle.cm_blocks.specs.Rounds.{rounds}
 use Rattle.cm_blocks.proofs.Rounding.{rounds_end_the_run}
 use Rattle.cm_array.specs.Cuts.{joined, AreWhole}
-use Rattle.cm_subcube.specs.Blocks.{KeptBlock}
+use Rattle.cm_subcube.specs.Blocks.{BlockView}
 use Rattle.cm_subcube.specs.Laws.{all_blocks}
 use Rattle.cm_subcube.specs.Rounds.{round_of}
 use Rattle.cm_subcube.proofs.Joining.{joined-blocks, AreWhole-blocks}
@@ -33,12 +33,12 @@ use Rattle.cm_resident.specs.TeamSetups.{AreLinedUp}
 -- ---- the blocks of all workers
 
 -- what worker w of so many left: its share of the blocks, as they are after the run
-pub record IsLeft (run : Run) (count w : ℕ) (blocks : List KeptBlock) : Type 0 where
+pub record IsLeft (run : Run) (count w : ℕ) (blocks : List BlockView) : Type 0 where
   pub share : (q : ℕ) → (q < length blocks) ↔ (q * count + w < 2 ^ run.k)
-  pub each : (q : ℕ) (d : KeptBlock) → q < length blocks
+  pub each : (q : ℕ) (d : BlockView) → q < length blocks
       → (get_or blocks q d).kept.part ≡ block run.n run.k (q * count + w) (before run (length (rounds_in run)))
 
-left_by : (run : Run) (count w : ℕ) (worker : Worker) (blocks : List KeptBlock) → worker.id ≡ w
+left_by : (run : Run) (count w : ℕ) (worker : Worker) (blocks : List BlockView) → worker.id ≡ w
     → IsOfTeam run count worker → HasWorked worker blocks → IsLeft run count w blocks
 left_by run count w worker blocks id_is of has =
     let done = has run count of in
@@ -54,12 +54,12 @@ first_of (x ∷ xs) some = x
 
 -- ---- a team whose workers have left their shares
 
-module _ (run : Run) (count : ℕ) (team : List Worker) (shares : List (Vec KeptBlock Global)) (some : 0 < count)
+module _ (run : Run) (count : ℕ) (team : List Worker) (shares : List (Vec BlockView Global)) (some : 0 < count)
     (is : IsTeam run count team) (have : HaveWorked team shares) where
   many : length shares ≡ count
   many = have.len ∙ is.len
 
-  left : (w : ℕ) (e : Vec KeptBlock Global) → w < count → IsLeft run count w (hand shares e w)
+  left : (w : ℕ) (e : Vec BlockView Global) → w < count → IsLeft run count w (hand shares e w)
   left w e l =
       let there : w < length team = (let f = is.len in omega (arith, l, f)) in
       let d : Worker = first_of team (omega (arith, there)) in
@@ -68,7 +68,7 @@ module _ (run : Run) (count : ℕ) (team : List Worker) (shares : List (Vec Kept
   are_shares : AreShares (length shares) (2 ^ run.k) shares
   are_shares = subst (λ (m : ℕ). AreShares m (2 ^ run.k) shares) (sym many) (λ w q e l. (left w e l).share q)
 
-  after_all : (blocks : List KeptBlock) → length blocks ≡ 2 ^ run.k → AreDealt (length shares) blocks shares
+  after_all : (blocks : List BlockView) → length blocks ≡ 2 ^ run.k → AreDealt (length shares) blocks shares
       → AreAfter run.n run.k run.room run.machine run.acts blocks
   after_all blocks full dealt = record {
     count = full;
@@ -76,7 +76,7 @@ module _ (run : Run) (count : ℕ) (team : List Worker) (shares : List (Vec Kept
         let q : ℕ = b / count in let w : ℕ = b % count in
         let whole : q * count + w ≡ b = div-add-mod' b count in
         let below : w < count = mod-lt b some in
-        let e : Vec KeptBlock Global = first_of shares (omega (arith, some, many)) in
+        let e : Vec BlockView Global = first_of shares (omega (arith, some, many)) in
         let it = left w e below in
         let there : q * count + w < 2 ^ run.k = omega (arith, whole, l) in
         let inside : q < length (hand shares e w) = (it.share q).1 there in
@@ -84,7 +84,7 @@ module _ (run : Run) (count : ℕ) (team : List Worker) (shares : List (Vec Kept
         let read : get_or (hand shares e w) q x ≡ get_or blocks (q * count + w) x =
         as_dealt.each w q e x below (omega (arith, there, full)) in
         ap (λ (v : ℕ). (get_or blocks v x).kept.part) (sym whole)
-        ∙ ap (λ (one : KeptBlock). one.kept.part) (sym read)
+        ∙ ap (λ (one : BlockView). one.kept.part) (sym read)
         ∙ it.each q x inside
         ∙ ap (λ (v : ℕ). block run.n run.k v (before run (length (rounds_in run)))) whole
         ∙ ap (λ (r : ℕ). block run.n run.k b (before run r)) (length-map (rounds run.n run.k run.acts) round_of);
@@ -93,23 +93,23 @@ module _ (run : Run) (count : ℕ) (team : List Worker) (shares : List (Vec Kept
 -- ---- and their machine
 
 -- some block
-no_block : ℕ → ℕ → Machine → KeptBlock
+no_block : ℕ → ℕ → Machine → BlockView
 no_block n k machine = record {
   k = k;
   kept = record { dims = n; room = 0; part = block n k 0 machine; log_rooms = []; gathered = true };
 }
 
 -- blocks after a run are those of the machine after it
-after_are : (n cap k : ℕ) (machine : Machine) (acts : List Act) (blocks : List KeptBlock) (one : KeptBlock)
+after_are : (n cap k : ℕ) (machine : Machine) (acts : List Act) (blocks : List BlockView) (one : BlockView)
     → IsMachine n cap machine
     → AreAfter n k cap machine acts blocks
-    → map (λ (b : KeptBlock). b.kept.part) blocks ≡ all_blocks n k (run_of n cap machine acts)
+    → map (λ (b : BlockView). b.kept.part) blocks ≡ all_blocks n k (run_of n cap machine acts)
 after_are n cap k machine acts blocks one is after =
     is_each (block n k 0 machine) (2 ^ k) (λ b. block n k b (run_of n cap machine acts))
-    (map (λ (b : KeptBlock). b.kept.part) blocks)
-    (length-map blocks (λ (b : KeptBlock). b.kept.part) ∙ after.count)
+    (map (λ (b : BlockView). b.kept.part) blocks)
+    (length-map blocks (λ (b : BlockView). b.kept.part) ∙ after.count)
     (λ b l. let below : b < length blocks = omega (arith, l, after.count) in
-    get_or-map (λ (z : KeptBlock). z.kept.part) blocks b one (block n k 0 machine) below ∙ after.each b one l
+    get_or-map (λ (z : BlockView). z.kept.part) blocks b one (block n k 0 machine) below ∙ after.each b one l
     ∙ ap (λ (m : Machine). block n k b m) (rounds_end_the_run n cap k machine acts is.buffer_count))
 
 pub teams_leave_their_machine : TeamsLeaveTheirMachine
@@ -121,7 +121,7 @@ teams_leave_their_machine run count team shares some is_machine is have =
     record {
       are_shares = are_shares run count team shares some is have;
       machine = λ blocks full dealt.
-          let are : map (λ (b : KeptBlock). b.kept.part) blocks ≡ all_blocks n k (run_of n cap machine acts) =
+          let are : map (λ (b : BlockView). b.kept.part) blocks ≡ all_blocks n k (run_of n cap machine acts) =
           after_are n cap k machine acts blocks (no_block n k machine) is_machine
           (after_all run count team shares some is have blocks full dealt) in record {
             whole = subst (λ (parts : List Part). AreWhole n cap parts) (sym are)
@@ -131,10 +131,10 @@ teams_leave_their_machine run count team shares some is_machine is have =
     }
 
 -- what threads promise that were handed a team
-pub have_worked : (team : List Worker) (readies : List PendingWorker) (shares : List (Vec KeptBlock Global))
+pub have_worked : (team : List Worker) (readies : List PendingWorker) (shares : List (Vec BlockView Global))
     → length readies ≡ length team → length shares ≡ length readies
     → ((w : ℕ) (d : PendingWorker) (e : Worker) → w < length team → (get_or readies w d).worker ≡ get_or team w e)
-    → ((w : ℕ) (d : PendingWorker) (e : Vec KeptBlock Global) → w < length readies
+    → ((w : ℕ) (d : PendingWorker) (e : Vec BlockView Global) → w < length readies
     → HasWorked (get_or readies w d).worker (get_or shares w e).items)
     → HaveWorked team shares
 have_worked team readies shares ready_count share_count ready have = record {
@@ -146,10 +146,10 @@ have_worked team readies shares ready_count share_count ready have = record {
 }
 
 -- a team that was lined up and has worked leaves its machine
-pub lined_up_leave : (run : Run) (count : ℕ) (readies : List PendingWorker) (shares : List (Vec KeptBlock Global))
+pub lined_up_leave : (run : Run) (count : ℕ) (readies : List PendingWorker) (shares : List (Vec BlockView Global))
     → 0 < length readies → IsMachine run.n run.room run.machine → AreLinedUp run count readies
     → length shares ≡ length readies
-    → ((w : ℕ) (d : PendingWorker) (e : Vec KeptBlock Global) → w < length readies
+    → ((w : ℕ) (d : PendingWorker) (e : Vec BlockView Global) → w < length readies
     → HasWorked (get_or readies w d).worker (get_or shares w e).items)
     → LeaveTheirMachine run shares
 lined_up_leave run count readies shares some is_machine lined share_count have =

@@ -13,7 +13,7 @@ use Rattle.cm_blocks.specs.Parts.{Part, block}
 use Rattle.cm_blocks.specs.Parcels.{Parcel}
 use Rattle.cm_array.specs.Acts.{cycles_in}
 use Rattle.cm_router.specs.Logs.{HaveLogRoom}
-use Rattle.cm_subcube.specs.Blocks.{KeptBlock, IsFresh}
+use Rattle.cm_subcube.specs.Blocks.{BlockView, IsFresh}
 use Rattle.cm_subcube.specs.Laws.{all_blocks}
 use Rattle.cm_subcube.proofs.Joining.{clock-block}
 use Rattle.cm_board.specs.Courses.{Course}
@@ -28,24 +28,24 @@ use Rattle.cm_resident.proofs.Numbered.{none_yet, one_more}
 
 -- ---- blocks that were just cut
 
-pub just_cut : (n cap k cycles : ℕ) (machine : Machine) (acts : List Act) (blocks : List KeptBlock)
-    → map (λ (b : KeptBlock). b.kept.part) blocks ≡ all_blocks n k machine
+pub just_cut : (n cap k cycles : ℕ) (machine : Machine) (acts : List Act) (blocks : List BlockView)
+    → map (λ (b : BlockView). b.kept.part) blocks ≡ all_blocks n k machine
     → All (IsFresh n cap k (cycles * (4 + cap))) blocks → cycles_in acts ≡ cycles → machine.clock + cycles < 2 ^ 63
     → AreFrom (IsRunBlock (record { n = n; k = k; room = cap; machine = machine; acts = acts })) 0 (2 ^ k) blocks
 just_cut n cap k cycles machine acts blocks cut fresh counted late =
     let count : length blocks ≡ 2 ^ k =
-    sym (length-map blocks (λ (b : KeptBlock). b.kept.part)) ∙ ap length cut
+    sym (length-map blocks (λ (b : BlockView). b.kept.part)) ∙ ap length cut
     ∙ length-tabulate 0 (2 ^ k) (λ b. block n k b machine) in
     record {
       len = omega (arith, count);
       each = λ p d l.
-          let one : KeptBlock = get_or blocks p d in
+          let one : BlockView = get_or blocks p d in
           let below : p < length blocks = omega (arith, l, count) in
           let new : IsFresh n cap k (cycles * (4 + cap)) one =
           All-get_or (IsFresh n cap k (cycles * (4 + cap))) blocks p d below fresh in
           let at : p ≡ 0 + p = omega arith in
           let is : one.kept.part ≡ block n k p machine =
-          sym (get_or-map (λ (z : KeptBlock). z.kept.part) blocks p d (block n k p machine) below)
+          sym (get_or-map (λ (z : BlockView). z.kept.part) blocks p d (block n k p machine) below)
           ∙ ap (λ (parts : List Part). get_or parts p (block n k p machine)) cut
           ∙ get_or-each_below (2 ^ k) (λ j. block n k j machine) p (block n k p machine) (omega (arith, below, count)) in
           record {
@@ -90,7 +90,7 @@ ends_more run whose count w m old ends are has = let e : ℕ = ends_each run.k i
 -- ---- what a worker has
 
 -- its first m blocks and their ends
-pub record HasFirst (run : Run) (count w m : ℕ) (blocks : List KeptBlock) (sends gets : List (Course Parcel)) : Type 0 where
+pub record HasFirst (run : Run) (count w m : ℕ) (blocks : List BlockView) (sends gets : List (Course Parcel)) : Type 0 where
   pub blocks_are : AreAll (λ i. IsRunBlock run (block_number count w i)) m blocks
   pub sends_are : AreEndsBefore run own 0 count w m sends
   pub gets_are : AreEndsBefore run givers 0 count w m gets
@@ -104,7 +104,7 @@ none_of_them run count w = record {
 
 -- one more of them
 pub one_more_of_them : (run : Run) (count w m : ℕ) (worker_parts : List WorkerParts) (one : WorkerParts)
-    (blocks blocks_now : List KeptBlock)
+    (blocks blocks_now : List BlockView)
     (sends sends_now gets gets_now : List (Course Parcel)) → HasWorkerParts run count w worker_parts → m < length worker_parts
     → one ≡ get_or worker_parts m one → HasFirst run count w m blocks sends gets
     → blocks_now ≡ blocks ++ one.block ∷ [] → sends_now ≡ sends ++ one.sends.items → gets_now ≡ gets ++ one.gets.items
@@ -120,7 +120,7 @@ one_more_of_them run count w m worker_parts one blocks blocks_now sends sends_no
     }
 
 -- all of them
-pub has_all : (run : Run) (count w : ℕ) (worker_parts : List WorkerParts) (blocks : List KeptBlock) (sends gets : List (Course Parcel))
+pub has_all : (run : Run) (count w : ℕ) (worker_parts : List WorkerParts) (blocks : List BlockView) (sends gets : List (Course Parcel))
     → run.k ≤ run.n - run.n / 2 → w < count → w < 2 ^ run.k → HasWorkerParts run count w worker_parts
     → HasFirst run count w (length worker_parts) blocks sends gets
     → IsUnused run count w blocks sends gets

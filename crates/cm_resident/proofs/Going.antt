@@ -28,7 +28,7 @@ use Rattle.cm_router.proofs.Rooms.{room_left, less_room}
 use Rattle.cm_array.specs.Acts.{cycles_in}
 use Rattle.cm_subcube.specs.declared.round.Kind.{Kind}
 use Rattle.cm_subcube.specs.declared.round.Round.{Round}
-use Rattle.cm_subcube.specs.Blocks.{KeptBlock}
+use Rattle.cm_subcube.specs.Blocks.{BlockView}
 use Rattle.cm_subcube.specs.Rounds.{kind_of, kind_over, round_of, rounds_of, step_of}
 use Rattle.cm_subcube.specs.Parcels.{blank_parcel, IsOfKind, HaveSpaceFor, SparesCuts, IsExchange}
 use Rattle.cm_subcube.specs.Local.{local_after, IsRoundOf}
@@ -47,24 +47,24 @@ use Rattle.cm_resident.proofs.Ends.{kind_of_place}
 
 -- ---- a run of the sizes of a block
 
-pub record HasSizes (run : Run) (one : KeptBlock) : Type 0 where
+pub record HasSizes (run : Run) (one : BlockView) : Type 0 where
   pub blocks : one.k ≡ run.k
   pub dims : one.kept.dims ≡ run.n
   pub room_is : one.kept.room ≡ run.room
 
-abbrev own_run : Run → KeptBlock → Run
+abbrev own_run : Run → BlockView → Run
 own_run run one =
     record { n = one.kept.dims; k = one.k; room = one.kept.room; machine = run.machine; acts = run.acts }
 
-same_run : (run : Run) (one : KeptBlock) → HasSizes run one → own_run run one ≡ run
+same_run : (run : Run) (one : BlockView) → HasSizes run one → own_run run one ≡ run
 same_run run one s i =
     record { n = s.dims i; k = s.blocks i; room = s.room_is i; machine = run.machine; acts = run.acts }
 
 -- what is shown of runs of a block's own sizes is so of the run
-at_own : (run : Run) (one : KeptBlock) (P : Run → Type 0) → HasSizes run one → P (own_run run one) → P run
+at_own : (run : Run) (one : BlockView) (P : Run → Type 0) → HasSizes run one → P (own_run run one) → P run
 at_own run one P s p = subst P (same_run run one s) p
 
-as_own : (run : Run) (one : KeptBlock) (P : Run → Type 0) → HasSizes run one → P run → P (own_run run one)
+as_own : (run : Run) (one : BlockView) (P : Run → Type 0) → HasSizes run one → P run → P (own_run run one)
 as_own run one P s p = subst P (sym (same_run run one s)) p
 
 -- ---- counters, and what a round sends
@@ -156,7 +156,7 @@ count_of_block n k b machine = refl
 following_none : (n k : ℕ) (acts : List Act) → ForSome None (λ round. IsRoundOf n k acts round)
 following_none n k acts round is = absurd (let wrong : None ≡ Some round = is in cc)
 
-can_begin_own : (run : Run) (b : ℕ) (one : KeptBlock) → IsRunBlock (own_run run one) b one → CanGoOn run.acts None one
+can_begin_own : (run : Run) (b : ℕ) (one : BlockView) → IsRunBlock (own_run run one) b one → CanGoOn run.acts None one
 can_begin_own run b one cut = let n = one.kept.dims in let k = one.k in let room = one.kept.room in record {
   following = following_none n k run.acts;
   log_room = less_room (events_in room (local_after n k run.acts None)) (cycles_in run.acts * (4 + room))
@@ -164,12 +164,12 @@ can_begin_own run b one cut = let n = one.kept.dims in let k = one.k in let room
   clock = let f = deliveries_shared.first n k run.acts in let c = cut.clock in omega (arith, f, c);
 }
 
-pub can_begin : (run : Run) (b : ℕ) (one : KeptBlock) → IsRunBlock run b one → CanGoOn run.acts None one
+pub can_begin : (run : Run) (b : ℕ) (one : BlockView) → IsRunBlock run b one → CanGoOn run.acts None one
 can_begin run b one cut =
     can_begin_own run b one (as_own run one (λ x. IsRunBlock x b one)
     (record { blocks = cut.blocks; dims = cut.dims; room_is = cut.room_is }) cut)
 
-begun_own : (run : Run) (b : ℕ) (old new : KeptBlock) → old.k ≤ old.kept.dims - old.kept.dims / 2 → b < 2 ^ old.k
+begun_own : (run : Run) (b : ℕ) (old new : BlockView) → old.k ≤ old.kept.dims - old.kept.dims / 2 → b < 2 ^ old.k
     → IsRunBlock (own_run run old) b old → HasGoneOn run.acts None old new → StandsBefore (own_run run old) 0 b new
 begun_own run b old new within below cut gone =
     let n = old.kept.dims in let k = old.k in let room = old.kept.room in let acts = run.acts in
@@ -189,7 +189,7 @@ begun_own run b old new within below cut gone =
       clock = let f = deliveries_shared.first n k acts in let c = cut.clock in omega (arith, f, c, counted);
     }
 
-pub begun : (run : Run) (b : ℕ) (old new : KeptBlock) → run.k ≤ run.n - run.n / 2 → b < 2 ^ run.k
+pub begun : (run : Run) (b : ℕ) (old new : BlockView) → run.k ≤ run.n - run.n / 2 → b < 2 ^ run.k
     → IsRunBlock run b old → HasGoneOn run.acts None old new → StandsBefore run 0 b new
 begun run b old new within below cut gone =
     let s : HasSizes run old = record { blocks = cut.blocks; dims = cut.dims; room_is = cut.room_is } in
@@ -198,9 +198,9 @@ begun run b old new within below cut gone =
     (as_own run old (λ x. b < 2 ^ x.k) s below) (as_own run old (λ x. IsRunBlock x b old) s cut) gone)
 
 -- a block that may be read stands as it did
-pub shown : (run : Run) (r b : ℕ) (old new : KeptBlock) → StandsBefore run r b old → IsShown old new
+pub shown : (run : Run) (r b : ℕ) (old new : BlockView) → StandsBefore run r b old → IsShown old new
     → StandsBefore run r b new
-shown run r b old new st is = subst (λ (x : KeptBlock). StandsBefore run r b x)
+shown run r b old new st is = subst (λ (x : BlockView). StandsBefore run r b x)
     (let same : record { k = old.k; kept = record old.kept { gathered = new.kept.gathered } } ≡ new =
     (λ i. record { k = sym is.blocks i; kept = sym is.kept i }) in same)
     (record { blocks = st.blocks; dims = st.dims; room_is = st.room_is; part = st.part; log_room = st.log_room; clock = st.clock })
@@ -261,7 +261,7 @@ module _ (run : Run) (r : ℕ) (phase : Phase) (at : slice_get (rounds run.n run
 
 -- ---- sending
 
-can_send_own : (run : Run) (r b : ℕ) (one : KeptBlock) (e : Course Parcel) (phase : Phase)
+can_send_own : (run : Run) (r b : ℕ) (one : BlockView) (e : Course Parcel) (phase : Phase)
     → slice_get (rounds one.kept.dims one.k run.acts) r ≡ Some phase → StandsBefore (own_run run one) r b one
     → e ≡ course (own_run run one) b (place_of_kind one.kept.dims one.k (kind_of phase.step)) r
     → CanSend (round_of phase) one e
@@ -277,10 +277,10 @@ can_send_own run r b one e phase at st is =
           ∙ ap (λ (s : Part). due own.n own.room (step_of (round_of phase)) s) (sym st.part);
     })
 
-pub sizes_of : (run : Run) (r b : ℕ) (one : KeptBlock) → StandsBefore run r b one → HasSizes run one
+pub sizes_of : (run : Run) (r b : ℕ) (one : BlockView) → StandsBefore run r b one → HasSizes run one
 sizes_of run r b one st = record { blocks = st.blocks; dims = st.dims; room_is = st.room_is }
 
-pub can_send : (run : Run) (r b : ℕ) (round : Round) (one : KeptBlock) (e : Course Parcel)
+pub can_send : (run : Run) (r b : ℕ) (round : Round) (one : BlockView) (e : Course Parcel)
     → slice_get (rounds_in run) r ≡ Some round → StandsBefore run r b one
     → e ≡ course run b (place_of_kind run.n run.k round.kind) r → CanSend round one e
 can_send run r b round one e at st is =
@@ -292,7 +292,7 @@ can_send run r b round one e at st is =
     (as_own run one (λ x. e ≡ course x b (place_of_kind x.n x.k round.kind) r) s is)
 
 -- a block that has sent in a round
-pub record StandsSent (run : Run) (r b : ℕ) (round : Round) (one : KeptBlock) : Type 0 where
+pub record StandsSent (run : Run) (r b : ℕ) (round : Round) (one : BlockView) : Type 0 where
   pub blocks : one.k ≡ run.k
   pub dims : one.kept.dims ≡ run.n
   pub room_is : one.kept.room ≡ run.room
@@ -301,7 +301,7 @@ pub record StandsSent (run : Run) (r b : ℕ) (round : Round) (one : KeptBlock) 
   pub clock : one.kept.part.clock + deliveries (steps_after_round run.n run.k run.acts r) < 2 ^ 63
   pub space : HaveSpaceFor round.kind one.kept.room one.kept.part
 
-pub sent : (run : Run) (r b : ℕ) (round : Round) (old new : KeptBlock) (e : Course Parcel) → StandsBefore run r b old
+pub sent : (run : Run) (r b : ℕ) (round : Round) (old new : BlockView) (e : Course Parcel) → StandsBefore run r b old
     → HasSent round old e new → StandsSent run r b round new
 sent run r b round old new e st is =
     let part_is : new.kept.part ≡ less run.room (step_of round) (block run.n run.k b (before run r)) =
@@ -321,7 +321,7 @@ sent run r b round old new e st is =
 
 -- ---- getting
 
-module _ (run : Run) (r b : ℕ) (phase : Phase) (one : KeptBlock)
+module _ (run : Run) (r b : ℕ) (phase : Phase) (one : BlockView)
     (at : slice_get (rounds one.kept.dims one.k run.acts) r ≡ Some phase)
     (st : StandsSent (own_run run one) r b (round_of phase) one) where
   abbrev own_it : Run
@@ -380,7 +380,7 @@ module _ (run : Run) (r b : ℕ) (phase : Phase) (one : KeptBlock)
     };
   }
 
-  got_own : one.k ≤ one.kept.dims - one.kept.dims / 2 → b < 2 ^ one.k → (new : KeptBlock)
+  got_own : one.k ≤ one.kept.dims - one.kept.dims / 2 → b < 2 ^ one.k → (new : BlockView)
       → HasGot run.acts (round_of phase) one giver_end new → StandsBefore own_it (r + 1) b new
   got_own within below new got =
       let n = one.kept.dims in let k = one.k in let room = one.kept.room in let acts = run.acts in
@@ -424,14 +424,14 @@ module _ (run : Run) (r b : ℕ) (phase : Phase) (one : KeptBlock)
         clock = let c = st.clock in omega (arith, counted, shared, c);
       }
 
-sizes_sent : (run : Run) (r b : ℕ) (round : Round) (one : KeptBlock) → StandsSent run r b round one → HasSizes run one
+sizes_sent : (run : Run) (r b : ℕ) (round : Round) (one : BlockView) → StandsSent run r b round one → HasSizes run one
 sizes_sent run r b round one st = record { blocks = st.blocks; dims = st.dims; room_is = st.room_is }
 
 abbrev end_from : Run → ℕ → Kind → ℕ → Course Parcel
 end_from run b over r = course run (giver_of_kind run.n run.k (kind_of_index run.n run.k (place_of_kind run.n run.k over)) b)
     (place_of_kind run.n run.k over) r
 
-pub can_get : (run : Run) (r b : ℕ) (round : Round) (one : KeptBlock) (e : Course Parcel)
+pub can_get : (run : Run) (r b : ℕ) (round : Round) (one : BlockView) (e : Course Parcel)
     → slice_get (rounds_in run) r ≡ Some round → StandsSent run r b round one
     → e ≡ course run (giver_of_kind run.n run.k (kind_of_index run.n run.k (place_of_kind run.n run.k round.kind)) b)
     (place_of_kind run.n run.k round.kind) r
@@ -447,7 +447,7 @@ can_get run r b round one e at st is =
     (as_own run one (λ x. StandsSent x r b round one) s st)
     (as_own run one (λ x. e ≡ end_from x b round.kind r) s is)
 
-pub got : (run : Run) (r b : ℕ) (round : Round) (one new : KeptBlock) (e : Course Parcel)
+pub got : (run : Run) (r b : ℕ) (round : Round) (one new : BlockView) (e : Course Parcel)
     → run.k ≤ run.n - run.n / 2 → b < 2 ^ run.k
     → slice_get (rounds_in run) r ≡ Some round → StandsSent run r b round one
     → e ≡ course run (giver_of_kind run.n run.k (kind_of_index run.n run.k (place_of_kind run.n run.k round.kind)) b)

@@ -13,8 +13,8 @@ use Rattle.cm_blocks.specs.Rounds.{rounds}
 use Rattle.cm_subcube.specs.declared.round.Kind.{Kind}
 use Rattle.cm_subcube.specs.declared.round.Kind.TheVariants as kind
 use Rattle.cm_subcube.specs.declared.round.Round.{Round}
-use Rattle.cm_array.specs.Cuts.{KeptPart}
-use Rattle.cm_subcube.specs.Blocks.{KeptBlock}
+use Rattle.cm_array.specs.Cuts.{PartView}
+use Rattle.cm_subcube.specs.Blocks.{BlockView}
 use Rattle.cm_subcube.specs.Rounds.{round_of}
 use Rattle.cm_subcube.specs.Parcels.{IsExchangeBy}
 use Rattle.cm_board.specs.Courses.{Course}
@@ -42,7 +42,7 @@ module _ (run : Run) (r count w : ℕ) (round : Round) (at : slice_get (rounds_i
       omega (arith, f, each_is)
 
   -- ready to send, whether looked at or not
-  pub all_can_send : (blocks shown_them : List KeptBlock) (sends gets : List (Course Parcel))
+  pub all_can_send : (blocks shown_them : List BlockView) (sends gets : List (Course Parcel))
       → IsWorkerBefore run r count w blocks sends gets → AreShown blocks shown_them
       → AreReady each_it place_now (CanSend round) shown_them sends
   all_can_send blocks shown_them sends gets is looked = record {
@@ -54,10 +54,10 @@ module _ (run : Run) (r count w : ℕ) (round : Round) (at : slice_get (rounds_i
         (is.sends_are.each i place_now e l0 inside);
   }
 
-  stands_sent : (blocks shown_them sent_them : List KeptBlock) (sends gets nexts : List (Course Parcel))
+  stands_sent : (blocks shown_them sent_them : List BlockView) (sends gets nexts : List (Course Parcel))
       → IsWorkerBefore run r count w blocks sends gets → AreShown blocks shown_them
       → AreUsed each_it place_now (length shown_them) (HasSent round) shown_them sends sent_them nexts
-      → (i : ℕ) (b : KeptBlock) → i < length blocks
+      → (i : ℕ) (b : BlockView) → i < length blocks
       → (e : Course Parcel) → StandsSent run r (block_number count w i) round (get_or sent_them i b)
   stands_sent blocks shown_them sent_them sends gets nexts is looked used i b l e =
       sent run r (block_number count w i) round (get_or shown_them i b) (get_or sent_them i b)
@@ -65,7 +65,7 @@ module _ (run : Run) (r count w : ℕ) (round : Round) (at : slice_get (rounds_i
       (shown run r (block_number count w i) (get_or blocks i b) (get_or shown_them i b) (is.each i b l) (looked.each i b l))
       (used.became i b e (omega (arith, l, looked.len)))
 
-  pub all_can_get : (blocks shown_them sent_them : List KeptBlock) (sends gets nexts : List (Course Parcel))
+  pub all_can_get : (blocks shown_them sent_them : List BlockView) (sends gets nexts : List (Course Parcel))
       → IsWorkerBefore run r count w blocks sends gets → AreShown blocks shown_them
       → AreUsed each_it place_now (length shown_them) (HasSent round) shown_them sends sent_them nexts
       → AreReady each_it place_now (CanGet run.acts round) sent_them gets
@@ -78,7 +78,7 @@ module _ (run : Run) (r count w : ℕ) (round : Round) (at : slice_get (rounds_i
         (is.gets_are.each i place_now e l0 inside);
   }
 
-  pub round_is_over : (blocks shown_them sent_them last : List KeptBlock) (sends gets nexts afters : List (Course Parcel))
+  pub round_is_over : (blocks shown_them sent_them last : List BlockView) (sends gets nexts afters : List (Course Parcel))
       → IsWorkerBefore run r count w blocks sends gets → AreShown blocks shown_them
       → AreUsed each_it place_now (length shown_them) (HasSent round) shown_them sends sent_them nexts
       → AreUsed each_it place_now (length sent_them) (HasGot run.acts round) sent_them gets last afters
@@ -110,14 +110,14 @@ module _ (run : Run) (r count w : ℕ) (round : Round) (at : slice_get (rounds_i
 
 -- ---- before the first round, and after the last
 
-pub all_can_begin : (run : Run) (count w : ℕ) (blocks : List KeptBlock) (sends gets : List (Course Parcel))
+pub all_can_begin : (run : Run) (count w : ℕ) (blocks : List BlockView) (sends gets : List (Course Parcel))
     → IsUnused run count w blocks sends gets
-    → (i : ℕ) (b : KeptBlock) → i < length blocks → CanGoOn run.acts None (get_or blocks i b)
+    → (i : ℕ) (b : BlockView) → i < length blocks → CanGoOn run.acts None (get_or blocks i b)
 all_can_begin run count w blocks sends gets is i b l = can_begin run (block_number count w i) (get_or blocks i b) (is.each i b l)
 
-pub has_begun : (run : Run) (count w : ℕ) (blocks news : List KeptBlock) (sends gets : List (Course Parcel))
+pub has_begun : (run : Run) (count w : ℕ) (blocks news : List BlockView) (sends gets : List (Course Parcel))
     → IsUnused run count w blocks sends gets → length news ≡ length blocks
-    → ((i : ℕ) (b : KeptBlock) → i < length blocks → HasGoneOn run.acts None (get_or blocks i b) (get_or news i b))
+    → ((i : ℕ) (b : BlockView) → i < length blocks → HasGoneOn run.acts None (get_or blocks i b) (get_or news i b))
     → IsWorkerBefore run 0 count w news sends gets
 has_begun run count w blocks news sends gets is many gone = record {
   within = is.within;
@@ -138,7 +138,7 @@ there_below (y ∷ ys) zero x is = omega arith
 there_below (y ∷ ys) (suc i) x is = let f = there_below ys i x is in omega (arith, f)
 
 -- a worker's blocks before a round, as who looks sees them
-stand_before : (run : Run) (r count w : ℕ) (blocks : List KeptBlock) (sends gets : List (Course Parcel))
+stand_before : (run : Run) (r count w : ℕ) (blocks : List BlockView) (sends gets : List (Course Parcel))
     → IsWorkerBefore run r count w blocks sends gets
     → AreBeforeRound run.n run.k run.room run.machine run.acts r count w blocks
 stand_before run r count w blocks sends gets is = record {
@@ -149,7 +149,7 @@ stand_before run r count w blocks sends gets is = record {
 }
 
 -- so they stand when they can be read
-still_before : (n k room : ℕ) (machine : Machine) (acts : List Act) (r count w : ℕ) (blocks now : List KeptBlock)
+still_before : (n k room : ℕ) (machine : Machine) (acts : List Act) (r count w : ℕ) (blocks now : List BlockView)
     → AreShown blocks now → AreBeforeRound n k room machine acts r count w blocks
     → AreBeforeRound n k room machine acts r count w now
 still_before n k room machine acts r count w blocks now shown_them was = record {
@@ -159,14 +159,14 @@ still_before n k room machine acts r count w blocks now shown_them was = record 
       let m : q < length blocks = omega (arith, l, shown_them.len) in
       let is = shown_them.each q b m in let it = was.each q b m in record {
         blocks = is.blocks ∙ it.blocks;
-        dims = ap (λ (kept : KeptPart). kept.dims) is.kept ∙ it.dims;
-        room_is = ap (λ (kept : KeptPart). kept.room) is.kept ∙ it.room_is;
-        part = ap (λ (kept : KeptPart). kept.part) is.kept ∙ it.part;
+        dims = ap (λ (kept : PartView). kept.dims) is.kept ∙ it.dims;
+        room_is = ap (λ (kept : PartView). kept.room) is.kept ∙ it.room_is;
+        part = ap (λ (kept : PartView). kept.part) is.kept ∙ it.part;
       };
 }
 
 -- a worker comes by a gate
-pub comes_by : (run : Run) (r count w : ℕ) (round : Round) (blocks : List KeptBlock) (sends gets : List (Course Parcel))
+pub comes_by : (run : Run) (r count w : ℕ) (round : Round) (blocks : List BlockView) (sends gets : List (Course Parcel))
     → slice_get (rounds_in run) r ≡ Some round → IsWorkerBefore run r count w blocks sends gets
     → ComesBy w (gate_round_number r) blocks
 comes_by run r count w round blocks sends gets at is = record {
@@ -184,7 +184,7 @@ comes_by run r count w round blocks sends gets at is = record {
 }
 
 -- so it does with blocks that can be read
-pub still_comes : (w told : ℕ) (blocks now : List KeptBlock) → AreShown blocks now → ComesBy w told blocks
+pub still_comes : (w told : ℕ) (blocks now : List BlockView) → AreShown blocks now → ComesBy w told blocks
     → ComesBy w told now
 still_comes w told blocks now shown_them was = record {
   n = was.n;
@@ -200,7 +200,7 @@ still_comes w told blocks now shown_them was = record {
 }
 
 -- who was shown its blocks saw the worker before the round
-pub has_seen : (saw : ℕ → ℕ → List KeptBlock → Type 0) (run : Run) (r count w : ℕ) (blocks now : List KeptBlock)
+pub has_seen : (saw : ℕ → ℕ → List BlockView → Type 0) (run : Run) (r count w : ℕ) (blocks now : List BlockView)
     (sends gets : List (Course Parcel)) → IsWorkerBefore run r count w blocks sends gets → AreShown blocks now
     → saw w (gate_round_number r) now → HasSeenOf saw run count w r
 has_seen saw run r count w blocks now sends gets is shown_them seen = record {
@@ -211,7 +211,7 @@ has_seen saw run r count w blocks now sends gets is shown_them seen = record {
 }
 
 -- one round more
-pub seen_until : (saw : ℕ → ℕ → List KeptBlock → Type 0) (run : Run) (r count w : ℕ)
+pub seen_until : (saw : ℕ → ℕ → List BlockView → Type 0) (run : Run) (r count w : ℕ)
     → ((s : ℕ) → s < r → HasSeenOf saw run count w s) → HasSeenOf saw run count w r
     → (s : ℕ) → s < r + 1 → HasSeenOf saw run count w s
 seen_until saw run r count w were is s l =
@@ -221,7 +221,7 @@ seen_until saw run r count w were is s l =
     (let same : r ≡ s = omega (arith, there, l) in same) is)
     (cases_lt s r)
 
-pub all_done : (run : Run) (count w many : ℕ) (blocks : List KeptBlock) (sends gets : List (Course Parcel))
+pub all_done : (run : Run) (count w many : ℕ) (blocks : List BlockView) (sends gets : List (Course Parcel))
     → length blocks ≡ many → IsWorkerBefore run (length (rounds_in run)) count w blocks sends gets
     → AreDone run count w many blocks
 all_done run count w many blocks sends gets is at =
@@ -233,11 +233,11 @@ pub record Fits (run : Run) (round : Round) (each place : ℕ) : Type 0 where
   pub each_fits : ends_each run.k ≡ each
   pub place_fits : place_of_kind run.n run.k round.kind ≡ place
 
-pub chips_are : (run : Run) (r count w : ℕ) (blocks : List KeptBlock) (sends gets : List (Course Parcel))
-    (first : KeptBlock) → IsWorkerBefore run r count w blocks sends gets → first ≡ get_or blocks 0 first
+pub chips_are : (run : Run) (r count w : ℕ) (blocks : List BlockView) (sends gets : List (Course Parcel))
+    (first : BlockView) → IsWorkerBefore run r count w blocks sends gets → first ≡ get_or blocks 0 first
     → first.kept.part.count ≡ 2 ^ (run.n - run.k)
 chips_are run r count w blocks sends gets first is read =
-    ap (λ (x : KeptBlock). x.kept.part.count) read
+    ap (λ (x : BlockView). x.kept.part.count) read
     ∙ ap (λ (s : Part). s.count) (is.each 0 first is.some).part
     ∙ count_of_block run.n run.k (block_number count w 0) (before run r)
 
@@ -258,26 +258,26 @@ they_fit run round k each place k_is each_is place_is = record {
 
 module _ (run : Run) (r count w : ℕ) (round : Round) (at : slice_get (rounds_in run) r ≡ Some round)
     (each place : ℕ) (fit : Fits run round each place) where
-  ready_fit : (Can : KeptBlock → Course Parcel → Type 0) (blocks : List KeptBlock) (ends : List (Course Parcel))
+  ready_fit : (Can : BlockView → Course Parcel → Type 0) (blocks : List BlockView) (ends : List (Course Parcel))
       → AreReady (ends_each run.k) (place_of_kind run.n run.k round.kind) Can blocks ends → AreReady each place Can blocks ends
   ready_fit Can blocks ends are =
       subst (λ (x : ℕ). AreReady x place Can blocks ends) fit.each_fits
       (subst (λ (y : ℕ). AreReady (ends_each run.k) y Can blocks ends) fit.place_fits are)
 
-  used_fit : (m : ℕ) (Become : KeptBlock → Course Parcel → KeptBlock → Type 0) (blocks news : List KeptBlock)
+  used_fit : (m : ℕ) (Become : BlockView → Course Parcel → BlockView → Type 0) (blocks news : List BlockView)
       (ends nexts : List (Course Parcel)) → AreUsed each place m Become blocks ends news nexts
       → AreUsed (ends_each run.k) (place_of_kind run.n run.k round.kind) m Become blocks ends news nexts
   used_fit m Become blocks news ends nexts are =
       subst (λ (x : ℕ). AreUsed x (place_of_kind run.n run.k round.kind) m Become blocks ends news nexts) (sym fit.each_fits)
       (subst (λ (y : ℕ). AreUsed each y m Become blocks ends news nexts) (sym fit.place_fits) are)
 
-  module _ (blocks shown_them : List KeptBlock) (sends gets : List (Course Parcel))
+  module _ (blocks shown_them : List BlockView) (sends gets : List (Course Parcel))
       (is : IsWorkerBefore run r count w blocks sends gets) (looked : AreShown blocks shown_them) where
     pub send_ready : AreReady each place (CanSend round) shown_them sends
     send_ready = ready_fit (CanSend round) shown_them sends
         (all_can_send run r count w round at blocks shown_them sends gets is looked)
 
-    module _ (acts : List Act) (acts_are : acts ≡ run.acts) (sent_them : List KeptBlock) (nexts : List (Course Parcel))
+    module _ (acts : List Act) (acts_are : acts ≡ run.acts) (sent_them : List BlockView) (nexts : List (Course Parcel))
         (used : AreUsed each place (length shown_them) (HasSent round) shown_them sends sent_them nexts) where
       pub get_ready : AreReady each place (CanGet acts round) sent_them gets
       get_ready = subst (λ (xs : List Act). AreReady each place (CanGet xs round) sent_them gets) (sym acts_are)
@@ -285,7 +285,7 @@ module _ (run : Run) (r count w : ℕ) (round : Round) (at : slice_get (rounds_i
           (all_can_get run r count w round at blocks shown_them sent_them sends gets nexts is looked
           (used_fit (length shown_them) (HasSent round) shown_them sent_them sends nexts used)))
 
-      pub over_fit : (last : List KeptBlock) (afters : List (Course Parcel))
+      pub over_fit : (last : List BlockView) (afters : List (Course Parcel))
           → AreUsed each place (length sent_them) (HasGot acts round) sent_them gets last afters
           → IsWorkerBefore run (r + 1) count w last nexts afters
       over_fit last afters taken =

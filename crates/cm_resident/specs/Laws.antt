@@ -4,7 +4,7 @@ use Rattle.std.specs.declared.alloc.Global.{Global}
 use Rattle.cm_model.specs.Machine.{run_of}
 use Rattle.cm_model.specs.Keeping.{IsMachine}
 use Rattle.cm_array.specs.Cuts.{joined, AreWhole}
-use Rattle.cm_subcube.specs.Blocks.{KeptBlock}
+use Rattle.cm_subcube.specs.Blocks.{BlockView}
 use Rattle.cm_workers.specs.Dealing.{AreDealt, AreShares}
 use Rattle.cm_resident.specs.declared.worker.Worker.{Worker}
 use Rattle.cm_exchange.specs.Lanes as exchange
@@ -12,20 +12,20 @@ use Rattle.cm_resident.specs.Lanes.{Run, dues, givers}
 use Rattle.cm_resident.specs.Teams.{IsTeam, HaveWorked}
 
 -- blocks in their order are a whole machine, that after a run
-pub record AreMachineAfter (run : Run) (blocks : List KeptBlock) : Type 0 where
+pub record AreMachineAfter (run : Run) (blocks : List BlockView) : Type 0 where
   pub whole : AreWhole run.n run.room (map (λ b. b.kept.part) blocks)
   pub same : joined (map (λ b. b.kept.part) blocks) ≡ run_of run.n run.room run.machine run.acts
 
 -- what the workers of a team left are shares of the blocks, which in their order are the machine after the run
-pub record LeaveTheirMachine (run : Run) (shares : List (Vec KeptBlock Global)) : Type 0 where
+pub record LeaveTheirMachine (run : Run) (shares : List (Vec BlockView Global)) : Type 0 where
   pub are_shares : AreShares (length shares) (2 ^ run.k) shares
-  pub machine : (blocks : List KeptBlock) → length blocks ≡ 2 ^ run.k → AreDealt (length shares) blocks shares
+  pub machine : (blocks : List BlockView) → length blocks ≡ 2 ^ run.k → AreDealt (length shares) blocks shares
       → AreMachineAfter run blocks
 
 -- so it is of every team that has worked
 abbrev pub TeamsLeaveTheirMachine : Type 0
 TeamsLeaveTheirMachine =
-    (run : Run) (count : ℕ) (team : List Worker) (shares : List (Vec KeptBlock Global)) → 0 < count
+    (run : Run) (count : ℕ) (team : List Worker) (shares : List (Vec BlockView Global)) → 0 < count
     → IsMachine run.n run.room run.machine → IsTeam run count team → HaveWorked team shares
     → LeaveTheirMachine run shares
 

@@ -5,7 +5,7 @@ use Rattle.cm_model.specs.declared.act.Act.{Act}
 use Rattle.cm_blocks.specs.Parts.{block}
 use Rattle.cm_blocks.specs.Parcels.{Parcel}
 use Rattle.cm_subcube.specs.declared.round.Round.{Round}
-use Rattle.cm_subcube.specs.Blocks.{KeptBlock}
+use Rattle.cm_subcube.specs.Blocks.{BlockView}
 use Rattle.cm_board.specs.Courses.{Course}
 use Rattle.cm_workers.specs.Dealing.{hand}
 use Rattle.cm_workers.specs.Gates.{HasSeen}
@@ -29,13 +29,13 @@ pub record IsOfSome (worker : Worker) : Type 0 where
   pub of : IsOfTeam run count worker
 
 -- the blocks of worker w of so many, after the run
-pub record AreDone (run : Run) (count w many : ℕ) (blocks : List KeptBlock) : Type 0 where
+pub record AreDone (run : Run) (count w many : ℕ) (blocks : List BlockView) : Type 0 where
   pub len : length blocks ≡ many
-  pub each : (i : ℕ) (d : KeptBlock) → i < many
+  pub each : (i : ℕ) (d : BlockView) → i < many
       → (get_or blocks i d).kept.part ≡ block run.n run.k (block_number count w i) (before run (length (rounds_in run)))
 
 -- a worker of some team stands before this round
-pub record IsBeforeRound (acts : List Act) (k r w : ℕ) (round : Round) (blocks : List KeptBlock)
+pub record IsBeforeRound (acts : List Act) (k r w : ℕ) (round : Round) (blocks : List BlockView)
     (sends gets : List (Course Parcel)) : Type 0 where
   pub run : Run
   pub count : ℕ
@@ -77,22 +77,22 @@ pub record IsTeam (run : Run) (count : ℕ) (team : List Worker) : Type 0 where
   pub each : (w : ℕ) (d : Worker) → w < count → IsOfTeam run count (get_or team w d)
 
 -- a worker left these blocks: of whatever team it was, they are done
-abbrev pub HasWorked : Worker → List KeptBlock → Type 0
+abbrev pub HasWorked : Worker → List BlockView → Type 0
 HasWorked worker blocks =
     (run : Run) (count : ℕ) → IsOfTeam run count worker → AreDone run count worker.id (length worker.blocks.items) blocks
 
 -- each of a team left some
-pub record HaveWorked (team : List Worker) (shares : List (Vec KeptBlock Global)) : Type 0 where
+pub record HaveWorked (team : List Worker) (shares : List (Vec BlockView Global)) : Type 0 where
   pub len : length shares ≡ length team
-  pub each : (w : ℕ) (d : Worker) (e : Vec KeptBlock Global) → w < length team
+  pub each : (w : ℕ) (d : Worker) (e : Vec BlockView Global) → w < length team
       → HasWorked (get_or team w d) (hand shares e w)
 
 -- who looks saw worker w of so many before round r of a run
-abbrev pub HasSeenOf : (ℕ → ℕ → List KeptBlock → Type 0) → Run → ℕ → ℕ → ℕ → Type 0
+abbrev pub HasSeenOf : (ℕ → ℕ → List BlockView → Type 0) → Run → ℕ → ℕ → ℕ → Type 0
 HasSeenOf saw run count w r = HasSeen saw run.n run.k run.room run.machine run.acts r count w
 
 -- who looks saw a worker before each round, of whatever team it was
-abbrev pub HasPassed : (ℕ → ℕ → List KeptBlock → Type 0) → Worker → Type 0
+abbrev pub HasPassed : (ℕ → ℕ → List BlockView → Type 0) → Worker → Type 0
 HasPassed saw worker =
     (run : Run) (count : ℕ) → IsOfTeam run count worker
     → (r : ℕ) → r < length (rounds_in run) → HasSeenOf saw run count worker.id r

@@ -7,15 +7,15 @@ use Rattle.cm_model.specs.declared.act.Act.TheVariants as act
 use Rattle.cm_model.specs.declared.act.Act.{Act}
 use Rattle.cm_model.specs.Steps.{Step, Inject, Cross, Deliver, steps_of, all_steps}
 use Rattle.cm_blocks.specs.Rounds.{until_round}
-use Rattle.cm_array.specs.Cuts.{KeptPart}
-use Rattle.cm_subcube.specs.Blocks.{KeptBlock, IsBlock, CanGo, HasGone}
+use Rattle.cm_array.specs.Cuts.{PartView}
+use Rattle.cm_subcube.specs.Blocks.{BlockView, IsBlock, CanGo, HasGone}
 use Rattle.cm_subcube.specs.Local.{is_through}
 use Rattle.cm_subcube.proofs.Stopping.{until_round-through, until_round-stopped, until_round-all, begins}
 use Rattle.cm_subcube.proofs.Stopping.{cycle_stops, cycle_goes_through}
 use Rattle.cm_subcube.proofs.Going.{HasGone-append, CanGo-first, CanGo-second}
 
 -- the steps of acts until a round, where a block is now
-abbrev pub steps_to_go : List Act → KeptBlock → List Step
+abbrev pub steps_to_go : List Act → BlockView → List Step
 steps_to_go acts block = until_round block.kept.dims block.k (all_steps block.kept.dims acts)
 
 -- the next of the acts
@@ -25,7 +25,7 @@ next_act acts i one below is = cc (drop_more acts i one below)
 
 -- ---- some steps, and acts behind them
 
-module _ (here : List Step) (acts : List Act) (old : KeptBlock) where
+module _ (here : List Step) (acts : List Act) (old : BlockView) where
   abbrev n : ℕ
   n = old.kept.dims
 
@@ -41,11 +41,11 @@ module _ (here : List Step) (acts : List Act) (old : KeptBlock) where
       let more = begins n old.k here (all_steps n acts) in CanGo-first first more.0 old (rw more.1 at can)
 
   -- where a round of these came, all that was to do is done
-  pub gone_stopped : (new : KeptBlock) → HasGone first old new → is_through n old.k here ≡ false → HasGone all old new
+  pub gone_stopped : (new : BlockView) → HasGone first old new → is_through n old.k here ≡ false → HasGone all old new
   gone_stopped new gone stopped = rw (until_round-stopped n old.k here (all_steps n acts) stopped) gone
 
   -- and else it can go on with the acts, and all is done when they are
-  module _ (mid : KeptBlock) (gone : HasGone first old mid) (through : is_through n old.k here ≡ true) where
+  module _ (mid : BlockView) (gone : HasGone first old mid) (through : is_through n old.k here ≡ true) where
     done : HasGone here old mid
     done = rw (until_round-all n old.k here through) at gone
 
@@ -57,7 +57,7 @@ module _ (here : List Step) (acts : List Act) (old : KeptBlock) where
         rw same (CanGo-second here (steps_to_go acts old) old mid
         (rw (until_round-through n old.k here (all_steps n acts) through) at can) done)
 
-    pub gone_on : (new : KeptBlock) → HasGone (steps_to_go acts mid) mid new → HasGone all old new
+    pub gone_on : (new : BlockView) → HasGone (steps_to_go acts mid) mid new → HasGone all old new
     gone_on new more =
         rw (until_round-through n old.k here (all_steps n acts) through)
         (HasGone-append here (steps_to_go acts old) old mid new done (rw same at more))
@@ -65,9 +65,9 @@ module _ (here : List Step) (acts : List Act) (old : KeptBlock) where
 -- ---- a petit cycle
 
 -- a block after injection and the dimensions that its chips span
-module _ (old mid new : KeptBlock) (first : HasGone (Inject ∷ []) old mid)
+module _ (old mid new : BlockView) (first : HasGone (Inject ∷ []) old mid)
     (second : HasGone (map Cross (range_with_len 0 (mid.kept.dims - mid.k))) mid new)
-    (k : ℕ) (kept : KeptPart) (view : record { k = k; kept = kept } ≡ new) (is : IsBlock k kept) where
+    (k : ℕ) (kept : PartView) (view : record { k = k; kept = kept } ≡ new) (is : IsBlock k kept) where
   abbrev low : List Step
   low = (Inject ∷ []) ++ map Cross (range_with_len 0 (old.kept.dims - old.k))
 
@@ -82,8 +82,8 @@ module _ (old mid new : KeptBlock) (first : HasGone (Inject ∷ []) old mid)
   -- how a block is cut does not change, and it is cut by no more dimensions than there are
   cut : (k ≡ old.k) × (old.k ≤ old.kept.dims)
   cut =
-      let same : k ≡ old.k = ap (λ (b : KeptBlock). b.k) view ∙ gone_low.blocks in
-      let dims : kept.dims ≡ old.kept.dims = ap (λ (b : KeptBlock). b.kept.dims) view ∙ gone_low.dims in
+      let same : k ≡ old.k = ap (λ (b : BlockView). b.k) view ∙ gone_low.blocks in
+      let dims : kept.dims ≡ old.kept.dims = ap (λ (b : BlockView). b.kept.dims) view ∙ gone_low.dims in
       (same, omega (arith, is.within, same, dims))
 
   -- where there are more blocks than one it has come to a round
@@ -101,7 +101,7 @@ module _ (old mid new : KeptBlock) (first : HasGone (Inject ∷ []) old mid)
       CanGo-second low (Deliver ∷ []) old new (rw whole.steps at can) gone_low
 
   -- and is at the end then
-  pub cycle_done : k ≤ 0 → (last : KeptBlock) → HasGone (Deliver ∷ []) new last
+  pub cycle_done : k ≤ 0 → (last : BlockView) → HasGone (Deliver ∷ []) new last
       → HasGone (until_round old.kept.dims old.k (steps_of old.kept.dims act.Cycle)) old last
       × (true ≡ is_through old.kept.dims old.k (steps_of old.kept.dims act.Cycle))
   cycle_done none last delivered =

@@ -10,11 +10,11 @@ use Rattle.cm_model.specs.Each.{tabulate}
 use Rattle.cm_blocks.specs.Parts.{Part, part, block, block_size}
 use Rattle.std.proofs.Math.Nat.{pow-le-pow_right}
 use Rattle.cm_blocks.proofs.Mailing.{block-fits}
-use Rattle.cm_array.specs.Cuts.{KeptPart}
-use Rattle.cm_subcube.specs.Blocks.{KeptBlock, IsBlock, IsFresh}
+use Rattle.cm_array.specs.Cuts.{PartView}
+use Rattle.cm_subcube.specs.Blocks.{BlockView, IsBlock, IsFresh}
 
 -- a cut of the right size is a block
-pub IsBlock-cut : (n k b : ℕ) (machine : Machine) (kept : KeptPart) → k ≤ n - n / 2 → b < 2 ^ k → kept.dims ≡ n
+pub IsBlock-cut : (n k b : ℕ) (machine : Machine) (kept : PartView) → k ≤ n - n / 2 → b < 2 ^ k → kept.dims ≡ n
     → kept.part ≡ block n k b machine → IsBlock k kept
 unfolding part
 IsBlock-cut n k b machine kept within below dims is = record {
@@ -24,25 +24,25 @@ IsBlock-cut n k b machine kept within below dims is = record {
 }
 
 -- one block more
-pub parts-more : (f : ℕ → Part) (b : ℕ) (blocks : List KeptBlock) (one : KeptBlock)
+pub parts-more : (f : ℕ → Part) (b : ℕ) (blocks : List BlockView) (one : BlockView)
     → map (λ x. x.kept.part) blocks ≡ tabulate 0 b f → one.kept.part ≡ f b
     → map (λ x. x.kept.part) (blocks ++ one ∷ []) ≡ tabulate 0 (b + 1) f
 unfolding tabulate
 parts-more f b blocks one were is =
-    map-append (λ (x : KeptBlock). x.kept.part) blocks (one ∷ [])
+    map-append (λ (x : BlockView). x.kept.part) blocks (one ∷ [])
     ∙ ap (λ (parts : List Part). parts ++ one.kept.part ∷ []) were
     ∙ ap (λ (s : Part). map f (range_with_len 0 b) ++ s ∷ []) is
     ∙ sym (map-range_with_len_more f 0 b b (omega arith))
 
-pub fresh-more : (n cap k events : ℕ) (blocks : List KeptBlock) (one : KeptBlock) → All (IsFresh n cap k events) blocks
+pub fresh-more : (n cap k events : ℕ) (blocks : List BlockView) (one : BlockView) → All (IsFresh n cap k events) blocks
     → IsFresh n cap k events one → All (IsFresh n cap k events) (blocks ++ one ∷ [])
 fresh-more n cap k events blocks one were is =
     All-append (IsFresh n cap k events) blocks (one ∷ []) were
     (All-cons (IsFresh n cap k events) one [] is (All-nil (IsFresh n cap k events)))
 
-pub none_yet : (f : ℕ → Part) (blocks : List KeptBlock) → blocks ≡ [] → map (λ x. x.kept.part) blocks ≡ tabulate 0 0 f
+pub none_yet : (f : ℕ → Part) (blocks : List BlockView) → blocks ≡ [] → map (λ x. x.kept.part) blocks ≡ tabulate 0 0 f
 unfolding tabulate
-none_yet f blocks none = ap (map (λ (x : KeptBlock). x.kept.part)) none
+none_yet f blocks none = ap (map (λ (x : BlockView). x.kept.part)) none
 
 -- a block lies within the machine, whose chips are few
 pub band_fits : (n k b wide : ℕ) → n ≤ 12 → k ≤ n - n / 2 → b < 2 ^ k → wide ≡ block_size n k

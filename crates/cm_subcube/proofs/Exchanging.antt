@@ -21,7 +21,7 @@ use Rattle.cm_blocks.specs.Parcels.{Parcel, Blank, Mail, Edge}
 use Rattle.cm_blocks.specs.Steps.{part_after, less, absorbed}
 use Rattle.cm_blocks.proofs.Bands.{band, block_size-band, block-row}
 use Rattle.cm_array.specs.Bands.{IsBand}
-use Rattle.cm_array.specs.Cuts.{KeptPart}
+use Rattle.cm_array.specs.Cuts.{PartView}
 use Rattle.cm_subcube.specs.declared.round.Kind.{Kind}
 use Rattle.cm_subcube.specs.declared.round.Kind.TheVariants as kind
 use Rattle.cm_subcube.specs.Blocks.{IsBlock}
@@ -29,13 +29,13 @@ use Rattle.cm_subcube.specs.Parcels.{blank_parcel, IsOfKind}
 use Rattle.cm_subcube.specs.Rounds.{step_in}
 
 -- a block stays a block when messages leave it
-pub IsBlock-left : (k d : ℕ) (old : KeptPart) (gathered : Bool) → IsBlock k old
+pub IsBlock-left : (k d : ℕ) (old : PartView) (gathered : Bool) → IsBlock k old
     → IsBlock k (record old { part = less old.room (Cross d) old.part; gathered = gathered })
 unfolding less
 IsBlock-left k d old gathered was = record { within = was.within; count = was.count; band = was.band }
 
 -- and when messages come
-pub IsBlock-taken : (k d : ℕ) (old : KeptPart) (gathered : Bool) (parcel : Parcel) → IsBlock k old
+pub IsBlock-taken : (k d : ℕ) (old : PartView) (gathered : Bool) (parcel : Parcel) → IsBlock k old
     → IsBlock k (record old { part = absorbed old.dims old.room (Cross d) parcel old.part; gathered = gathered })
 unfolding absorbed
 IsBlock-taken k d old gathered parcel was = record { within = was.within; count = was.count; band = was.band }
@@ -63,7 +63,7 @@ blank_again n k d lane long none =
 -- ---- edges
 
 -- a block is a band of whole rows of chips
-pub IsBand-block : (k : ℕ) (kept : KeptPart) → IsBlock k kept → IsBand kept.dims kept.part
+pub IsBand-block : (k : ℕ) (kept : PartView) → IsBlock k kept → IsBand kept.dims kept.part
 IsBand-block k kept is = record {
   first = (is.band.0 * band kept.dims k, is.band.1.0 ∙ block-row kept.dims k is.band.0 is.within);
   count = (band kept.dims k, is.count ∙ block_size-band kept.dims k is.within);
@@ -71,13 +71,13 @@ IsBand-block k kept is = record {
 }
 
 -- a block stays a block over an instruction
-pub IsBlock-instructed : (k : ℕ) (nano : Nano) (parcel : Parcel) (old : KeptPart) → IsBlock k old
+pub IsBlock-instructed : (k : ℕ) (nano : Nano) (parcel : Parcel) (old : PartView) → IsBlock k old
     → IsBlock k (record old { part = part_after old.dims old.room (Instruct nano) parcel old.part })
 unfolding part_after
 IsBlock-instructed k nano parcel old was = record { within = was.within; count = was.count; band = was.band }
 
 -- an instruction, with what comes in over its edge
-pub absorbed-instruct : (k : ℕ) (nano : Nano) (parcel : Parcel) (new old : KeptPart)
+pub absorbed-instruct : (k : ℕ) (nano : Nano) (parcel : Parcel) (new old : PartView)
     → new ≡ record old { part = part_after old.dims old.room (Instruct nano) parcel old.part }
     → new ≡ record old { part = absorbed old.dims old.room (Instruct nano) parcel old.part }
 unfolding absorbed

@@ -12,8 +12,8 @@ use Rattle.cm_blocks.specs.Steps.{part_after, part_after_all, incoming_in}
 use Rattle.cm_news.specs.Bands.{edge_bits}
 use Rattle.cm_router.specs.Logs.{LoseAtMost}
 use Rattle.cm_router.proofs.Rooms.{lost_nothing}
-use Rattle.cm_array.specs.Cuts.{KeptPart}
-use Rattle.cm_subcube.specs.Blocks.{KeptBlock, IsBlock, CanGo, HasGone}
+use Rattle.cm_array.specs.Cuts.{PartView}
+use Rattle.cm_subcube.specs.Blocks.{BlockView, IsBlock, CanGo, HasGone}
 use Rattle.std.proofs.Math.Nat.{mul-add}
 
 -- ---- what a step keeps
@@ -52,7 +52,7 @@ events_in-append room first second =
 -- ---- one step
 
 -- what is kept after a step that reads no parcel
-abbrev pub stepped : Step → List ℕ → Bool → KeptPart → KeptPart
+abbrev pub stepped : Step → List ℕ → Bool → PartView → PartView
 stepped step rooms gathered old = record old {
   part = part_after old.dims old.room step Blank old.part;
   log_rooms = rooms;
@@ -60,7 +60,7 @@ stepped step rooms gathered old = record old {
 }
 
 -- a block stays a block
-pub IsBlock-stepped : (k : ℕ) (step : Step) (rooms : List ℕ) (gathered : Bool) (old new : KeptPart)
+pub IsBlock-stepped : (k : ℕ) (step : Step) (rooms : List ℕ) (gathered : Bool) (old new : PartView)
     → new ≡ stepped step rooms gathered old → IsBlock k old → IsBlock k new
 IsBlock-stepped k step rooms gathered old new is was =
     let part = part_after-kept old.dims old.room step Blank old.part in
@@ -71,7 +71,7 @@ IsBlock-stepped k step rooms gathered old new is was =
     })
 
 -- and has gone through the step
-pub HasGone-one : (k : ℕ) (step : Step) (rooms : List ℕ) (gathered : Bool) (old new : KeptPart) (seen : KeptBlock)
+pub HasGone-one : (k : ℕ) (step : Step) (rooms : List ℕ) (gathered : Bool) (old new : PartView) (seen : BlockView)
     → record { k = k; kept = old } ≡ seen → new ≡ stepped step rooms gathered old
     → LoseAtMost (events_in old.room (step ∷ [])) old.log_rooms rooms
     → HasGone (step ∷ []) seen (record { k = k; kept = new })
@@ -85,7 +85,7 @@ unfolding part_after incoming_in tabulate
 no_edge n cap nano s = refl
 
 -- a look changes nothing
-pub HasGone-look : (block : KeptBlock) → HasGone (Look ∷ []) block block
+pub HasGone-look : (block : BlockView) → HasGone (Look ∷ []) block block
 unfolding part_after
 HasGone-look block = record {
   part = refl;
@@ -97,7 +97,7 @@ HasGone-look block = record {
 
 -- ---- steps one after another
 
-pub HasGone-none : (block : KeptBlock) → HasGone [] block block
+pub HasGone-none : (block : BlockView) → HasGone [] block block
 HasGone-none block = record {
   part = refl;
   dims = refl;
@@ -106,7 +106,7 @@ HasGone-none block = record {
   log_room = lost_nothing (events_in block.kept.room []) block.kept.log_rooms;
 }
 
-pub HasGone-append : (first second : List Step) (old mid new : KeptBlock) → HasGone first old mid
+pub HasGone-append : (first second : List Step) (old mid new : BlockView) → HasGone first old mid
     → HasGone second mid new
     → HasGone (first ++ second) old new
 HasGone-append first second old mid new before after =
@@ -128,14 +128,14 @@ HasGone-append first second old mid new before after =
     }
 
 -- what can go through some steps can go through the first of them
-pub CanGo-first : (first second : List Step) (block : KeptBlock) → CanGo (first ++ second) block → CanGo first block
+pub CanGo-first : (first second : List Step) (block : BlockView) → CanGo (first ++ second) block → CanGo first block
 CanGo-first first second block can =
     let sum = events_in-append block.kept.room first second in
     let count = sum_by-append (λ (x : Step). cond (is_delivery x) 1 0) first second in
     record { log_room = λ i l. grind (arith, sum, can.log_room i); clock = omega (arith, count, can.clock) }
 
 -- and then through the others
-pub CanGo-second : (first second : List Step) (old mid : KeptBlock) → CanGo (first ++ second) old
+pub CanGo-second : (first second : List Step) (old mid : BlockView) → CanGo (first ++ second) old
     → HasGone first old mid
     → CanGo second mid
 CanGo-second first second old mid can gone =

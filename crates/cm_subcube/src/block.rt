@@ -47,9 +47,9 @@ pub struct Block {
 }
 
 impl Model for Block {
-    ghost use Rattle.cm_subcube.specs.Blocks.{KeptBlock, IsBlock};
+    ghost use Rattle.cm_subcube.specs.Blocks.{BlockView, IsBlock};
 
-    ghost Value = { KeptBlock };
+    ghost Value = { BlockView };
 
     ghost view = { λ block. record { k = block.k; kept = block.part } };
 

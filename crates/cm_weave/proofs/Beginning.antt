@@ -25,7 +25,7 @@ use Rattle.cm_router.specs.Logs.{HaveLogRoom, LoseAtMost}
 use Rattle.cm_router.proofs.Rooms.{room_left, less_room}
 use Rattle.cm_array.specs.Acts.{cycles_in}
 use Rattle.cm_subcube.specs.declared.round.Round.{Round}
-use Rattle.cm_subcube.specs.Blocks.{KeptBlock, IsFresh, CanGo, HasGone}
+use Rattle.cm_subcube.specs.Blocks.{BlockView, IsFresh, CanGo, HasGone}
 use Rattle.cm_subcube.specs.Laws.{all_blocks}
 use Rattle.cm_subcube.specs.Rounds.{rounds_of, round_of}
 use Rattle.cm_subcube.specs.Local.{local_after}
@@ -80,13 +80,13 @@ rounds-few n k acts l few =
 -- ---- blocks go to their first round
 
 -- blocks that were just cut
-pub just_cut : (n cap k cycles : ℕ) (machine : Machine) (acts : List Act) (blocks : List KeptBlock)
-    → map (λ (b : KeptBlock). b.kept.part) blocks ≡ all_blocks n k machine
+pub just_cut : (n cap k cycles : ℕ) (machine : Machine) (acts : List Act) (blocks : List BlockView)
+    → map (λ (b : BlockView). b.kept.part) blocks ≡ all_blocks n k machine
     → All (IsFresh n cap k (cycles * (4 + cap))) blocks
     → cycles ≡ cycles_in acts → machine.clock + cycles < 2 ^ 63 → AreBeginning n cap k machine acts 0 blocks
 just_cut n cap k cycles machine acts blocks are fresh counted late =
     let count : length blocks ≡ 2 ^ k =
-    sym (length-map blocks (λ (b : KeptBlock). b.kept.part)) ∙ ap length are
+    sym (length-map blocks (λ (b : BlockView). b.kept.part)) ∙ ap length are
     ∙ length-tabulate 0 (2 ^ k) (λ b. block n k b machine) in
     record {
       count = count;
@@ -95,7 +95,7 @@ just_cut n cap k cycles machine acts blocks are fresh counted late =
           let below : b < length blocks = omega (arith, l, count) in
           let one = All-get_or (IsFresh n cap k (cycles * (4 + cap))) blocks b d below fresh in
           let is : (get_or blocks b d).kept.part ≡ block n k b machine =
-          sym (get_or-map (λ (z : KeptBlock). z.kept.part) blocks b d (block n k b machine) below)
+          sym (get_or-map (λ (z : BlockView). z.kept.part) blocks b d (block n k b machine) below)
           ∙ ap (λ (parts : List Part). get_or parts b (block n k b machine)) are
           ∙ get_or-each_below (2 ^ k) (λ j. block n k j machine) b (block n k b machine) l in
           record {
@@ -111,7 +111,7 @@ just_cut n cap k cycles machine acts blocks are fresh counted late =
           };
     }
 
-module _ (n cap k b : ℕ) (machine : Machine) (acts : List Act) (old : KeptBlock)
+module _ (n cap k b : ℕ) (machine : Machine) (acts : List Act) (old : BlockView)
     (is : IsFirstBlock n cap k machine acts b old) where
   as_own : (P : ℕ → ℕ → ℕ → Type 0) → P n k cap → P old.kept.dims old.k old.kept.room
   as_own P p = subst (λ (z : ℕ). P z old.k old.kept.room) (sym is.dims)
@@ -133,7 +133,7 @@ module _ (n cap k b : ℕ) (machine : Machine) (acts : List Act) (old : KeptBloc
         (let f = deliveries_shared.first n k acts in let c = is.clock in omega (arith, f, c));
   }
 
-  pub has_begun : (new : KeptBlock) → HasGone (local_after old.kept.dims old.k acts None) old new
+  pub has_begun : (new : BlockView) → HasGone (local_after old.kept.dims old.k acts None) old new
       → HasBegun n cap k machine acts b new
   has_begun new gone =
       let part : new.kept.part ≡ part_after_all n cap (local_after n k acts None) (block n k b machine) =
@@ -160,7 +160,7 @@ module _ (n cap k b : ℕ) (machine : Machine) (acts : List Act) (old : KeptBloc
       }
 
 -- one more of the blocks has begun
-pub one_more_begun : (n cap k b : ℕ) (machine : Machine) (acts : List Act) (blocks : List KeptBlock) (d new : KeptBlock)
+pub one_more_begun : (n cap k b : ℕ) (machine : Machine) (acts : List Act) (blocks : List BlockView) (d new : BlockView)
     → b < length blocks → AreBeginning n cap k machine acts b blocks
     → HasGone (local_after (get_or blocks b d).kept.dims (get_or blocks b d).k acts None) (get_or blocks b d) new
     → AreBeginning n cap k machine acts (b + 1) (set blocks b new)
@@ -169,15 +169,15 @@ one_more_begun n cap k b machine acts blocks d new l were gone = record {
   begun = λ c x below within. ⊎_elim
       (λ (here : c ≡ b).
       subst (λ (z : ℕ). HasBegun n cap k machine acts z (get_or (set blocks b new) z x)) (sym here)
-      (subst (λ (z : KeptBlock). HasBegun n cap k machine acts b z) (sym (get_or-set_same blocks b new x l))
+      (subst (λ (z : BlockView). HasBegun n cap k machine acts b z) (sym (get_or-set_same blocks b new x l))
       (has_begun n cap k b machine acts (get_or blocks b d)
       (were.cut b d (omega arith) (let e = were.count in omega (arith, e, l))) new gone)))
-      (λ other. subst (λ (z : KeptBlock). HasBegun n cap k machine acts c z)
+      (λ other. subst (λ (z : BlockView). HasBegun n cap k machine acts c z)
       (sym (get_or-set_other blocks b c new x other))
       (were.begun c x (below_less c b below other) within))
       (cases_eq c b);
   cut = λ c x from within.
-      subst (λ (z : KeptBlock). IsFirstBlock n cap k machine acts c z)
+      subst (λ (z : BlockView). IsFirstBlock n cap k machine acts c z)
       (sym (get_or-set_other blocks b c new x (λ e. omega (arith, from, e))))
       (were.cut c x (omega (arith, from)) within);
 } where
@@ -202,7 +202,7 @@ all_unused (lane ∷ lanes) h =
 
 -- ---- the first world
 
-module _ (n cap k : ℕ) (machine : Machine) (acts : List Act) (rounds_kept : List Round) (blocks : List KeptBlock)
+module _ (n cap k : ℕ) (machine : Machine) (acts : List Act) (rounds_kept : List Round) (blocks : List BlockView)
     (lanes : List Lane) (few : n ≤ 12) (acts_few : length acts ≤ 4096) (within : k ≤ n - n / 2)
     (rounds_are : rounds_kept ≡ rounds_of n k acts) (all_begun : AreBeginning n cap k machine acts (2 ^ k) blocks)
     (all_blank : AreUnused n k (kind_count k * 2 ^ k) lanes) where
@@ -213,7 +213,7 @@ module _ (n cap k : ℕ) (machine : Machine) (acts : List Act) (rounds_kept : Li
       ∙ ap (λ (z : ℕ). replicate z unused_lane) all_blank.len in
       λ i. record { stands = replicate (2 ^ k) at_first; lanes = lanes_are i }
 
-  part_first : (b : ℕ) (d : KeptBlock) → b < 2 ^ k
+  part_first : (b : ℕ) (d : BlockView) → b < 2 ^ k
       → (get_or blocks b d).kept.part ≡ block n k b (before_round n cap k machine acts 0)
   part_first b d l =
       (all_begun.begun b d l l).part
@@ -221,7 +221,7 @@ module _ (n cap k : ℕ) (machine : Machine) (acts : List Act) (rounds_kept : Li
       (sym (steps_until-first n k acts))
       ∙ sym (blocks_begin n cap k b machine acts within l)
 
-  stands_first : (b : ℕ) (d : KeptBlock) → b < 2 ^ k → StandsThere n cap k machine acts b at_first (get_or blocks b d)
+  stands_first : (b : ℕ) (d : BlockView) → b < 2 ^ k → StandsThere n cap k machine acts b at_first (get_or blocks b d)
   unfolding part_at_stand
   stands_first b d l =
       let one = all_begun.begun b d l l in
@@ -235,13 +235,13 @@ module _ (n cap k : ℕ) (machine : Machine) (acts : List Act) (rounds_kept : Li
         clock = one.clock;
       }
 
-  pub first_parts : map (λ (b : KeptBlock). b.kept.part) blocks ≡ all_blocks n k (before_round n cap k machine acts 0)
+  pub first_parts : map (λ (b : BlockView). b.kept.part) blocks ≡ all_blocks n k (before_round n cap k machine acts 0)
   first_parts =
       is_each (block n k 0 machine) (2 ^ k) (λ b. block n k b (before_round n cap k machine acts 0))
-      (map (λ (b : KeptBlock). b.kept.part) blocks)
-      (length-map blocks (λ (b : KeptBlock). b.kept.part) ∙ all_begun.count)
+      (map (λ (b : BlockView). b.kept.part) blocks)
+      (length-map blocks (λ (b : BlockView). b.kept.part) ∙ all_begun.count)
       (λ b l.
-      get_or-map (λ (z : KeptBlock). z.kept.part) blocks b (no_block n k machine) (block n k 0 machine)
+      get_or-map (λ (z : BlockView). z.kept.part) blocks b (no_block n k machine) (block n k 0 machine)
       (subst (λ (z : ℕ). b < z) (sym all_begun.count) l)
       ∙ part_first b (no_block n k machine) l)
 

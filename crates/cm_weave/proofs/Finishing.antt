@@ -14,7 +14,7 @@ use Rattle.cm_blocks.specs.Rounds.{rounds, before_round}
 use Rattle.cm_blocks.proofs.Rounding.{rounds_end_the_run}
 use Rattle.cm_array.specs.Cuts.{joined, AreWhole}
 use Rattle.cm_subcube.specs.declared.round.Round.{Round}
-use Rattle.cm_subcube.specs.Blocks.{KeptBlock}
+use Rattle.cm_subcube.specs.Blocks.{BlockView}
 use Rattle.cm_subcube.specs.Laws.{all_blocks}
 use Rattle.cm_subcube.proofs.Joining.{joined-blocks, AreWhole-blocks}
 use Rattle.cm_exchange.specs.declared.stand.Stand.{Stand}
@@ -29,13 +29,13 @@ use Rattle.cm_weave.proofs.Playing.{view, as_many}
 use Rattle.std.specs.List.{All}
 
 -- some block
-pub no_block : ℕ → ℕ → Machine → KeptBlock
+pub no_block : ℕ → ℕ → Machine → BlockView
 no_block n k machine = record {
   k = k;
   kept = record { dims = n; room = 0; part = block n k 0 machine; log_rooms = []; gathered = true };
 }
 
-module _ (n cap k : ℕ) (machine : Machine) (acts : List Act) (rounds_kept : List Round) (blocks : List KeptBlock)
+module _ (n cap k : ℕ) (machine : Machine) (acts : List Act) (rounds_kept : List Round) (blocks : List BlockView)
     (stands : List Stand) (lanes : List Lane) (w : AreWoven n cap k machine acts rounds_kept blocks stands lanes)
     (is : IsMachine n cap machine)
     (finished : IsFinished (exchange_of n cap k machine acts) (world_seen stands lanes)) where
@@ -55,29 +55,29 @@ module _ (n cap k : ℕ) (machine : Machine) (acts : List Act) (rounds_kept : Li
       ∙ ap (λ (z : ℕ). block n k b (before_round n cap k machine acts z)) last
       ∙ ap (block n k b) (rounds_end_the_run n cap k machine acts is.buffer_count)
 
-  pub parts_are : map (λ (b : KeptBlock). b.kept.part) blocks ≡ all_blocks n k (run_of n cap machine acts)
+  pub parts_are : map (λ (b : BlockView). b.kept.part) blocks ≡ all_blocks n k (run_of n cap machine acts)
   parts_are =
       is_each (block n k 0 machine) (2 ^ k) (λ b. block n k b (run_of n cap machine acts))
-      (map (λ (b : KeptBlock). b.kept.part) blocks)
-      (length-map blocks (λ (b : KeptBlock). b.kept.part) ∙ w.block_count)
+      (map (λ (b : BlockView). b.kept.part) blocks)
+      (length-map blocks (λ (b : BlockView). b.kept.part) ∙ w.block_count)
       (λ b l.
       let below : b < length blocks = subst (λ (z : ℕ). b < z) (sym w.block_count) l in
-      get_or-map (λ (z : KeptBlock). z.kept.part) blocks b (no_block n k machine) (block n k 0 machine) below
+      get_or-map (λ (z : BlockView). z.kept.part) blocks b (no_block n k machine) (block n k 0 machine) below
       ∙ (w.each b (no_block n k machine) l).part ∙ at_end b l)
 
-  pub whole_at_end : AreWhole n cap (map (λ (b : KeptBlock). b.kept.part) blocks)
+  pub whole_at_end : AreWhole n cap (map (λ (b : BlockView). b.kept.part) blocks)
   whole_at_end = subst (λ (s : List Part). AreWhole n cap s) (sym parts_are)
       (AreWhole-blocks n cap k (run_of n cap machine acts) (let h = w.within in omega (arith, h))
       (IsMachine-run_of n cap machine acts is))
 
-  pub joined_at_end : joined (map (λ (b : KeptBlock). b.kept.part) blocks) ≡ run_of n cap machine acts
+  pub joined_at_end : joined (map (λ (b : BlockView). b.kept.part) blocks) ≡ run_of n cap machine acts
   joined_at_end = ap joined parts_are
       ∙ joined-blocks n cap k (run_of n cap machine acts) (let h = w.within in omega (arith, h))
       (IsMachine-run_of n cap machine acts is)
 
 -- what code asks
 pub through_is : {P : Type 0} (n cap k : ℕ) (machine : Machine) (acts : List Act) (rounds_kept : List Round)
-    (blocks : List KeptBlock) (stands : List Stand) (lanes : List Lane)
+    (blocks : List BlockView) (stands : List Stand) (lanes : List Lane)
     → AreWoven n cap k machine acts rounds_kept blocks stands lanes → (now : Woven)
     → view k machine acts blocks stands lanes ≡ now → (given : List Stand) (last : ℕ) → given ≡ stands
     → last ≡ length rounds_kept → (P ↔ All (λ (stand : Stand). stand.round ≡ last) given)
@@ -88,7 +88,7 @@ through_is {P} n cap k machine acts rounds_kept blocks stands lanes w now is giv
     (count ∙ as_many n cap k machine acts rounds_kept blocks stands lanes w)
     (subst (λ (z : List Stand). P ↔ All (λ (stand : Stand). stand.round ≡ last) z) are h))
 
-pub finished_here : (n cap k : ℕ) (machine : Machine) (acts : List Act) (blocks : List KeptBlock) (stands : List Stand)
+pub finished_here : (n cap k : ℕ) (machine : Machine) (acts : List Act) (blocks : List BlockView) (stands : List Stand)
     (lanes : List Lane) (now : Woven) → view k machine acts blocks stands lanes ≡ now
     → IsFinished (exchange_of n cap now.k now.machine now.acts) now.world
     → IsFinished (exchange_of n cap k machine acts) (world_seen stands lanes)

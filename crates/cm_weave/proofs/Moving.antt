@@ -8,7 +8,7 @@ use Rattle.cm_blocks.specs.Parcels.{Parcel}
 use Rattle.cm_blocks.specs.Steps.{part_after, absorbed}
 use Rattle.cm_router.specs.Logs.{HaveLogRoom}
 use Rattle.cm_subcube.specs.declared.round.Round.{Round}
-use Rattle.cm_subcube.specs.Blocks.{KeptBlock}
+use Rattle.cm_subcube.specs.Blocks.{BlockView}
 use Rattle.cm_subcube.specs.Rounds.{step_of}
 use Rattle.cm_subcube.specs.Local.{local_after}
 use Rattle.cm_weave.specs.declared.lane.Lane.{Lane}
@@ -25,24 +25,24 @@ clock_stands n room (Cross d) parcel s = refl
 clock_stands n room Deliver parcel s = refl
 
 -- a block with some part, otherwise as it was
-abbrev pub with_part : KeptBlock → Part → Bool → KeptBlock
+abbrev pub with_part : BlockView → Part → Bool → BlockView
 with_part block s gathered = record {
   k = block.k;
   kept = record block.kept { part = s; gathered = gathered };
 }
 
-pub is_with_part : (old new : KeptBlock) (s : Part) (gathered : Bool)
+pub is_with_part : (old new : BlockView) (s : Part) (gathered : Bool)
     → new.kept ≡ record old.kept { part = s; gathered = gathered } → new.k ≡ old.k → new ≡ with_part old s gathered
 is_with_part old new s gathered is blocks = λ i. record { k = blocks i; kept = is i }
 
 -- a block that has taken in what came can go on by itself
-pub still_room : (acts : List Act) (round : Round) (old : KeptBlock) (lane : Lane) (new : KeptBlock) (gathered : Bool)
+pub still_room : (acts : List Act) (round : Round) (old : BlockView) (lane : Lane) (new : BlockView) (gathered : Bool)
     → new ≡ with_part old (absorbed old.kept.dims old.kept.room (step_of round) lane.parcel old.kept.part) gathered
     → CanClear acts round old lane
     → HaveLogRoom (events_in new.kept.room (local_after new.kept.dims new.k acts (Some round))) new.kept.log_rooms
     × (new.kept.part.clock + deliveries (local_after new.kept.dims new.k acts (Some round)) < 2 ^ 63)
 still_room acts round old lane new gathered is can =
-    subst (λ (z : KeptBlock).
+    subst (λ (z : BlockView).
     HaveLogRoom (events_in z.kept.room (local_after z.kept.dims z.k acts (Some round))) z.kept.log_rooms
     × (z.kept.part.clock + deliveries (local_after z.kept.dims z.k acts (Some round)) < 2 ^ 63)) (sym is) (
       can.log_room,

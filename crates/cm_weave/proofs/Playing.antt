@@ -10,7 +10,7 @@ use Rattle.std.proofs.lemmas.Bool.Decides.{nat_tests}
 use Rattle.cm_model.specs.declared.act.Act.{Act}
 use Rattle.cm_model.specs.Machine.{Machine}
 use Rattle.cm_subcube.specs.declared.round.Round.{Round}
-use Rattle.cm_subcube.specs.Blocks.{KeptBlock}
+use Rattle.cm_subcube.specs.Blocks.{BlockView}
 use Rattle.cm_subcube.specs.Rounds.{rounds_of, round_of}
 use Rattle.cm_subcube.specs.Rounds as subcube_rounds
 use Rattle.cm_blocks.specs.Rounds as blocks_rounds
@@ -36,13 +36,13 @@ use Rattle.cm_weave.proofs.Weaving.{is_exchange, sound, lane_count, seen-at, abl
 use Rattle.cm_weave.proofs.Weaving.{world_is, told}
 use Rattle.cm_weave.specs.Moves.{CanWeave, HasWoven}
 
-abbrev pub view : ℕ → Machine → List Act → List KeptBlock → List Stand → List Lane → Woven
+abbrev pub view : ℕ → Machine → List Act → List BlockView → List Stand → List Lane → Woven
 view k machine acts blocks stands lanes = record {
   k = k;
   machine = machine;
   acts = acts;
   world = world_seen stands lanes;
-  parts = map (λ (b : KeptBlock). b.kept.part) blocks;
+  parts = map (λ (b : BlockView). b.kept.part) blocks;
 }
 
 mover_is : (exchange : Exchange) (stand : Stand) (step : Step) (number : ℕ) → number ≡ kind_now exchange stand
@@ -52,7 +52,7 @@ mover_is exchange stand (File b) number is = refl
 mover_is exchange stand (Draw b) number is = ap (λ (z : ℕ). mover exchange.k z (Draw b)) is
 mover_is exchange stand (Clear b) number is = ap (λ (z : ℕ). mover exchange.k z (Clear b)) is
 
-module _ (n cap k : ℕ) (machine : Machine) (acts : List Act) (rounds_kept : List Round) (blocks : List KeptBlock)
+module _ (n cap k : ℕ) (machine : Machine) (acts : List Act) (rounds_kept : List Round) (blocks : List BlockView)
     (stands : List Stand) (lanes : List Lane) (w : AreWoven n cap k machine acts rounds_kept blocks stands lanes) where
   abbrev exchange : Exchange
   exchange = exchange_of n cap k machine acts
@@ -167,7 +167,7 @@ stage_not n cap now step stand is other =
     (λ e. other (ap (λ (z : Stand). z.stage) is ∙ e)) in
     and_false _ _ (and_false _ _ (false_and _ _ t))
 
-module _ (n cap k : ℕ) (machine : Machine) (acts : List Act) (rounds_kept : List Round) (blocks : List KeptBlock)
+module _ (n cap k : ℕ) (machine : Machine) (acts : List Act) (rounds_kept : List Round) (blocks : List BlockView)
     (stands : List Stand) (lanes : List Lane) (w : AreWoven n cap k machine acts rounds_kept blocks stands lanes)
     (now : Woven) (is : view k machine acts blocks stands lanes ≡ now) (step : Step) where
   pub rounds_now : length rounds_kept ≡ round_count (exchange_of n cap now.k now.machine now.acts)
@@ -248,7 +248,7 @@ stage_few (File b) = omega arith
 stage_few (Draw b) = omega arith
 stage_few (Clear b) = omega arith
 
-module _ (n cap k : ℕ) (machine : Machine) (acts : List Act) (rounds_kept : List Round) (blocks : List KeptBlock)
+module _ (n cap k : ℕ) (machine : Machine) (acts : List Act) (rounds_kept : List Round) (blocks : List BlockView)
     (stands : List Stand) (lanes : List Lane) (w : AreWoven n cap k machine acts rounds_kept blocks stands lanes)
     (now : Woven) (is : view k machine acts blocks stands lanes ≡ now) (step : Step)
     (possible_now : is_possible (exchange_of n cap now.k now.machine now.acts) now.world step ≡ true) where
@@ -319,7 +319,7 @@ module _ (n cap k : ℕ) (machine : Machine) (acts : List Act) (rounds_kept : Li
       taken_in_lanes = subst (λ (z : ℕ). z < length lanes) (sym lane_is)
           (lane_below n cap k machine acts rounds_kept blocks stands lanes w step ready_to.below ready_to.within)
 
-      module _ (block : KeptBlock) (lane : Lane) (block_read : block ≡ get_or blocks b block)
+      module _ (block : BlockView) (lane : Lane) (block_read : block ≡ get_or blocks b block)
           (lane_read : lane ≡ get_or lanes at lane) where
         block_is : block ≡ get_or blocks (block_of step) block
         block_is = block_read ∙ ap (λ (z : ℕ). get_or blocks z block) b_is
@@ -341,7 +341,7 @@ module _ (n cap k : ℕ) (machine : Machine) (acts : List Act) (rounds_kept : Li
         pub taken_can : CanWeave acts step kept block lane
         taken_can =
             subst (λ (z : Round). CanWeave acts step z block lane) (sym phase_is)
-            (subst (λ (z : KeptBlock). CanWeave acts step
+            (subst (λ (z : BlockView). CanWeave acts step
             (round_of (there n cap k machine acts rounds_kept blocks stands lanes w step possible).phase) z lane)
             (sym block_is)
             (subst (λ (z : Lane). CanWeave acts step
@@ -350,7 +350,7 @@ module _ (n cap k : ℕ) (machine : Machine) (acts : List Act) (rounds_kept : Li
             (sym its_lane_is)
             (can_weave n cap k machine acts rounds_kept blocks stands lanes w step possible block lane small)))
 
-        module _ (new : KeptBlock) (moved_to : Lane) (gone : Stand) (gone_is : gone ≡ stand_after step stand)
+        module _ (new : BlockView) (moved_to : Lane) (gone : Stand) (gone_is : gone ≡ stand_after step stand)
             (has : HasWoven acts step kept block lane new moved_to) where
           its_has : HasWoven acts step
               (round_of (there n cap k machine acts rounds_kept blocks stands lanes w step possible).phase)
@@ -359,7 +359,7 @@ module _ (n cap k : ℕ) (machine : Machine) (acts : List Act) (rounds_kept : Li
               subst (λ (z : Lane). HasWoven acts step
               (round_of (there n cap k machine acts rounds_kept blocks stands lanes w step possible).phase)
               (get_or blocks (block_of step) block) z new moved_to) its_lane_is
-              (subst (λ (z : KeptBlock). HasWoven acts step
+              (subst (λ (z : BlockView). HasWoven acts step
               (round_of (there n cap k machine acts rounds_kept blocks stands lanes w step possible).phase)
               z lane new moved_to) block_is
               (subst (λ (z : Round). HasWoven acts step z block lane new moved_to) phase_is has))

@@ -5,7 +5,7 @@ use Rattle.std.proofs.lemmas.List.{length-map, get_or-map}
 use Rattle.cm_model.specs.declared.act.Act.{Act}
 use Rattle.cm_model.specs.Machine.{Machine}
 use Rattle.cm_subcube.specs.declared.round.Round.{Round}
-use Rattle.cm_subcube.specs.Blocks.{KeptBlock}
+use Rattle.cm_subcube.specs.Blocks.{BlockView}
 use Rattle.cm_exchange.specs.declared.stand.Stand.{Stand}
 use Rattle.cm_exchange.specs.declared.step.Step.{Step}
 use Rattle.cm_exchange.specs.Lanes.{exchange_of}
@@ -20,7 +20,7 @@ use Rattle.cm_weave.proofs.Following.{exchange_is}
 use Rattle.cm_weave.proofs.Playing.{view, as_many}
 
 pub on_its_way : (n cap k : ℕ) (machine : Machine) (acts : List Act) (rounds_kept : List Round)
-    (blocks : List KeptBlock) (stands : List Stand) (lanes : List Lane)
+    (blocks : List BlockView) (stands : List Stand) (lanes : List Lane)
     → AreWoven n cap k machine acts rounds_kept blocks stands lanes → (now : Woven)
     → view k machine acts blocks stands lanes ≡ now → IsOnItsWay n cap now
 on_its_way n cap k machine acts rounds_kept blocks stands lanes w now is = subst (IsOnItsWay n cap) is (record {
@@ -30,9 +30,9 @@ on_its_way n cap k machine acts rounds_kept blocks stands lanes w now is = subst
       let f = w.few_rounds in
       let m = as_many n cap k machine acts rounds_kept blocks stands lanes w in omega (arith, f, m);
   reached = w.reached;
-  count = length-map blocks (λ (b : KeptBlock). b.kept.part) ∙ w.block_count;
+  count = length-map blocks (λ (b : BlockView). b.kept.part) ∙ w.block_count;
   parts = λ b d l.
-      get_or-map (λ (z : KeptBlock). z.kept.part) blocks b (no_block n k machine) d
+      get_or-map (λ (z : BlockView). z.kept.part) blocks b (no_block n k machine) d
       (subst (λ (z : ℕ). b < z) (sym w.block_count) l)
       ∙ (w.each b (no_block n k machine) l).part;
 })

@@ -22,7 +22,7 @@ use Rattle.cm_router.proofs.Rooms.{room_left, less_room}
 use Rattle.cm_subcube.specs.declared.round.Kind.{Kind}
 use Rattle.cm_subcube.specs.declared.round.Kind.TheVariants as kind
 use Rattle.cm_subcube.specs.declared.round.Round.{Round}
-use Rattle.cm_subcube.specs.Blocks.{KeptBlock}
+use Rattle.cm_subcube.specs.Blocks.{BlockView}
 use Rattle.cm_subcube.specs.Rounds.{round_of, step_of}
 use Rattle.cm_subcube.specs.Parcels.{blank_parcel, IsOfKind, HaveSpaceFor, SparesCuts}
 use Rattle.cm_subcube.specs.Local.{local_after, IsRoundOf}
@@ -109,7 +109,7 @@ reached_more exchange now then step reached possible is = record {
   };
 }
 
-module _ (n cap k : ℕ) (machine : Machine) (acts : List Act) (rounds_kept : List Round) (blocks : List KeptBlock)
+module _ (n cap k : ℕ) (machine : Machine) (acts : List Act) (rounds_kept : List Round) (blocks : List BlockView)
     (stands : List Stand) (lanes : List Lane) (w : AreWoven n cap k machine acts rounds_kept blocks stands lanes) where
   abbrev exchange : Exchange
   exchange = exchange_of n cap k machine acts
@@ -176,8 +176,8 @@ module _ (n cap k : ℕ) (machine : Machine) (acts : List Act) (rounds_kept : Li
         ∙ (told step).stage possible
 
     -- a block's own sizes are those of the cut
-    module _ (d : KeptBlock) (e : Lane) where
-      abbrev old : KeptBlock
+    module _ (d : BlockView) (e : Lane) where
+      abbrev old : BlockView
       old = get_or blocks b d
 
       abbrev lane : Lane
@@ -311,7 +311,7 @@ module _ (n cap k : ℕ) (machine : Machine) (acts : List Act) (rounds_kept : Li
 
       -- ---- after it
 
-      module _ (new : KeptBlock) (moved_to : Lane) (has : HasWoven acts step round old lane new moved_to) where
+      module _ (new : BlockView) (moved_to : Lane) (has : HasWoven acts step round old lane new moved_to) where
         parcel_to : ℕ
         parcel_to = giver k (lane_kinds.kind_number_of n k there.phase.step) b
 
@@ -560,12 +560,12 @@ module _ (n cap k : ℕ) (machine : Machine) (acts : List Act) (rounds_kept : Li
               (get_or (set blocks b new) c x)) (sym here)
               (subst (λ (z : Stand). StandsThere n cap k machine acts b z (get_or (set blocks b new) c x))
               (sym there_now)
-              (subst (λ (z : KeptBlock). StandsThere n cap k machine acts b (stand_after step stand) z) (sym block_now)
+              (subst (λ (z : BlockView). StandsThere n cap k machine acts b (stand_after step stand) z) (sym block_now)
               stands_new)))
               (λ (other : c ≢ b).
               subst (λ (z : Stand). StandsThere n cap k machine acts c z (get_or (set blocks b new) c x))
               (sym (get_or-set_other stands b c (stand_after step stand) at_first other))
-              (subst (λ (z : KeptBlock). StandsThere n cap k machine acts c (get_or stands c at_first) z)
+              (subst (λ (z : BlockView). StandsThere n cap k machine acts c (get_or stands c at_first) z)
               (sym (get_or-set_other blocks b c new x other)) (w.each c x below)))
               (cases_eq c b);
           blank = still_blank;

@@ -8,7 +8,7 @@ use Rattle.cm_blocks.specs.Rounds.{steps_after_round, before_round}
 use Rattle.cm_blocks.specs.Steps.{part_after_all}
 use Rattle.cm_router.specs.Logs.{HaveLogRoom}
 use Rattle.cm_array.specs.Acts.{cycles_in}
-use Rattle.cm_subcube.specs.Blocks.{KeptBlock}
+use Rattle.cm_subcube.specs.Blocks.{BlockView}
 use Rattle.cm_subcube.specs.Laws.{all_blocks}
 use Rattle.cm_subcube.specs.Local.{local_after}
 use Rattle.cm_exchange.specs.Lanes.{exchange_of}
@@ -18,7 +18,7 @@ use Rattle.cm_weave.specs.declared.lane.Lane.{Lane}
 use Rattle.cm_weave.specs.Woven.{Woven, world_seen, blank_of, AreWoven}
 
 -- a block that was cut out, with room in its logs for a whole run
-pub record IsFirstBlock (n cap k : ℕ) (machine : Machine) (acts : List Act) (b : ℕ) (one : KeptBlock) : Type 0 where
+pub record IsFirstBlock (n cap k : ℕ) (machine : Machine) (acts : List Act) (b : ℕ) (one : BlockView) : Type 0 where
   pub blocks : one.k ≡ k
   pub dims : one.kept.dims ≡ n
   pub room : one.kept.room ≡ cap
@@ -27,7 +27,7 @@ pub record IsFirstBlock (n cap k : ℕ) (machine : Machine) (acts : List Act) (b
   pub clock : one.kept.part.clock + cycles_in acts < 2 ^ 63
 
 -- one that has gone by itself until the first round, with room for what is ahead of it
-pub record HasBegun (n cap k : ℕ) (machine : Machine) (acts : List Act) (b : ℕ) (one : KeptBlock) : Type 0 where
+pub record HasBegun (n cap k : ℕ) (machine : Machine) (acts : List Act) (b : ℕ) (one : BlockView) : Type 0 where
   pub blocks : one.k ≡ k
   pub dims : one.kept.dims ≡ n
   pub room : one.kept.room ≡ cap
@@ -36,11 +36,11 @@ pub record HasBegun (n cap k : ℕ) (machine : Machine) (acts : List Act) (b : �
   pub clock : one.kept.part.clock + deliveries (steps_after_round n k acts 0) < 2 ^ 63
 
 -- of the blocks of a machine, those below a number have begun
-pub record AreBeginning (n cap k : ℕ) (machine : Machine) (acts : List Act) (first : ℕ) (blocks : List KeptBlock)
+pub record AreBeginning (n cap k : ℕ) (machine : Machine) (acts : List Act) (first : ℕ) (blocks : List BlockView)
     : Type 0 where
   pub count : length blocks ≡ 2 ^ k
-  pub begun : (b : ℕ) (d : KeptBlock) → b < first → b < 2 ^ k → HasBegun n cap k machine acts b (get_or blocks b d)
-  pub cut : (b : ℕ) (d : KeptBlock) → first ≤ b → b < 2 ^ k → IsFirstBlock n cap k machine acts b (get_or blocks b d)
+  pub begun : (b : ℕ) (d : BlockView) → b < first → b < 2 ^ k → HasBegun n cap k machine acts b (get_or blocks b d)
+  pub cut : (b : ℕ) (d : BlockView) → first ≤ b → b < 2 ^ k → IsFirstBlock n cap k machine acts b (get_or blocks b d)
 
 -- the lane of a number, not used yet
 pub record IsUnused (n k i : ℕ) (lane : Lane) : Type 0 where

@@ -10,7 +10,7 @@ use Rattle.cm_blocks.specs.Parcels.{Parcel}
 use Rattle.cm_blocks.specs.Rounds.{rounds, steps_after_round}
 use Rattle.cm_router.specs.Logs.{HaveLogRoom}
 use Rattle.cm_subcube.specs.declared.round.Round.{Round}
-use Rattle.cm_subcube.specs.Blocks.{KeptBlock}
+use Rattle.cm_subcube.specs.Blocks.{BlockView}
 use Rattle.cm_subcube.specs.Rounds.{kind_of, rounds_of}
 use Rattle.cm_subcube.specs.Parcels.{blank_parcel, HaveSpaceFor}
 use Rattle.cm_exchange.specs.declared.stand.Stand.{Stand}
@@ -57,7 +57,7 @@ HasSpaceIn room (suc (suc stage)) (Some phase) s = HaveSpaceFor (kind_of phase.s
 
 -- block b where it stands
 pub record StandsThere (n cap k : ℕ) (machine : Machine) (acts : List Act) (b : ℕ) (stand : Stand)
-    (block : KeptBlock) : Type 0 where
+    (block : BlockView) : Type 0 where
   pub blocks : block.k ≡ k
   pub dims : block.kept.dims ≡ n
   pub room : block.kept.room ≡ cap
@@ -77,14 +77,14 @@ AreBlank n k lanes = (i : ℕ) (d : Lane) → i < length lanes → nat_lt ((get_
 
 -- what is kept is a world of the run
 pub record AreWoven (n cap k : ℕ) (machine : Machine) (acts : List Act) (rounds_kept : List Round)
-    (blocks : List KeptBlock) (stands : List Stand) (lanes : List Lane) : Type 0 where
+    (blocks : List BlockView) (stands : List Stand) (lanes : List Lane) : Type 0 where
   pub few : n ≤ 12
   pub within : k ≤ n - n / 2
   pub rounds_are : rounds_kept ≡ rounds_of n k acts
   pub few_rounds : length rounds_kept ≤ 2 ^ 20
   pub reached : IsSomehowReached (exchange_of n cap k machine acts) (world_seen stands lanes)
   pub block_count : length blocks ≡ 2 ^ k
-  pub each : (b : ℕ) (d : KeptBlock) → b < 2 ^ k
+  pub each : (b : ℕ) (d : BlockView) → b < 2 ^ k
       → StandsThere n cap k machine acts b (get_or stands b at_first) (get_or blocks b d)
   pub blank : AreBlank n k lanes
 

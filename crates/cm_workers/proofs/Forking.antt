@@ -17,7 +17,7 @@ use Rattle.cm_blocks.proofs.Rounding.{rounds_end_the_run}
 use Rattle.cm_array.specs.Acts.{cycles_in}
 use Rattle.cm_router.specs.Logs.{HaveLogRoom}
 use Rattle.cm_array.specs.Cuts.{joined, AreWhole}
-use Rattle.cm_subcube.specs.Blocks.{KeptBlock, IsFresh}
+use Rattle.cm_subcube.specs.Blocks.{BlockView, IsFresh}
 use Rattle.cm_subcube.specs.Laws.{all_blocks}
 use Rattle.cm_subcube.proofs.Joining.{clock-block, joined-blocks, AreWhole-blocks}
 use Rattle.cm_workers.specs.declared.post.Post.{Post}
@@ -26,14 +26,14 @@ use Rattle.cm_workers.specs.Runs.{StandAt, AreAfter}
 
 -- blocks that were just cut stand at the first turn of a run
 pub stand_first : (n cap k cycles : ℕ) (machine : Machine) (acts : List Act)
-    (blocks : List KeptBlock) (posts : List Post)
-    → map (λ (b : KeptBlock). b.kept.part) blocks ≡ all_blocks n k machine
+    (blocks : List BlockView) (posts : List Post)
+    → map (λ (b : BlockView). b.kept.part) blocks ≡ all_blocks n k machine
     → All (IsFresh n cap k (cycles * (4 + cap))) blocks
     → length posts ≡ length blocks → All (λ (post : Post). post ≡ blank_post n k) posts
     → cycles_in acts ≡ cycles → machine.clock + cycles < 2 ^ 63 → StandAt n k cap machine acts 0 blocks posts
 stand_first n cap k cycles machine acts blocks posts cut fresh as_many blank counted late =
     let count : length blocks ≡ 2 ^ k =
-    sym (length-map blocks (λ (b : KeptBlock). b.kept.part)) ∙ ap length cut
+    sym (length-map blocks (λ (b : BlockView). b.kept.part)) ∙ ap length cut
     ∙ length-tabulate 0 (2 ^ k) (λ b. block n k b machine) in
     record {
       block_count = count;
@@ -42,7 +42,7 @@ stand_first n cap k cycles machine acts blocks posts cut fresh as_many blank cou
           let below : b < length blocks = omega (arith, l, count) in
           let one = All-get_or (IsFresh n cap k (cycles * (4 + cap))) blocks b x below fresh in
           let is : (get_or blocks b x).kept.part ≡ block n k b machine =
-          sym (get_or-map (λ (z : KeptBlock). z.kept.part) blocks b x (block n k b machine) below)
+          sym (get_or-map (λ (z : BlockView). z.kept.part) blocks b x (block n k b machine) below)
           ∙ ap (λ (parts : List Part). get_or parts b (block n k b machine)) cut
           ∙ get_or-each_below (2 ^ k) (λ j. block n k j machine) b (block n k b machine) l in
           record {
@@ -62,29 +62,29 @@ stand_first n cap k cycles machine acts blocks posts cut fresh as_many blank cou
     }
 
 -- some block
-no_block : ℕ → ℕ → Machine → KeptBlock
+no_block : ℕ → ℕ → Machine → BlockView
 no_block n k machine = record {
   k = k;
   kept = record { dims = n; room = 0; part = block n k 0 machine; log_rooms = []; gathered = true };
 }
 
 -- blocks after a run are those of the machine after it
-pub after_are : (n cap k : ℕ) (machine : Machine) (acts : List Act) (blocks : List KeptBlock) (one : KeptBlock)
+pub after_are : (n cap k : ℕ) (machine : Machine) (acts : List Act) (blocks : List BlockView) (one : BlockView)
     → IsMachine n cap machine
     → AreAfter n k cap machine acts blocks
-    → map (λ (b : KeptBlock). b.kept.part) blocks ≡ all_blocks n k (run_of n cap machine acts)
+    → map (λ (b : BlockView). b.kept.part) blocks ≡ all_blocks n k (run_of n cap machine acts)
 after_are n cap k machine acts blocks one is after =
     is_each (block n k 0 machine) (2 ^ k) (λ b. block n k b (run_of n cap machine acts))
-    (map (λ (b : KeptBlock). b.kept.part) blocks)
-    (length-map blocks (λ (b : KeptBlock). b.kept.part) ∙ after.count)
+    (map (λ (b : BlockView). b.kept.part) blocks)
+    (length-map blocks (λ (b : BlockView). b.kept.part) ∙ after.count)
     (λ b l. let below : b < length blocks = omega (arith, l, after.count) in
-    get_or-map (λ (z : KeptBlock). z.kept.part) blocks b one (block n k 0 machine) below ∙ after.each b one l
+    get_or-map (λ (z : BlockView). z.kept.part) blocks b one (block n k 0 machine) below ∙ after.each b one l
     ∙ ap (λ (m : Machine). block n k b m) (rounds_end_the_run n cap k machine acts is.buffer_count))
 
-pub parts_after : (n cap dims k : ℕ) (machine : Machine) (acts : List Act) (blocks : List KeptBlock) → dims ≡ n
+pub parts_after : (n cap dims k : ℕ) (machine : Machine) (acts : List Act) (blocks : List BlockView) → dims ≡ n
     → IsMachine n cap machine
     → AreAfter dims k cap machine acts blocks
-    → map (λ (b : KeptBlock). b.kept.part) blocks ≡ all_blocks n k (run_of n cap machine acts)
+    → map (λ (b : BlockView). b.kept.part) blocks ≡ all_blocks n k (run_of n cap machine acts)
 parts_after n cap dims k machine acts blocks same is after =
     after_are n cap k machine acts blocks (no_block n k machine) is
     (subst (λ (d : ℕ). AreAfter d k cap machine acts blocks) same after)

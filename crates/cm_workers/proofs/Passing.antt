@@ -10,9 +10,9 @@ use Rattle.cm_model.specs.declared.act.Act.{Act}
 use Rattle.cm_model.specs.Machine.{Machine}
 use Rattle.cm_blocks.specs.Parts.{block}
 use Rattle.cm_blocks.specs.Rounds.{rounds, before_round}
-use Rattle.cm_array.specs.Cuts.{KeptPart}
+use Rattle.cm_array.specs.Cuts.{PartView}
 use Rattle.cm_subcube.specs.declared.round.Round.{Round}
-use Rattle.cm_subcube.specs.Blocks.{KeptBlock}
+use Rattle.cm_subcube.specs.Blocks.{BlockView}
 use Rattle.cm_subcube.specs.Rounds.{round_of, rounds_of}
 use Rattle.cm_workers.specs.declared.post.Post.{Post}
 use Rattle.cm_workers.specs.Posts.{blank_post}
@@ -33,16 +33,16 @@ there_below xs i x is = ⊎_elim
     (cases_lt i (length xs))
 
 module _ (n k room : ℕ) (machine : Machine) (acts : List Act) (t count w : ℕ) (before : Option Round)
-    (blocks bs : List KeptBlock) (posts ps : List Post) (within : k ≤ n - n / 2)
+    (blocks bs : List BlockView) (posts ps : List Post) (within : k ≤ n - n / 2)
     (below : t ≤ length (rounds_of n k acts)) (before_is : before ≡ round_before (rounds_of n k acts) t)
     (at : StandsAsWorker n k room machine acts t count w blocks posts)
     (gone : AreEach (HasGoneOn acts before) blocks posts bs ps) where
   -- each block's part is as it is before the round
-  part_comes : (q : ℕ) (b : KeptBlock) → q < length blocks
+  part_comes : (q : ℕ) (b : BlockView) → q < length blocks
       → (get_or bs q b).kept.part ≡ block n k (q * count + w) (before_round n room k machine acts t)
   part_comes q b l =
       let p : Post = blank_post n k in
-      let kept : KeptBlock = get_or blocks q b in let post : Post = get_or posts q p in
+      let kept : BlockView = get_or blocks q b in let post : Post = get_or posts q p in
       let stood = at.each q b p l in
       (gone.each q b p l).part
       ∙ ap (λ (d : ℕ). part_gone_on d kept.k kept.kept.room acts before post kept.kept.part) stood.dims
@@ -52,7 +52,7 @@ module _ (n k room : ℕ) (machine : Machine) (acts : List Act) (t count w : ℕ
       ∙ gone_to n k room machine acts within t (q * count + w) kept post below ((at.share q).0 l) stood
 
   -- and so is each block
-  one_comes : (q : ℕ) (b : KeptBlock) → q < length blocks
+  one_comes : (q : ℕ) (b : BlockView) → q < length blocks
       → IsBeforeRound n k room machine acts t (q * count + w) (get_or bs q b)
   one_comes q b l =
       let p : Post = blank_post n k in
@@ -72,7 +72,7 @@ module _ (n k room : ℕ) (machine : Machine) (acts : List Act) (t count w : ℕ
   }
 
 -- and so they are when they can be read
-pub still_before : (n k room : ℕ) (machine : Machine) (acts : List Act) (t count w : ℕ) (bs now : List KeptBlock)
+pub still_before : (n k room : ℕ) (machine : Machine) (acts : List Act) (t count w : ℕ) (bs now : List BlockView)
     → AreShown bs now → AreBeforeRound n k room machine acts t count w bs
     → AreBeforeRound n k room machine acts t count w now
 still_before n k room machine acts t count w bs now shown was = record {
@@ -82,14 +82,14 @@ still_before n k room machine acts t count w bs now shown was = record {
       let m : q < length bs = omega (arith, l, shown.len) in
       let is = shown.each q b m in let it = was.each q b m in record {
         blocks = is.blocks ∙ it.blocks;
-        dims = ap (λ (kept : KeptPart). kept.dims) is.kept ∙ it.dims;
-        room_is = ap (λ (kept : KeptPart). kept.room) is.kept ∙ it.room_is;
-        part = ap (λ (kept : KeptPart). kept.part) is.kept ∙ it.part;
+        dims = ap (λ (kept : PartView). kept.dims) is.kept ∙ it.dims;
+        room_is = ap (λ (kept : PartView). kept.room) is.kept ∙ it.room_is;
+        part = ap (λ (kept : PartView). kept.part) is.kept ∙ it.part;
       };
 }
 
 -- a worker whose blocks have gone on comes by, if a round is ahead
-pub comes_by : (acts : List Act) (before : Option Round) (t w : ℕ) (blocks bs : List KeptBlock) (posts ps : List Post)
+pub comes_by : (acts : List Act) (before : Option Round) (t w : ℕ) (blocks bs : List BlockView) (posts ps : List Post)
     → AreEach (HasGoneOn acts before) blocks posts bs ps → (next : Option Round)
     → IsWorkersTurn acts before next t w blocks posts → IfSome next (λ _. ComesBy w (gate_round_number t) bs)
 comes_by acts before t w blocks bs posts ps gone None turn = tt
@@ -109,7 +109,7 @@ comes_by acts before t w blocks bs posts ps gone (Some round) turn = record {
 }
 
 -- so it does with blocks that can be read
-pub still_comes : (w told : ℕ) (bs now : List KeptBlock) → AreShown bs now → ComesBy w told bs → ComesBy w told now
+pub still_comes : (w told : ℕ) (bs now : List BlockView) → AreShown bs now → ComesBy w told bs → ComesBy w told now
 still_comes w told bs now shown was = record {
   n = was.n;
   k = was.k;
@@ -124,7 +124,7 @@ still_comes w told bs now shown was = record {
 }
 
 -- so it does before a round that is there, of which it is told by its number
-pub shown_comes : (next : Option Round) (round : Round) (w number told : ℕ) (bs now : List KeptBlock)
+pub shown_comes : (next : Option Round) (round : Round) (w number told : ℕ) (bs now : List BlockView)
     → next ≡ Some round → told ≡ gate_round_number number → AreShown bs now
     → IfSome next (λ _. ComesBy w (gate_round_number number) bs) → ComesBy w told now
 shown_comes next round w number told bs now is told_is shown own =
@@ -134,19 +134,19 @@ shown_comes next round w number told bs now is told_is shown own =
 
 -- the turn of a worker as it is told by its number
 pub own_as_numbered : (acts : List Act) (before before_it next next_it : Option Round) (t w : ℕ)
-    (blocks bs : List KeptBlock) (posts ps : List Post)
+    (blocks bs : List BlockView) (posts ps : List Post)
     → before ≡ before_it → next ≡ next_it → bs ≡ blocks → ps ≡ posts
     → IsWorkersTurn acts before_it next_it t w blocks posts
     → IsWorkersTurn acts before next t w bs ps
 own_as_numbered acts before before_it next next_it t w blocks bs posts ps b n bs_is ps_is turn =
     subst (λ (one : Option Round). IsWorkersTurn acts one next t w bs ps) (sym b)
     (subst (λ (one : Option Round). IsWorkersTurn acts before_it one t w bs ps) (sym n)
-    (subst (λ (xs : List KeptBlock). IsWorkersTurn acts before_it next_it t w xs ps) (sym bs_is)
+    (subst (λ (xs : List BlockView). IsWorkersTurn acts before_it next_it t w xs ps) (sym bs_is)
     (subst (λ (xs : List Post). IsWorkersTurn acts before_it next_it t w blocks xs) (sym ps_is) turn)))
 
 -- hands that were dealt from all blocks of a run are those of its workers
-pub hands_turns : (n k t count : ℕ) (acts : List Act) (rounds_now : List Round) (blocks : List KeptBlock)
-    (posts : List Post) (hb : List (Vec KeptBlock Global)) (hp : List (Vec Post Global))
+pub hands_turns : (n k t count : ℕ) (acts : List Act) (rounds_now : List Round) (blocks : List BlockView)
+    (posts : List Post) (hb : List (Vec BlockView Global)) (hp : List (Vec Post Global))
     → k ≤ n - n / 2 → rounds_now ≡ rounds_of n k acts → t ≤ length rounds_now → HaveBegun n k acts t blocks posts
     → AreDealt count blocks hb → AreDealt count posts hp
     → AreWorkersTurns acts (round_before rounds_now t) (slice_get rounds_now t) t hb hp
@@ -167,7 +167,7 @@ hands_turns n k t count acts rounds_now blocks posts hb hp within is below begun
         share = λ q. subst (λ (m : ℕ). (q < length (hand hb e w)) ↔ (q * count + w < m)) many (db.shares w q e l);
         each = λ q b p r.
             let at : q * count + w < length blocks = (db.shares w q e l).0 r in
-            subst (λ (x : KeptBlock). StandsAt n k begun.room begun.machine acts t (q * count + w) x
+            subst (λ (x : BlockView). StandsAt n k begun.room begun.machine acts t (q * count + w) x
             (get_or (hand hp f w) q p)) (sym (db.each w q e b l at))
             (subst (λ (x : Post). StandsAt n k begun.room begun.machine acts t (q * count + w)
             (get_or blocks (q * count + w) b) x) (sym (dp.each w q f p l (omega (arith, at, many, as_many))))
@@ -178,8 +178,8 @@ hands_turns n k t count acts rounds_now blocks posts hb hp within is below begun
 -- ---- who looks
 
 -- what a worker's blocks became was shown, if a round is ahead
-pub shows_in : (saw : ℕ → ℕ → List KeptBlock → Type 0) (acts : List Act) (before next : Option Round) (t w : ℕ)
-    (blocks gone shown : List KeptBlock) (posts blanks : List Post) → AreEach (HasGoneOn acts before) blocks posts gone blanks
+pub shows_in : (saw : ℕ → ℕ → List BlockView → Type 0) (acts : List Act) (before next : Option Round) (t w : ℕ)
+    (blocks gone shown : List BlockView) (posts blanks : List Post) → AreEach (HasGoneOn acts before) blocks posts gone blanks
     → AreShown gone shown → IfSome next (λ _. saw w (gate_round_number t) shown)
     → ShowsIn saw acts before next t w blocks posts
 shows_in saw acts before None t w blocks gone shown posts blanks went same seen = tt
@@ -187,12 +187,12 @@ shows_in saw acts before (Some round) t w blocks gone shown posts blanks went sa
     record { gone = gone; blanks = blanks; went = went; shown = shown; same = same; seen = seen }
 
 -- so it is told by the turn's number
-pub shows_as_numbered : (saw : ℕ → ℕ → List KeptBlock → Type 0) (acts : List Act) (before before_it next next_it : Option Round)
-    (t w : ℕ) (blocks bs : List KeptBlock) (posts ps : List Post)
+pub shows_as_numbered : (saw : ℕ → ℕ → List BlockView → Type 0) (acts : List Act) (before before_it next next_it : Option Round)
+    (t w : ℕ) (blocks bs : List BlockView) (posts ps : List Post)
     → before ≡ before_it → next ≡ next_it → bs ≡ blocks → ps ≡ posts
     → ShowsIn saw acts before next t w bs ps → ShowsIn saw acts before_it next_it t w blocks posts
 shows_as_numbered saw acts before before_it next next_it t w blocks bs posts ps b n bs_is ps_is shows =
     subst (λ (one : Option Round). ShowsIn saw acts one next_it t w blocks posts) b
     (subst (λ (one : Option Round). ShowsIn saw acts before one t w blocks posts) n
-    (subst (λ (xs : List KeptBlock). ShowsIn saw acts before next t w xs posts) bs_is
+    (subst (λ (xs : List BlockView). ShowsIn saw acts before next t w xs posts) bs_is
     (subst (λ (xs : List Post). ShowsIn saw acts before next t w bs xs) ps_is shows)))

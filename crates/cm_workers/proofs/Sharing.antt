@@ -7,7 +7,7 @@ use Rattle.std.proofs.lemmas.Nat.{div-add-mod'}
 use Rattle.std.proofs.Math.Nat.{mod-lt}
 use Rattle.cm_model.specs.declared.act.Act.{Act}
 use Rattle.cm_subcube.specs.declared.round.Round.{Round}
-use Rattle.cm_subcube.specs.Blocks.{KeptBlock}
+use Rattle.cm_subcube.specs.Blocks.{BlockView}
 use Rattle.cm_workers.specs.declared.post.Post.{Post}
 use Rattle.cm_workers.specs.Dealing.{hand, AreDealt, AreShares}
 use Rattle.cm_workers.specs.Each.{AreEach}
@@ -32,8 +32,8 @@ same_shares count many as_ bs first second w e f below =
       (λ (l : q < length (hand as_ e w)). (second w q f below).1 ((first w q e below).0 l)),
     ))
 
-module _ (acts : List Act) (before next : Option Round) (count : ℕ) (some : 0 < count) (blocks : List KeptBlock)
-    (posts : List Post) (hb : List (Vec KeptBlock Global)) (hp : List (Vec Post Global))
+module _ (acts : List Act) (before next : Option Round) (count : ℕ) (some : 0 < count) (blocks : List BlockView)
+    (posts : List Post) (hb : List (Vec BlockView Global)) (hp : List (Vec Post Global))
     (same : length posts ≡ length blocks) (db : AreDealt count blocks hb) (dp : AreDealt count posts hp) where
   post_shares : AreShares count (length blocks) hp
   post_shares = subst (λ (n : ℕ). AreShares count n hp) same dp.shares
@@ -46,7 +46,7 @@ module _ (acts : List Act) (before next : Option Round) (count : ℕ) (some : 0 
           len = same_shares count (length blocks) hb hp db.shares post_shares w e f l;
           each = λ q b p k.
               let at : q * count + w < length blocks = (db.shares w q e l).0 k in
-              subst (λ (x : KeptBlock). IsReadyForTurn acts before next x (get_or (hand hp f w) q p))
+              subst (λ (x : BlockView). IsReadyForTurn acts before next x (get_or (hand hp f w) q p))
               (sym (db.each w q e b l at))
               (subst (λ (x : Post). IsReadyForTurn acts before next (get_or blocks (q * count + w) b) x)
               (sym (dp.each w q f p l (omega (arith, at, same))))
@@ -54,7 +54,7 @@ module _ (acts : List Act) (before next : Option Round) (count : ℕ) (some : 0 
         };
   }
 
-  module _ (now : List (Vec KeptBlock Global)) (sent : List (Vec Post Global))
+  module _ (now : List (Vec BlockView Global)) (sent : List (Vec Post Global))
       (gone : HandsHaveGone acts before next hb hp now sent) where
     pub block_count : length now ≡ count
     block_count = gone.first_len ∙ db.len
@@ -70,7 +70,7 @@ module _ (acts : List Act) (before next : Option Round) (count : ℕ) (some : 0 
           (λ (k : q * count + w < length blocks). let m = (db.shares w q e below).1 k in omega (arith, m, long)),
         )
 
-    pub sent_shares : Vec KeptBlock Global → AreShares count (length blocks) sent
+    pub sent_shares : Vec BlockView Global → AreShares count (length blocks) sent
     sent_shares e w q f below =
         let l : w < length hb = omega (arith, below, db.len) in
         let long : length (hand sent f w) ≡ length (hand hp f w) = (gone.each w e f l).second_len in (
@@ -78,7 +78,7 @@ module _ (acts : List Act) (before next : Option Round) (count : ℕ) (some : 0 
           (λ (k : q * count + w < length blocks). let m = (post_shares w q f below).1 k in omega (arith, m, long)),
         )
 
-    pub all_had_turn : Vec KeptBlock Global → Vec Post Global → (bs : List KeptBlock) (ps : List Post)
+    pub all_had_turn : Vec BlockView Global → Vec Post Global → (bs : List BlockView) (ps : List Post)
         → length bs ≡ length blocks
         → length ps ≡ length blocks → AreDealt count bs now → AreDealt count ps sent
         → AreEach (HasGone acts before next) blocks posts bs ps
@@ -92,11 +92,11 @@ module _ (acts : List Act) (before next : Option Round) (count : ℕ) (some : 0 
           let k : q * count + w < length blocks = omega (arith, at, below) in
           subst (λ (j : ℕ). HasGone acts before next (get_or blocks j b) (get_or posts j p)
           (get_or bs j b) (get_or ps j p)) at
-          (subst (λ (x : KeptBlock). HasGone acts before next x (get_or posts (q * count + w) p)
+          (subst (λ (x : BlockView). HasGone acts before next x (get_or posts (q * count + w) p)
           (get_or bs (q * count + w) b) (get_or ps (q * count + w) p)) (db.each w q e b l k)
           (subst (λ (x : Post). HasGone acts before next (get_or (hand hb e w) q b) x (get_or bs (q * count + w) b)
           (get_or ps (q * count + w) p)) (dp.each w q f p l (omega (arith, k, same)))
-          (subst (λ (x : KeptBlock). HasGone acts before next (get_or (hand hb e w) q b) (get_or (hand hp f w) q p) x
+          (subst (λ (x : BlockView). HasGone acts before next (get_or (hand hb e w) q b) (get_or (hand hp f w) q p) x
           (get_or ps (q * count + w) p)) (nb.each w q e b l (omega (arith, k, blong)))
           (subst (λ (x : Post). HasGone acts before next (get_or (hand hb e w) q b) (get_or (hand hp f w) q p)
           (get_or (hand now e w) q b) x) (np.each w q f p l (omega (arith, k, plong)))

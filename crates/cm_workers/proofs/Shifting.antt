@@ -8,7 +8,7 @@ use Rattle.std.proofs.lemmas.List.{get_or_default, drop-drop}
 use Rattle.std.specs.Prelude.{slice_get, Result, Ok, Err, IfOk}
 use Rattle.cm_model.specs.declared.act.Act.{Act}
 use Rattle.cm_subcube.specs.declared.round.Round.{Round}
-use Rattle.cm_subcube.specs.Blocks.{KeptBlock}
+use Rattle.cm_subcube.specs.Blocks.{BlockView}
 use Rattle.cm_workers.specs.declared.post.Post.{Post}
 use Rattle.cm_workers.specs.declared.shift.HasHad.{HasHad}
 use Rattle.cm_workers.specs.Dealing.{hand}
@@ -80,19 +80,19 @@ rest_left orig now new w is from = from ∙ ap (λ xs. drop 1 xs) is ∙ drop-dr
 
 -- ---- what was promised was kept
 
-abbrev pub ArePromised : {H : Type 0} → (H → HasHad) → List Act → List Round → ℕ → List (Vec KeptBlock Global)
+abbrev pub ArePromised : {H : Type 0} → (H → HasHad) → List Act → List Round → ℕ → List (Vec BlockView Global)
     → List (Vec Post Global) → List H → Type 0
 ArePromised {H} promise acts rounds number blocks posts handles =
-    (w : ℕ) (d : H) (e : Vec KeptBlock Global) (f : Vec Post Global) → w < length blocks
+    (w : ℕ) (d : H) (e : Vec BlockView Global) (f : Vec Post Global) → w < length blocks
     → IsPromised acts rounds number (hand blocks e w) (hand posts f w) (promise (get_or handles w d))
 
-abbrev pub AreKept : {H : Type 0} → (H → HasHad) → List (Vec KeptBlock Global)
+abbrev pub AreKept : {H : Type 0} → (H → HasHad) → List (Vec BlockView Global)
     → List (Vec Post Global) → List H → Type 0
 AreKept {H} promise now sent handles =
-    (w : ℕ) (d : H) (e : Vec KeptBlock Global) (f : Vec Post Global) → w < length handles
+    (w : ℕ) (d : H) (e : Vec BlockView Global) (f : Vec Post Global) → w < length handles
     → IsPromiseKept (promise (get_or handles w d)) (hand now e w) (hand sent f w)
 
-one_kept : (acts : List Act) (rounds : List Round) (number : ℕ) (promise : HasHad) (blocks now : List KeptBlock)
+one_kept : (acts : List Act) (rounds : List Round) (number : ℕ) (promise : HasHad) (blocks now : List BlockView)
     (posts sent : List Post)
     → IsPromised acts rounds number blocks posts promise → IsPromiseKept promise now sent
     → AreEach (HasGone acts (round_before rounds number) (slice_get rounds number)) blocks posts now sent
@@ -103,14 +103,14 @@ one_kept acts rounds number promise blocks now posts sent is kept =
     blocks posts now sent) is.rounds_are
     (subst (λ (t : ℕ). AreEach (HasGone promise.acts.now (round_before promise.rounds.now t)
     (slice_get promise.rounds.now t)) blocks posts now sent) is.number_is
-    (subst (λ (bs : List KeptBlock). AreEach (HasGone promise.acts.now (round_before promise.rounds.now promise.number)
+    (subst (λ (bs : List BlockView). AreEach (HasGone promise.acts.now (round_before promise.rounds.now promise.number)
     (slice_get promise.rounds.now promise.number)) bs posts now sent) is.blocks_were
     (subst (λ (ps : List Post). AreEach (HasGone promise.acts.now (round_before promise.rounds.now promise.number)
     (slice_get promise.rounds.now promise.number)) promise.was.value.blocks.items ps now sent)
     is.posts_were kept))))
 
 pub hands_gone : {H : Type 0} (promise : H → HasHad) (acts : List Act) (rounds : List Round)
-    (number : ℕ) (blocks now : List (Vec KeptBlock Global)) (posts sent : List (Vec Post Global)) (handles : List H)
+    (number : ℕ) (blocks now : List (Vec BlockView Global)) (posts sent : List (Vec Post Global)) (handles : List H)
     → length posts ≡ length blocks → length handles ≡ length blocks
     → ArePromised promise acts rounds number blocks posts handles → length now ≡ length handles
     → length sent ≡ length handles

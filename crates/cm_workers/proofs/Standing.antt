@@ -17,7 +17,7 @@ use Rattle.cm_array.specs.Acts.{cycles_in}
 use Rattle.cm_subcube.specs.declared.round.Kind.{Kind}
 use Rattle.cm_subcube.specs.declared.round.Kind.TheVariants as kind
 use Rattle.cm_subcube.specs.declared.round.Round.{Round}
-use Rattle.cm_subcube.specs.Blocks.{KeptBlock}
+use Rattle.cm_subcube.specs.Blocks.{BlockView}
 use Rattle.cm_subcube.specs.Rounds.{kind_of, round_of, rounds_of}
 use Rattle.cm_subcube.specs.Parcels.{IsExchangeBy, CanBeOver}
 use Rattle.cm_subcube.proofs.Counting.{deliveries_shared, events_shared}
@@ -51,7 +51,7 @@ module _ (n k room : ℕ) (machine : Machine) (acts : List Act) (within : k ≤ 
   as_many : length rs ≡ length (rounds n k acts)
   as_many = length-map (rounds n k acts) round_of
 
-  pub all_can : (t : ℕ) (blocks : List KeptBlock) (posts : List Post) → t ≤ length rs
+  pub all_can : (t : ℕ) (blocks : List BlockView) (posts : List Post) → t ≤ length rs
       → StandAt n k room machine acts t blocks posts
       → CanAllGo acts (round_before rs t) (slice_get rs t) blocks posts
   all_can zero blocks posts below at = record {
@@ -75,7 +75,7 @@ module _ (n k room : ℕ) (machine : Machine) (acts : List Act) (within : k ≤ 
       }
 
   -- from the beginning of a turn to its round, by itself
-  pub gone_to : (t b : ℕ) (kept : KeptBlock) (post : Post) → t ≤ length rs → b < 2 ^ k
+  pub gone_to : (t b : ℕ) (kept : BlockView) (post : Post) → t ≤ length rs → b < 2 ^ k
       → StandsAt n k room machine acts t b kept post
       → part_gone_on n k room acts (round_before rs t) post kept.kept.part
       ≡ block n k b (before_round n room k machine acts t)
@@ -87,11 +87,11 @@ module _ (n k room : ℕ) (machine : Machine) (acts : List Act) (within : k ≤ 
       ∙ later_turn n k room machine acts within b l r it.one kept.kept.part post it.is stood.part stood.come
       ∙ ap (λ (j : ℕ). block n k b (before_round n room k machine acts j)) more
 
-  sent_each : (t : ℕ) (one : Option Phase) (blocks bs : List KeptBlock) (posts ps : List Post) → t ≤ length rs
+  sent_each : (t : ℕ) (one : Option Phase) (blocks bs : List BlockView) (posts ps : List Post) → t ≤ length rs
       → slice_get (rounds n k acts) t ≡ one
       → StandAt n k room machine acts t blocks posts
       → AreEach (HasGone acts (round_before rs t) (slice_get rs t)) blocks posts bs ps
-      → (b : ℕ) (x : KeptBlock) (y : Post) → b < 2 ^ k
+      → (b : ℕ) (x : BlockView) (y : Post) → b < 2 ^ k
       → HasSentAt n k room machine acts t b one (get_or bs b x) (get_or ps b y)
   sent_each zero one blocks bs posts ps below is at gone b x y l =
       let stood = at.each b x y l in
@@ -145,7 +145,7 @@ module _ (n k room : ℕ) (machine : Machine) (acts : List Act) (within : k ≤ 
   round_can t round is = can_be_over round.act round.kind (following_next n k t acts round is).exchange
 
   -- from the beginning of a turn to that of the next
-  pub stand_next : (t : ℕ) (round : Round) (blocks bs : List KeptBlock) (posts ps came : List Post) → t < length rs
+  pub stand_next : (t : ℕ) (round : Round) (blocks bs : List BlockView) (posts ps came : List Post) → t < length rs
       → slice_get rs t ≡ Some round
       → StandAt n k room machine acts t blocks posts
       → AreEach (HasGone acts (round_before rs t) (slice_get rs t)) blocks posts bs ps
@@ -170,7 +170,7 @@ module _ (n k room : ℕ) (machine : Machine) (acts : List Act) (within : k ≤ 
       }
 
   -- after the last turn
-  pub stand_after : (blocks bs : List KeptBlock) (posts ps : List Post)
+  pub stand_after : (blocks bs : List BlockView) (posts ps : List Post)
       → StandAt n k room machine acts (length rs) blocks posts
       → AreEach (HasGone acts (round_before rs (length rs)) (slice_get rs (length rs))) blocks posts bs ps
       → AreAfter n k room machine acts bs
@@ -189,7 +189,7 @@ read_there xs i d below = let it = there xs i below in it.is ∙ ap Some (sym (g
 
 -- a turn, where the rounds are those of the run
 pub turn_over : (n k room t : ℕ) (machine : Machine) (acts : List Act) (rounds_now : List Round) (d : Round)
-    (blocks bs : List KeptBlock) (posts ps came : List Post)
+    (blocks bs : List BlockView) (posts ps came : List Post)
     → k ≤ n - n / 2 → rounds_now ≡ rounds_of n k acts → t < length rounds_now
     → StandAt n k room machine acts t blocks posts
     → AreEach (HasGone acts (round_before rounds_now t) (slice_get rounds_now t)) blocks posts bs ps
@@ -214,7 +214,7 @@ round_over n k room t machine acts rounds_now d within is below =
 
 -- the last turn
 pub last_over : (n k room : ℕ) (machine : Machine) (acts : List Act) (rounds_now : List Round)
-    (blocks bs : List KeptBlock) (posts ps : List Post)
+    (blocks bs : List BlockView) (posts ps : List Post)
     → k ≤ n - n / 2 → rounds_now ≡ rounds_of n k acts → StandAt n k room machine acts (length rounds_now) blocks posts
     → AreEach (HasGone acts (round_before rounds_now (length rounds_now)) (slice_get rounds_now (length rounds_now)))
     blocks posts bs ps
@@ -225,7 +225,7 @@ last_over n k room machine acts rounds_now blocks bs posts ps within is at gone 
     (subst (λ (rs_it : List Round). AreEach
     (HasGone acts (round_before rs_it (length rs_it)) (slice_get rs_it (length rs_it))) blocks posts bs ps) is gone)
 
-pub can_over : (n k t : ℕ) (acts : List Act) (rounds_now : List Round) (blocks : List KeptBlock) (posts : List Post)
+pub can_over : (n k t : ℕ) (acts : List Act) (rounds_now : List Round) (blocks : List BlockView) (posts : List Post)
     → k ≤ n - n / 2
     → rounds_now ≡ rounds_of n k acts → t ≤ length rounds_now → HaveBegun n k acts t blocks posts
     → CanAllGo acts (round_before rounds_now t) (slice_get rounds_now t) blocks posts

@@ -6,7 +6,7 @@ use Rattle.cm_model.specs.Machine.{Machine}
 use Rattle.cm_blocks.specs.Parts.{block}
 use Rattle.cm_blocks.specs.Rounds.{rounds, before_round}
 use Rattle.cm_subcube.specs.declared.round.Round.{Round}
-use Rattle.cm_subcube.specs.Blocks.{KeptBlock}
+use Rattle.cm_subcube.specs.Blocks.{BlockView}
 use Rattle.cm_subcube.specs.Rounds.{rounds_of}
 use Rattle.cm_workers.specs.declared.post.Post.{Post}
 use Rattle.cm_workers.specs.Each.{AreEach}
@@ -14,7 +14,7 @@ use Rattle.cm_workers.specs.Runs.{StandsAt}
 use Rattle.cm_workers.specs.Turns.{round_before, HasGoneOn, AreShown}
 
 -- a worker of so many has that one of 2 ^ k blocks whose number is its own, and then every so many on
-abbrev pub IsShareOf : ℕ → ℕ → ℕ → List KeptBlock → Type 0
+abbrev pub IsShareOf : ℕ → ℕ → ℕ → List BlockView → Type 0
 IsShareOf k count w blocks = (q : ℕ) → (q < length blocks) ↔ (q * count + w < 2 ^ k)
 
 -- the number of a round as a gate is told it: one that is too large as the largest
@@ -26,7 +26,7 @@ abbrev pub RoundsAreToldByNumber : Type 0
 RoundsAreToldByNumber = (number : ℕ) → number < 2 ^ 32 → gate_round_number number ≡ number
 
 -- block b of 2 ^ k of a cube of n dimensions whose routers have this room, as it is before a round of a run
-pub record IsBeforeRound (n k room : ℕ) (machine : Machine) (acts : List Act) (number b : ℕ) (kept : KeptBlock)
+pub record IsBeforeRound (n k room : ℕ) (machine : Machine) (acts : List Act) (number b : ℕ) (kept : BlockView)
     : Type 0 where
   pub blocks : kept.k ≡ k
   pub dims : kept.kept.dims ≡ n
@@ -35,14 +35,14 @@ pub record IsBeforeRound (n k room : ℕ) (machine : Machine) (acts : List Act) 
 
 -- the blocks of worker w of so many, each as it is before a round of a run
 pub record AreBeforeRound (n k room : ℕ) (machine : Machine) (acts : List Act) (number count w : ℕ)
-    (blocks : List KeptBlock) : Type 0 where
+    (blocks : List BlockView) : Type 0 where
   pub one_of : w < count
   pub share : IsShareOf k count w blocks
-  pub each : (q : ℕ) (b : KeptBlock) → q < length blocks
+  pub each : (q : ℕ) (b : BlockView) → q < length blocks
       → IsBeforeRound n k room machine acts number (q * count + w) (get_or blocks q b)
 
 -- a worker comes by before it sends in a round of some run, whose number is told
-pub record ComesBy (w told : ℕ) (blocks : List KeptBlock) : Type 0 where
+pub record ComesBy (w told : ℕ) (blocks : List BlockView) : Type 0 where
   pub n : ℕ
   pub k : ℕ
   pub room : ℕ
@@ -55,37 +55,37 @@ pub record ComesBy (w told : ℕ) (blocks : List KeptBlock) : Type 0 where
   pub at : AreBeforeRound n k room machine acts number count w blocks
 
 -- who looks saw worker w of so many come by before a round of this run
-pub record HasSeen (saw : ℕ → ℕ → List KeptBlock → Type 0) (n k room : ℕ) (machine : Machine) (acts : List Act)
+pub record HasSeen (saw : ℕ → ℕ → List BlockView → Type 0) (n k room : ℕ) (machine : Machine) (acts : List Act)
     (number count w : ℕ) : Type 0 where
-  pub blocks : List KeptBlock
+  pub blocks : List BlockView
   pub at : AreBeforeRound n k room machine acts number count w blocks
   pub seen : saw w (gate_round_number number) blocks
 
 -- who looks saw a worker's blocks in a turn of a run when they had gone on
-pub record HasShown (saw : ℕ → ℕ → List KeptBlock → Type 0) (acts : List Act) (before : Option Round) (t w : ℕ)
-    (blocks : List KeptBlock) (posts : List Post) : Type 0 where
-  pub gone : List KeptBlock
+pub record HasShown (saw : ℕ → ℕ → List BlockView → Type 0) (acts : List Act) (before : Option Round) (t w : ℕ)
+    (blocks : List BlockView) (posts : List Post) : Type 0 where
+  pub gone : List BlockView
   pub blanks : List Post
   pub went : AreEach (HasGoneOn acts before) blocks posts gone blanks
-  pub shown : List KeptBlock
+  pub shown : List BlockView
   pub same : AreShown gone shown
   pub seen : saw w (gate_round_number t) shown
 
 -- so it is of a turn that ends at a round
-abbrev pub ShowsIn : (ℕ → ℕ → List KeptBlock → Type 0) → List Act → Option Round → Option Round → ℕ → ℕ
-    → List KeptBlock → List Post → Type 0
+abbrev pub ShowsIn : (ℕ → ℕ → List BlockView → Type 0) → List Act → Option Round → Option Round → ℕ → ℕ
+    → List BlockView → List Post → Type 0
 ShowsIn saw acts before next t w blocks posts = IfSome next (λ _. HasShown saw acts before t w blocks posts)
 
 -- one of so many workers, with its blocks and their posts, when turn t of a run begins
-pub record StandsAsWorker (n k room : ℕ) (machine : Machine) (acts : List Act) (t count w : ℕ) (blocks : List KeptBlock)
+pub record StandsAsWorker (n k room : ℕ) (machine : Machine) (acts : List Act) (t count w : ℕ) (blocks : List BlockView)
     (posts : List Post) : Type 0 where
   pub one_of : w < count
   pub share : IsShareOf k count w blocks
-  pub each : (q : ℕ) (b : KeptBlock) (p : Post) → q < length blocks
+  pub each : (q : ℕ) (b : BlockView) (p : Post) → q < length blocks
       → StandsAt n k room machine acts t (q * count + w) (get_or blocks q b) (get_or posts q p)
 
 -- so it is in some run, of which the turn's rounds are
-pub record IsWorkersTurn (acts : List Act) (before next : Option Round) (t w : ℕ) (blocks : List KeptBlock)
+pub record IsWorkersTurn (acts : List Act) (before next : Option Round) (t w : ℕ) (blocks : List BlockView)
     (posts : List Post) : Type 0 where
   pub n : ℕ
   pub k : ℕ

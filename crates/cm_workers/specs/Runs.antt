@@ -11,7 +11,7 @@ use Rattle.cm_blocks.specs.Rounds.{rounds, before_round, steps_after_round}
 use Rattle.cm_blocks.specs.Steps.{less}
 use Rattle.cm_array.specs.Acts.{cycles_in}
 use Rattle.cm_router.specs.Logs.{HaveLogRoom}
-use Rattle.cm_subcube.specs.Blocks.{KeptBlock}
+use Rattle.cm_subcube.specs.Blocks.{BlockView}
 use Rattle.cm_subcube.specs.Parcels.{HaveSpaceFor}
 use Rattle.cm_subcube.specs.Rounds.{kind_of}
 use Rattle.cm_workers.specs.declared.post.Post.{Post}
@@ -60,7 +60,7 @@ cycles_left n k acts zero = cycles_in acts * 1
 cycles_left n k acts (suc r) = deliveries (steps_after_round n k acts r)
 
 -- block b and its post when turn t of a run begins
-pub record StandsAt (n k room : ℕ) (machine : Machine) (acts : List Act) (t b : ℕ) (kept : KeptBlock)
+pub record StandsAt (n k room : ℕ) (machine : Machine) (acts : List Act) (t b : ℕ) (kept : BlockView)
     (post : Post) : Type 0 where
   pub blocks : kept.k ≡ k
   pub dims : kept.kept.dims ≡ n
@@ -72,21 +72,21 @@ pub record StandsAt (n k room : ℕ) (machine : Machine) (acts : List Act) (t b 
   pub clock : kept.kept.part.clock + cycles_left n k acts t < 2 ^ 63
 
 -- all of them
-pub record StandAt (n k room : ℕ) (machine : Machine) (acts : List Act) (t : ℕ) (blocks : List KeptBlock)
+pub record StandAt (n k room : ℕ) (machine : Machine) (acts : List Act) (t : ℕ) (blocks : List BlockView)
     (posts : List Post) : Type 0 where
   pub block_count : length blocks ≡ 2 ^ k
   pub post_count : length posts ≡ 2 ^ k
-  pub each : (b : ℕ) (x : KeptBlock) (y : Post) → b < 2 ^ k
+  pub each : (b : ℕ) (x : BlockView) (y : Post) → b < 2 ^ k
       → StandsAt n k room machine acts t b (get_or blocks b x) (get_or posts b y)
 
 -- the blocks after a run
-pub record AreAfter (n k room : ℕ) (machine : Machine) (acts : List Act) (blocks : List KeptBlock) : Type 0 where
+pub record AreAfter (n k room : ℕ) (machine : Machine) (acts : List Act) (blocks : List BlockView) : Type 0 where
   pub count : length blocks ≡ 2 ^ k
-  pub each : (b : ℕ) (x : KeptBlock) → b < 2 ^ k
+  pub each : (b : ℕ) (x : BlockView) → b < 2 ^ k
       → (get_or blocks b x).kept.part ≡ block n k b (before_round n room k machine acts (length (rounds n k acts)))
 
 -- blocks of some machine stand at a turn of a run
-pub record HaveBegun (n k : ℕ) (acts : List Act) (t : ℕ) (blocks : List KeptBlock) (posts : List Post) : Type 0 where
+pub record HaveBegun (n k : ℕ) (acts : List Act) (t : ℕ) (blocks : List BlockView) (posts : List Post) : Type 0 where
   pub room : ℕ
   pub machine : Machine
   pub at : StandAt n k room machine acts t blocks posts

@@ -9,7 +9,7 @@ use Rattle.cm_blocks.specs.Parcels.{due}
 use Rattle.cm_blocks.specs.Steps.{part_after_all, less, absorbed}
 use Rattle.cm_router.specs.Logs.{HaveLogRoom, LoseAtMost}
 use Rattle.cm_subcube.specs.declared.round.Round.{Round}
-use Rattle.cm_subcube.specs.Blocks.{KeptBlock}
+use Rattle.cm_subcube.specs.Blocks.{BlockView}
 use Rattle.cm_subcube.specs.Rounds.{step_of}
 use Rattle.cm_subcube.specs.Parcels.{HaveSpaceFor, HasRoomFor, IsExchange, IsOfKind}
 use Rattle.cm_subcube.specs.Local.{local_after, IsRoundOf}
@@ -56,7 +56,7 @@ abbrev pub IsFollowing : ℕ → ℕ → List Act → Option Round → Type 0
 IsFollowing n k acts one = ForSome one (λ round. IsRoundOf n k acts round)
 
 -- a block and its post are ready for a turn
-pub record IsReadyForTurn (acts : List Act) (before next : Option Round) (block : KeptBlock) (post : Post) : Type 0 where
+pub record IsReadyForTurn (acts : List Act) (before next : Option Round) (block : BlockView) (post : Post) : Type 0 where
   pub behind : IsFollowing block.kept.dims block.k acts before
   pub ahead : IsFollowing block.kept.dims block.k acts next
   pub come : HasComeBefore block.kept.dims block.k block.kept.room before block.kept.part post
@@ -65,13 +65,13 @@ pub record IsReadyForTurn (acts : List Act) (before next : Option Round) (block 
   pub clock : block.kept.part.clock + deliveries (local_after block.kept.dims block.k acts before) < 2 ^ 63
 
 -- a block of the same sizes
-pub record IsSame (old new : KeptBlock) : Type 0 where
+pub record IsSame (old new : BlockView) : Type 0 where
   pub dims : new.kept.dims ≡ old.kept.dims
   pub room : new.kept.room ≡ old.kept.room
   pub blocks : new.k ≡ old.k
 
 -- it has taken in what came, and has gone on until the next round
-pub record HasGoneOn (acts : List Act) (before : Option Round) (old : KeptBlock) (post : Post) (new : KeptBlock)
+pub record HasGoneOn (acts : List Act) (before : Option Round) (old : BlockView) (post : Post) (new : BlockView)
     (blank : Post) : Type 0 where
   pub same : IsSame old new
   pub part : new.kept.part ≡ part_gone_on old.kept.dims old.k old.kept.room acts before post old.kept.part
@@ -80,12 +80,12 @@ pub record HasGoneOn (acts : List Act) (before : Option Round) (old : KeptBlock)
       old.kept.log_rooms new.kept.log_rooms
 
 -- there is room for what comes in a round, if there is one
-abbrev pub HaveSpaceIn : Option Round → KeptBlock → Type 0
+abbrev pub HaveSpaceIn : Option Round → BlockView → Type 0
 HaveSpaceIn None block = Unit {0}
 HaveSpaceIn (Some round) block = HaveSpaceFor round.kind block.kept.room block.kept.part
 
 -- it has sent what is due in a round
-pub record HasSentDue (next : Option Round) (old : KeptBlock) (blank : Post) (new : KeptBlock) (post : Post) : Type 0 where
+pub record HasSentDue (next : Option Round) (old : BlockView) (blank : Post) (new : BlockView) (post : Post) : Type 0 where
   pub same : IsSame old new
   pub part : new.kept.part ≡ left_in old.kept.room next old.kept.part
   pub sent : post ≡ sent_by old.kept.dims old.k old.kept.room next old.kept.part
@@ -93,7 +93,7 @@ pub record HasSentDue (next : Option Round) (old : KeptBlock) (blank : Post) (ne
   pub space : HaveSpaceIn next new
 
 -- it has had its turn
-pub record HasGone (acts : List Act) (before next : Option Round) (old : KeptBlock) (came : Post) (new : KeptBlock)
+pub record HasGone (acts : List Act) (before next : Option Round) (old : BlockView) (came : Post) (new : BlockView)
     (sent : Post) : Type 0 where
   pub same : IsSame old new
   pub part : new.kept.part
@@ -106,34 +106,34 @@ pub record HasGone (acts : List Act) (before next : Option Round) (old : KeptBlo
   pub space : HaveSpaceIn next new
 
 -- so of all blocks of a worker, and their posts
-pub record CanAllGo (acts : List Act) (before next : Option Round) (blocks : List KeptBlock)
+pub record CanAllGo (acts : List Act) (before next : Option Round) (blocks : List BlockView)
     (posts : List Post) : Type 0 where
   pub len : length posts ≡ length blocks
-  pub each : (i : ℕ) (b : KeptBlock) (p : Post) → i < length blocks
+  pub each : (i : ℕ) (b : BlockView) (p : Post) → i < length blocks
       → IsReadyForTurn acts before next (get_or blocks i b) (get_or posts i p)
 
 -- a block as it was, but that it may be read now
-pub record IsShown (old new : KeptBlock) : Type 0 where
+pub record IsShown (old new : BlockView) : Type 0 where
   pub blocks : new.k ≡ old.k
   pub kept : new.kept ≡ record old.kept { gathered = new.kept.gathered }
 
 -- all blocks, one by one
-pub record AreShown (old new : List KeptBlock) : Type 0 where
+pub record AreShown (old new : List BlockView) : Type 0 where
   pub len : length new ≡ length old
-  pub each : (i : ℕ) (b : KeptBlock) → i < length old → IsShown (get_or old i b) (get_or new i b)
+  pub each : (i : ℕ) (b : BlockView) → i < length old → IsShown (get_or old i b) (get_or new i b)
 
 -- blocks exchange in a round, if there is one
-abbrev pub IsAhead : Option Round → KeptBlock → Type 0
+abbrev pub IsAhead : Option Round → BlockView → Type 0
 IsAhead None block = Unit {0}
 IsAhead (Some round) block = IsExchange block.kept.dims block.k round
 
 -- a block and its post are ready to send
-pub record IsReadyToSend (next : Option Round) (block : KeptBlock) (post : Post) : Type 0 where
+pub record IsReadyToSend (next : Option Round) (block : BlockView) (post : Post) : Type 0 where
   pub ahead : IsAhead next block
   pub blank : post ≡ blank_post block.kept.dims block.k
 
 -- so of all blocks of a worker
-pub record CanAllSend (next : Option Round) (blocks : List KeptBlock) (posts : List Post) : Type 0 where
+pub record CanAllSend (next : Option Round) (blocks : List BlockView) (posts : List Post) : Type 0 where
   pub len : length posts ≡ length blocks
-  pub each : (i : ℕ) (b : KeptBlock) (p : Post) → i < length blocks
+  pub each : (i : ℕ) (b : BlockView) (p : Post) → i < length blocks
       → IsReadyToSend next (get_or blocks i b) (get_or posts i p)

@@ -2,7 +2,7 @@
 
 ghost use Rattle.std.specs.Prelude.{◌≡◌, ℕ, IfOk, IsOk, IsTrue, List};
 ghost use Rattle.std.specs.List.{All};
-ghost use Rattle.cm_subcube.specs.Blocks.{KeptBlock};
+ghost use Rattle.cm_subcube.specs.Blocks.{BlockView};
 ghost use Rattle.cm_workers.specs.Gates.{ComesBy};
 
 use crate::out_of::NoThread;
@@ -14,7 +14,7 @@ pub trait Gate: Sync + Send + Drop {
     ghost admits: { Self → ℕ → Type 0 };
 
     // What it has of a worker of a number that came by, of a round as it was told, and of the worker's blocks.
-    ghost saw: { Self → ℕ → ℕ → List KeptBlock → Type 0 } = { λ _ _ _ _. Unit {0} };
+    ghost saw: { Self → ℕ → ℕ → List BlockView → Type 0 } = { λ _ _ _ _. Unit {0} };
 
     /// Whether a worker may begin. It is asked once for each list of acts that is shared out, the worker with the
     /// lowest number first, once all memory that comes before the first thread was had, and before that worker is

@@ -2,7 +2,7 @@ use Rattle.std.proofs.Common.{◌≡◌, ◌+◌, sym, ap, ◌∙◌, subst, ari
 use Rattle.cm_model.specs.Chip.{with_memory_bit}
 use Rattle.cm_model.specs.Array.{chip_at}
 use Rattle.cm_model.specs.Keeping.{IsMachine}
-use Rattle.cm_array.specs.Parts.{Kept}
+use Rattle.cm_array.specs.Parts.{MachineView}
 use Rattle.cm_array.specs.Pokes.{machine_with_memory_bit}
 use Rattle.cm_lab.proofs.Fields.{no_bits_yet, one_more_bit}
 use Rattle.cm_lab.proofs.Putting.{with_chips}
@@ -30,7 +30,7 @@ loop-i-preserved g c =
           (c.requires.whole.whole c.args.chip c.requires.chip)
           (omega (arith, c.get-proc.ensures.value, c.get-proc.ensures.in_range))
           (omega (arith, c.at-at.ensures.within, c.loop-i-test.true, c.len-i-end.ensures.value)));
-      whole = subst (λ (kept : Kept). IsMachine g.row.N g.row.CAP kept.machine) (sym c.poke.ensures.value)
+      whole = subst (λ (kept : MachineView). IsMachine g.row.N g.row.CAP kept.machine) (sym c.poke.ensures.value)
           (c.pokes_keep_machines.ensures g.row.N g.row.CAP c.loop-i.machine.machine c.args.chip c.args.proc
           c.unwrap.result c.bit_of.result c.requires.chip c.loop-i.invariant.whole).machine;
     }

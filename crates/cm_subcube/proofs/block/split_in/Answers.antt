@@ -2,14 +2,14 @@ use Rattle.std.proofs.Common.{ℕ, ◌*◌, ◌+◌, List, map, sym, ap, ◌∙�
 use Rattle.std.specs.List.{All}
 use Rattle.std.proofs.lemmas.List.Elements.{All-nil}
 use Rattle.cm_blocks.specs.Parts.{Part, block}
-use Rattle.cm_subcube.specs.Blocks.{KeptBlock, IsFresh}
+use Rattle.cm_subcube.specs.Blocks.{BlockView, IsFresh}
 use Rattle.cm_subcube.proofs.Blocking.{parts-more, fresh-more, none_yet}
 use Rattle.cm_subcube.proofs.block.split_in.Goals as goal
 
 pub loop-b-init : goal.loop-b-init
 loop-b-init g c =
     let parts : ℕ → Part = λ b. block g.row.N c.args.k b c.args.machine.now.machine in
-    let fresh : KeptBlock → Type 0 = IsFresh g.row.N g.row.CAP c.args.k (c.args.cycles * (4 + g.row.CAP)) in
+    let fresh : BlockView → Type 0 = IsFresh g.row.N g.row.CAP c.args.k (c.args.cycles * (4 + g.row.CAP)) in
     record {
       parts = none_yet parts c.in_ok-blocks.blocks.items c.in_ok-blocks.ensures.none;
       fresh = subst (All fresh) (sym c.in_ok-blocks.ensures.none) (All-nil fresh);
@@ -22,11 +22,11 @@ loop-b-preserved g c =
     let parts : ℕ → Part = λ b. block g.row.N c.args.k b c.args.machine.now.machine in
     let events = c.args.cycles * (4 + g.row.CAP) in
     let were = c.loop-b.invariant in
-    let blocks : List KeptBlock = c.loop-b.blocks.items in
-    let one : KeptBlock = c.in_ok-block.block in
+    let blocks : List BlockView = c.loop-b.blocks.items in
+    let one : BlockView = c.in_ok-block.block in
     let is = c.push_reserved.ensures.items in
     record {
-      parts = ap (map (λ (x : KeptBlock). x.kept.part)) is
+      parts = ap (map (λ (x : BlockView). x.kept.part)) is
           ∙ parts-more parts c.loop-b.b blocks one were.parts c.in_ok-block.ensures.value;
       fresh = subst (All (IsFresh g.row.N g.row.CAP c.args.k events)) (sym is)
           (fresh-more g.row.N g.row.CAP c.args.k events blocks one were.fresh c.in_ok-block.ensures.fresh);

@@ -1,5 +1,5 @@
 use Rattle.std.proofs.Common.{None, get_or, sym, subst, arith}
-use Rattle.cm_subcube.specs.Blocks.{KeptBlock, CanGo, HasGone}
+use Rattle.cm_subcube.specs.Blocks.{BlockView, CanGo, HasGone}
 use Rattle.cm_subcube.specs.Local.{local_after}
 use Rattle.cm_weave.proofs.Beginning.{just_cut, can_begin, one_more_begun}
 use Rattle.cm_weave.proofs.first.first_blocks.Goals as goal
@@ -14,7 +14,7 @@ local-requires-clause-log_room g c =
     let d = c.index_mut.result.now in
     let count = (just_cut g.row.N g.row.CAP c.args.k c.args.cycles c.args.machine.now.machine c.args.acts.now
     c.in-Ok.blocks.items c.in-Ok.ensures.value c.in-Ok.ensures.fresh c.requires.cycles c.requires.clock).count in
-    (subst (λ (z : KeptBlock). CanGo (local_after z.kept.dims z.k c.args.acts.now None) z)
+    (subst (λ (z : BlockView). CanGo (local_after z.kept.dims z.k c.args.acts.now None) z)
     (sym c.index_mut.ensures.value)
     (can_begin g.row.N g.row.CAP c.args.k c.loop-b.b c.args.machine.now.machine c.args.acts.now
     (get_or c.loop-b.blocks.items c.loop-b.b d)
@@ -33,7 +33,7 @@ local-requires-clause-clock g c =
     let d = c.index_mut.result.now in
     let count = (just_cut g.row.N g.row.CAP c.args.k c.args.cycles c.args.machine.now.machine c.args.acts.now
     c.in-Ok.blocks.items c.in-Ok.ensures.value c.in-Ok.ensures.fresh c.requires.cycles c.requires.clock).count in
-    (subst (λ (z : KeptBlock). CanGo (local_after z.kept.dims z.k c.args.acts.now None) z)
+    (subst (λ (z : BlockView). CanGo (local_after z.kept.dims z.k c.args.acts.now None) z)
     (sym c.index_mut.ensures.value)
     (can_begin g.row.N g.row.CAP c.args.k c.loop-b.b c.args.machine.now.machine c.args.acts.now
     (get_or c.loop-b.blocks.items c.loop-b.b d)
@@ -73,5 +73,5 @@ loop-b-preserved g c =
       c.loop-b.invariant.count,
     ))
     c.loop-b.invariant
-    (subst (λ (z : KeptBlock). HasGone (local_after z.kept.dims z.k c.args.acts.now None) z new)
+    (subst (λ (z : BlockView). HasGone (local_after z.kept.dims z.k c.args.acts.now None) z new)
     c.index_mut.ensures.value gone)

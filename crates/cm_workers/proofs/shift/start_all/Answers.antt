@@ -1,5 +1,5 @@
 use Rattle.std.proofs.Common.{rules, List, subst, sym}
-use Rattle.cm_subcube.specs.Blocks.{KeptBlock}
+use Rattle.cm_subcube.specs.Blocks.{BlockView}
 use Rattle.cm_workers.specs.declared.post.Post.{Post}
 use Rattle.cm_workers.specs.Dealing.{hand}
 use Rattle.std.specs.Prelude.{slice_get}
@@ -18,7 +18,7 @@ start-requires-clause-own g c =
     let here = first_taken blocks c.loop-w.hands.blocks.items w e inv.blocks (search rules) c.remove.ensures.value in
     let there = first_taken posts c.loop-w.hands.posts.items w f inv.posts
     (search rules) c.remove-in-loop-w.ensures.value in
-    subst (λ (bs : List KeptBlock). IsWorkersTurn c.args.acts.now before next number w bs f.items) (sym (here e))
+    subst (λ (bs : List BlockView). IsWorkersTurn c.args.acts.now before next number w bs f.items) (sym (here e))
     (subst (λ (ps : List Post). IsWorkersTurn c.args.acts.now before next number w (hand blocks e w) ps) (sym (there f))
     (c.requires.own w e f (search rules)))
 
@@ -41,7 +41,7 @@ loop-w-preserved g c =
       promised = push_promised (λ bs ps one. IsPromised acts rounds number bs ps one.promise)
           c.loop-w.handles.items c.push_reserved.new.self.items
           blocks posts c.in_ok-start.field-0 c.loop-w.w inv.started c.push_reserved.ensures.items inv.promised
-          (λ e f. subst (λ (bs : List KeptBlock). IsPromised acts rounds number bs (hand posts f c.loop-w.w)
+          (λ e f. subst (λ (bs : List BlockView). IsPromised acts rounds number bs (hand posts f c.loop-w.w)
           c.in_ok-start.field-0.promise) (here e)
           (subst (λ (ps : List Post). IsPromised acts rounds number c.remove.result.items ps
           c.in_ok-start.field-0.promise) (there f) c.in_ok-start.ensures.ok));

@@ -1,7 +1,7 @@
 use Rattle.std.proofs.Common.{◌≡◌, ap, sym, subst, ◌∙◌}
 use Rattle.cm_model.specs.Array.{Chips}
 use Rattle.cm_array.specs.declared.chip_state.ChipState.{ChipState}
-use Rattle.cm_array.specs.Parts.{Kept}
+use Rattle.cm_array.specs.Parts.{MachineView}
 use Rattle.cm_array.specs.Building.{AreUnfinished}
 use Rattle.cm_array.proofs.Building.{AreUnfinished-blank}
 use Rattle.cm_array.proofs.builder.Builder.start.Goals as goal
@@ -12,4 +12,4 @@ invariant_of-result g c =
     let same : c.in_ok-near.near ≡ parts.run = c.in_ok-near.ensures.value in
     subst (λ (run : Chips). AreUnfinished g.row.N g.row.CAP (record parts { run = run })) (sym same)
     (AreUnfinished-blank g.row.N g.row.CAP c.args.clock c.into_parts-parts.result c.into_parts-parts.ensures.parts
-    (ap (λ (kept : Kept). kept.machine) c.into_parts-parts.ensures.value ∙ c.in_ok-machine.ensures.value))
+    (ap (λ (kept : MachineView). kept.machine) c.into_parts-parts.ensures.value ∙ c.in_ok-machine.ensures.value))

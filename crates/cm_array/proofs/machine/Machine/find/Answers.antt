@@ -8,7 +8,7 @@ use Rattle.cm_model.proofs.Finding.{messages_are_found}
 use Rattle.cm_router.specs.Logs.{Log}
 use Rattle.cm_router.specs.Rows.{teller}
 use Rattle.cm_petit.specs.Routers.{events_of}
-use Rattle.cm_array.specs.Parts.{Kept}
+use Rattle.cm_array.specs.Parts.{MachineView}
 use Rattle.cm_array.specs.Finding.{TellOf, TellNone, IsToldIn}
 use Rattle.cm_array.proofs.Machines.{AreOf-parts}
 use Rattle.cm_array.proofs.Searching.{found_in-router, found_in-delivered, found_in-told, found_in-nowhere}
@@ -19,7 +19,7 @@ returns-in-Some-clause-value g c =
     let parts = c.self.inside.parts in
     let machine = c.args.self.now.machine in
     found_in-router g.row.N machine c.args.tag parts.crossing.buffers parts.logs.items parts.row.items
-    (AreOf-parts g.row.N g.row.CAP parts machine c.self.invariant (ap (λ (k : Kept). k.machine) c.self.view_is))
+    (AreOf-parts g.row.N g.row.CAP parts machine c.self.invariant (ap (λ (k : MachineView). k.machine) c.self.view_is))
     c.in-Some.chip c.in-Some.ensures.value
 
 pub returns-in-Some-clause-there : goal.returns-in-Some-clause-there
@@ -34,7 +34,7 @@ returns-in-Some-delivered_to-clause-value g c =
     let machine = c.args.self.now.machine in
     let place = c.in-Some-delivered_to.place in
     found_in-delivered g.row.N machine c.args.tag parts.crossing.buffers parts.logs.items parts.row.items
-    (AreOf-parts g.row.N g.row.CAP parts machine c.self.invariant (ap (λ (k : Kept). k.machine) c.self.view_is)) place
+    (AreOf-parts g.row.N g.row.CAP parts machine c.self.invariant (ap (λ (k : MachineView). k.machine) c.self.view_is)) place
     (subst (λ (logs : List Log). IsToldIn c.args.tag place (events_of logs)) c.deref.ensures.value
     c.in-Some-delivered_to.ensures.some)
     (sym c.in_default.is ∙ c.router_of.ensures.value)
@@ -51,7 +51,7 @@ returns-in-Some-told_in-clause-value g c =
     let machine = c.args.self.now.machine in
     let place = c.in-Some-told_in.place in
     found_in-told g.row.N machine c.args.tag parts.crossing.buffers parts.logs.items parts.row.items
-    (AreOf-parts g.row.N g.row.CAP parts machine c.self.invariant (ap (λ (k : Kept). k.machine) c.self.view_is)) place
+    (AreOf-parts g.row.N g.row.CAP parts machine c.self.invariant (ap (λ (k : MachineView). k.machine) c.self.view_is)) place
     (omega (arith, c.in-Some-told_in.ensures.within, c.len.ensures, parts.logs.ok.0))
     (subst (λ (row : List Event). TellOf c.args.tag place row) c.deref-2.ensures.value c.in-Some-told_in.ensures.some)
     (sym c.in_default.is ∙ c.router_of.ensures.value)
@@ -77,7 +77,7 @@ returns-in-None-clause-value g c =
     (subst (λ (n : ℕ). All (λ (e : Event). teller e < n → delivery_place tag e ≡ None) c.deref-2.result.now) many
     (c.in-None.ensures.none refl)) in
     found_in-nowhere g.row.N machine tag parts.crossing.buffers parts.logs.items parts.row.items
-    (AreOf-parts g.row.N g.row.CAP parts machine c.self.invariant (ap (λ (k : Kept). k.machine) c.self.view_is)) logs row
+    (AreOf-parts g.row.N g.row.CAP parts machine c.self.invariant (ap (λ (k : MachineView). k.machine) c.self.view_is)) logs row
     (sym c.in_default.is ∙ c.router_of.ensures.value)
 
 pub returns-in-None-clause-there : goal.returns-in-None-clause-there

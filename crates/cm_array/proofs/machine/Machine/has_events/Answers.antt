@@ -5,7 +5,7 @@ use Rattle.cm_model.specs.declared.message.Event.{Event}
 use Rattle.cm_model.specs.Array.{nth_or_nil}
 use Rattle.cm_router.specs.Logs.{Log}
 use Rattle.cm_petit.specs.Routers.{events_of}
-use Rattle.cm_array.specs.Parts.{Kept}
+use Rattle.cm_array.specs.Parts.{MachineView}
 use Rattle.cm_array.proofs.Dealing.{empty_log, nothing_told}
 use Rattle.cm_array.proofs.machine.Machine.has_events.Goals as goal
 
@@ -14,7 +14,7 @@ returns-else-not-is_empty g c =
     let parts = c.self.inside.parts in
     let logs = parts.logs.items in
     record {
-      none = λ no. subst (λ (kept : Kept). All (λ (log : List Event). log ≡ []) kept.machine.logs) c.self.view_is
+      none = λ no. subst (λ (kept : MachineView). All (λ (log : List Event). log ≡ []) kept.machine.logs) c.self.view_is
           (nothing_told (events_of logs) parts.row.items
           (empty_log parts.row c.is_empty.result c.is_empty.ensures c.if-not-is_empty.false)
           (λ k l. ap (λ (xs : List Log). nth_or_nil (events_of xs) k) (sym c.deref.ensures.value)

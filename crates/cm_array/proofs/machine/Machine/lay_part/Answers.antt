@@ -10,7 +10,7 @@ use Rattle.cm_array.specs.Rows.{dealt}
 use Rattle.cm_array.proofs.Dealing.{dealt-cut}
 use Rattle.cm_array.proofs.Machines.{length-logs, AreUnderWay-parts}
 use Rattle.cm_array.specs.declared.chip_state.ChipState.{ChipState}
-use Rattle.cm_array.specs.Parts.{Kept}
+use Rattle.cm_array.specs.Parts.{MachineView}
 use Rattle.cm_array.proofs.Lists.{items-lent}
 use Rattle.cm_array.proofs.Rooms.{room_that_can_be}
 use Rattle.cm_array.proofs.Cutting.{within_fifteen, few_buffers, events_of-cut, AreCut, IsKeptPart-cut, part_of-cut}
@@ -94,7 +94,7 @@ unfolding parts_cut
 returns-clause-value g c =
     part_of-cut g.row.N g.row.CAP c.args.first c.args.count c.self.inside.parts (parts_cut g c) c.self.invariant
     c.requires.there (are_cut g c)
-    ∙ ap (λ (kept : Kept). part c.args.first c.args.count kept.machine) c.self.view_is
+    ∙ ap (λ (kept : MachineView). part c.args.first c.args.count kept.machine) c.self.view_is
 
 pub returns-clause-log_room : goal.returns-clause-log_room
 returns-clause-log_room g c =

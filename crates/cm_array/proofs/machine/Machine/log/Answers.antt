@@ -3,7 +3,7 @@ use Rattle.cm_model.specs.Array.{nth_or_nil}
 use Rattle.cm_router.specs.Rows.{events_of_chip}
 use Rattle.cm_router.proofs.Telling.{with_row_at}
 use Rattle.cm_petit.specs.Routers.{events_of}
-use Rattle.cm_array.specs.Parts.{Kept}
+use Rattle.cm_array.specs.Parts.{MachineView}
 use Rattle.cm_array.proofs.Machines.{length-events, length-logs, AreUnderWay-parts}
 use Rattle.cm_array.proofs.Searching.{nth_or_nil-events_of}
 use Rattle.cm_array.proofs.machine.Machine.log.Goals as goal
@@ -33,4 +33,4 @@ returns-clause-value g c =
     ∙ ap (nth_or_nil (events_of logs)) c.from.ensures in
     c.of.ensures.value ∙ (λ i. dealt i ++ events_of_chip chip (c.deref-2.ensures.value i))
     ∙ sym (with_row_at (events_of logs) parts.row.items chip inside)
-    ∙ ap (λ (kept : Kept). nth_or_nil kept.machine.logs chip) c.self.view_is
+    ∙ ap (λ (kept : MachineView). nth_or_nil kept.machine.logs chip) c.self.view_is

@@ -8,7 +8,7 @@ use Rattle.cm_router.specs.Logs.{Log, log_rooms_of}
 use Rattle.cm_router.specs.Routes.{routing_of}
 use Rattle.cm_petit.specs.Routers.{events_of}
 use Rattle.cm_array.specs.SavedLogs.{Aside, logs_appended, TakeIn}
-use Rattle.cm_array.specs.Parts.{Kept, machine_of}
+use Rattle.cm_array.specs.Parts.{MachineView, machine_of}
 use Rattle.cm_array.proofs.Behind.{logs_behind, row_behind, take_in_dealt}
 use Rattle.cm_array.proofs.Lists.{items-lent}
 use Rattle.cm_array.proofs.Machines.{length-events, length-logs, AreUnderWay-parts}
@@ -36,12 +36,12 @@ append_logs-requires-clause-room g c =
     let earlier = c.earlier.inside.logs.items in
     let all : TakeIn (log_rooms_of earlier) (machine_of parts).logs =
     subst (λ (aside : Aside). TakeIn aside.log_rooms (machine_of parts).logs) (sym c.earlier.view_is)
-    (subst (λ (kept : Kept). TakeIn c.args.earlier.log_rooms kept.machine.logs) (sym c.self.view_is) c.requires.room) in
+    (subst (λ (kept : MachineView). TakeIn c.args.earlier.log_rooms kept.machine.logs) (sym c.self.view_is) c.requires.room) in
     subst (λ (logs : List Log). TakeIn (log_rooms_of logs) (events_of c.deref.result.now)) (sym c.deref_mut.ensures.value)
     (subst (λ (logs : List Log). TakeIn (log_rooms_of earlier) (events_of logs)) (sym c.deref.ensures.value)
     (take_in_dealt (log_rooms_of earlier) (events_of parts.logs.items) parts.row.items all))
 
-put_back : (n : ℕ) (parts : ChipState) (now : Vec Log) (earlier : List Log) (aside : Aside) (kept : Kept)
+put_back : (n : ℕ) (parts : ChipState) (now : Vec Log) (earlier : List Log) (aside : Aside) (kept : MachineView)
     → events_of earlier ≡ aside.logs → machine_of parts ≡ kept.machine → length (events_of parts.logs.items) ≡ 2 ^ n
     → events_of now.items
     ≡ tabulate 0 (2 ^ n) (λ c. nth_or_nil (events_of earlier) c ++ nth_or_nil (events_of parts.logs.items) c)
@@ -71,7 +71,7 @@ invariant_of-self g c =
     AreParts-put g.row.N g.row.CAP parts _ (logs_appended g.row.N c.args.earlier.logs c.args.self.now.machine) c.self.invariant
     c.requires.whole
     (put_back g.row.N parts c.replace-told.new.dest earlier.items c.args.earlier c.args.self.now before
-    (ap (λ (kept : Kept). kept.machine) c.self.view_is) (length-events g.row.N g.row.CAP parts under) logs)
+    (ap (λ (kept : MachineView). kept.machine) c.self.view_is) (length-events g.row.N g.row.CAP parts under) logs)
     c.self.invariant.gathered refl refl c.self.invariant.sized.clock refl
 
 pub returns : goal.returns
@@ -87,5 +87,5 @@ returns g c =
     c.deref.result.now long c.deref_mut.ensures.value c.deref.ensures.value c.append_logs.ensures.value in
     record {
       value = put_back g.row.N parts c.replace-told.new.dest earlier.items c.args.earlier c.args.self.now before
-          (ap (λ (kept : Kept). kept.machine) c.self.view_is) (length-events g.row.N g.row.CAP parts under) logs;
+          (ap (λ (kept : MachineView). kept.machine) c.self.view_is) (length-events g.row.N g.row.CAP parts under) logs;
     }

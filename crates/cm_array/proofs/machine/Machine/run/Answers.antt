@@ -2,7 +2,7 @@ use Rattle.std.proofs.Common.{◌≡◌, ◌+◌, ◌*◌, ◌^◌, ◌<◌, ℕ
 use Rattle.std.proofs.lemmas.Nat.{pow_pos}
 use Rattle.cm_router.specs.Logs.{log_room}
 use Rattle.cm_array.specs.declared.chip_state.ChipState.{ChipState}
-use Rattle.cm_array.specs.Parts.{Kept, LacksLogRoom, shares}
+use Rattle.cm_array.specs.Parts.{MachineView, LacksLogRoom, shares}
 use Rattle.cm_array.proofs.Rooms.{on_err, share_lacks}
 use Rattle.cm_array.proofs.Machines.{length-logs, AreUnderWay-parts}
 use Rattle.cm_array.proofs.machine.Machine.run.Goals as goal
@@ -20,6 +20,6 @@ returns-in_err-make_room-clause-memory g c =
     subst (λ (p : ChipState). log_room p.row < cycles * (2 ^ g.row.N * most)) same
     (subst (λ (n : ℕ). log_room c.pass_time.new.parts.row < cycles * (n * most)) c.chip_count.ensures.value short) in
     on_err c.from_residual.result
-    (subst (λ (k : Kept). LacksLogRoom (cycles * most) k.log_rooms) c.self.view_is
+    (subst (λ (k : MachineView). LacksLogRoom (cycles * most) k.log_rooms) c.self.view_is
     (subst (λ (n : ℕ). LacksLogRoom (cycles * most) (shares n (log_room parts.row))) (sym chips)
     (share_lacks (2 ^ g.row.N) cycles most (log_room parts.row) (pow_pos g.row.N) few)))

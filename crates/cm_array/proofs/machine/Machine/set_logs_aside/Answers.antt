@@ -9,7 +9,7 @@ use Rattle.cm_router.specs.Rows.{with_row}
 use Rattle.cm_router.proofs.Telling.{with_row-nil}
 use Rattle.cm_petit.specs.Routers.{events_of}
 use Rattle.cm_array.specs.SavedLogs.{unlogged}
-use Rattle.cm_array.specs.Parts.{Kept, machine_of}
+use Rattle.cm_array.specs.Parts.{MachineView, machine_of}
 use Rattle.cm_array.proofs.Lists.{items-lent}
 use Rattle.cm_array.proofs.Behind.{IsMachine-unlogged}
 use Rattle.cm_array.proofs.Putting.{AreParts-put}
@@ -49,7 +49,7 @@ invariant_of-self-2 g c =
 
 pub returns-clause-ok : goal.returns-clause-ok
 returns-clause-ok g c =
-    machine_is g c ∙ ap (λ (kept : Kept). unlogged g.row.N kept.machine) c.self.view_is
+    machine_is g c ∙ ap (λ (kept : MachineView). unlogged g.row.N kept.machine) c.self.view_is
 
 pub returns-clause-logs : goal.returns-clause-logs
 returns-clause-logs g c =
@@ -63,4 +63,4 @@ returns-clause-logs g c =
     ∙ sym (with_row-nil (events_of dealt)) ∙ ap (with_row (events_of dealt)) (sym c.in_ok-deal_out.ensures.ok)
     ∙ c.deal_out.ensures.value
     ∙ ap (λ (logs : List Log). with_row (events_of logs) parts.row.items) c.deref_mut.ensures.value
-    ∙ ap (λ (kept : Kept). kept.machine.logs) c.self.view_is
+    ∙ ap (λ (kept : MachineView). kept.machine.logs) c.self.view_is

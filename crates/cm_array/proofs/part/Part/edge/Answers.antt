@@ -4,7 +4,7 @@ use Rattle.cm_model.specs.Steps.{Instruct}
 use Rattle.cm_blocks.specs.Parcels.{Edge, due}
 use Rattle.cm_news.specs.Bands.{edge_bits}
 use Rattle.cm_array.specs.Bands.{IsBand, IsEdgeOf}
-use Rattle.cm_array.specs.Cuts.{KeptPart, kept_part}
+use Rattle.cm_array.specs.Cuts.{PartView, part_view}
 use Rattle.cm_array.proofs.Banding.{edge_due, edge_inside}
 use Rattle.cm_array.proofs.Lists.{items-lent}
 use Rattle.cm_array.proofs.part.Part.edge.Goals as goal
@@ -15,14 +15,14 @@ returns-clause-value c =
     let nano = c.args.nano.now in
     let sent = c.send.new.sent in
     let out = c.write_edge.new.out in
-    let before : KeptPart = kept_part inside.sizes.dims inside.sizes.room inside.first inside.parts in
+    let before : PartView = part_view inside.sizes.dims inside.sizes.room inside.first inside.parts in
     let band : IsBand inside.sizes.dims before.part =
-    subst (λ (k : KeptPart). IsBand k.dims k.part) (sym c.self.view_is) c.requires.band in
+    subst (λ (k : PartView). IsBand k.dims k.part) (sym c.self.view_is) c.requires.band in
     let as_many = c.send.auto.sent ∙ ap length c.deref_mut.ensures.value in
-    subst (λ (k : KeptPart). Edge (edge_bits out) ≡ due k.dims k.room (Instruct nano) k.part) c.self.view_is
+    subst (λ (k : PartView). Edge (edge_bits out) ≡ due k.dims k.room (Instruct nano) k.part) c.self.view_is
     (edge_due inside.sizes.dims inside.sizes.room nano before.part sent out c.requires.vertical band refl
     (as_many ∙ c.self.invariant.sized.sent_count)
-    (c.write_edge.auto.out ∙ c.requires.lanes ∙ ap (λ (k : KeptPart). chip_columns k.dims) (sym c.self.view_is))
+    (c.write_edge.auto.out ∙ c.requires.lanes ∙ ap (λ (k : PartView). chip_columns k.dims) (sym c.self.view_is))
     c.send.ensures.value
     (subst (λ (planes : List ℕ). IsEdgeOf nano.dir planes out)
     (c.deref.ensures.value ∙ items-lent inside.parts.sent sent as_many) c.write_edge.ensures.value)

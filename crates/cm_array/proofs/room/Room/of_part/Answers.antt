@@ -1,10 +1,10 @@
 use Rattle.std.proofs.Common.{ap, ◌∙◌}
-use Rattle.cm_array.specs.Cuts.{KeptPart}
+use Rattle.cm_array.specs.Cuts.{PartView}
 use Rattle.cm_array.proofs.room.Room.of_part.Goals as goal
 
 pub returns : goal.returns
 returns c =
-    let same = ap (λ (k : KeptPart). k.part.count) c.into_parts-run.ensures.value in
+    let same = ap (λ (k : PartView). k.part.count) c.into_parts-run.ensures.value in
     let kept = c.into_parts-run.ensures.kept in
     record {
       value = record {

@@ -1,10 +1,10 @@
 use Rattle.std.proofs.Common.{◌≡◌, length, ap, sym, ◌∙◌, subst}
 use Rattle.cm_blocks.specs.Steps.{less}
 use Rattle.cm_news.specs.Bands.{edge_bits}
-use Rattle.cm_array.specs.Cuts.{KeptPart}
+use Rattle.cm_array.specs.Cuts.{PartView}
 use Rattle.cm_subcube.specs.declared.round.Kind.{Kind}
 use Rattle.cm_subcube.specs.declared.round.Round.{Round}
-use Rattle.cm_subcube.specs.Blocks.{KeptBlock}
+use Rattle.cm_subcube.specs.Blocks.{BlockView}
 use Rattle.cm_subcube.specs.Rounds.{step_in, step_of}
 use Rattle.cm_subcube.specs.Parcels.{parcel_of, blank_parcel}
 use Rattle.cm_subcube.proofs.Exchanging.{lanes_of_blank, edge_of_blank, less-edge}
@@ -30,10 +30,10 @@ send_edge-requires-clause-lanes c =
 
 pub returns-clause-rest : goal.returns-clause-rest
 returns-clause-rest c =
-    let now : KeptBlock = c.args.self.now in
-    let old : KeptPart = now.kept in
+    let now : BlockView = c.args.self.now in
+    let old : PartView = now.kept in
     let round : Round = c.args.round.now in
-    let rest : KeptBlock → Type 0 =
+    let rest : BlockView → Type 0 =
     λ b. b.kept ≡ record old { part = less old.room (step_of round) old.part; gathered = b.kept.gathered } in
     elim c.match-parcel.branch [
       | in-Mail+in-Dim w ↦ subst rest (sym w.self-is)

@@ -2,7 +2,7 @@ use Rattle.std.proofs.Common.{[], ◌∷◌, ◌∙◌}
 use Rattle.cm_model.specs.Steps.{Instruct}
 use Rattle.cm_blocks.specs.Counts.{events_in}
 use Rattle.cm_router.proofs.Rooms.{lost_nothing}
-use Rattle.cm_array.specs.Cuts.{KeptPart}
+use Rattle.cm_array.specs.Cuts.{PartView}
 use Rattle.cm_subcube.proofs.Exchanging.{IsBand-block}
 use Rattle.cm_subcube.proofs.Going.{no_edge, IsBlock-stepped, HasGone-one}
 use Rattle.cm_subcube.proofs.block.Block.instruct.Goals as goal
@@ -12,14 +12,14 @@ instruct-requires-clause-band c = IsBand-block c.self.inside.k c.self.inside.par
 
 pub invariant_of-self : goal.invariant_of-self
 invariant_of-self c =
-    let old : KeptPart = c.self.inside.part in
+    let old : PartView = c.self.inside.part in
     IsBlock-stepped _ (Instruct c.args.nano.now) old.log_rooms old.gathered old _
     (c.instruct.ensures.value ∙ λ t. record old { part = no_edge old.dims old.room c.args.nano.now old.part t })
     c.self.invariant
 
 pub returns : goal.returns
 returns c =
-    let old : KeptPart = c.self.inside.part in
+    let old : PartView = c.self.inside.part in
     let nano = c.args.nano.now in
     record {
       gone = HasGone-one c.self.inside.k (Instruct nano) old.log_rooms old.gathered old _ c.args.self.now c.self.view_is

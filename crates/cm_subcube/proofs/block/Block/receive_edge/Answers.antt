@@ -3,8 +3,8 @@ use Rattle.cm_model.specs.Steps.{Instruct}
 use Rattle.cm_blocks.specs.Parcels.{Edge}
 use Rattle.cm_blocks.specs.Steps.{absorbed}
 use Rattle.cm_news.specs.Bands.{edge_bits}
-use Rattle.cm_array.specs.Cuts.{KeptPart}
-use Rattle.cm_subcube.specs.Blocks.{KeptBlock}
+use Rattle.cm_array.specs.Cuts.{PartView}
+use Rattle.cm_subcube.specs.Blocks.{BlockView}
 use Rattle.cm_subcube.proofs.Exchanging.{IsBand-block, IsBlock-instructed, absorbed-instruct}
 use Rattle.cm_subcube.proofs.block.Block.receive_edge.Goals as goal
 
@@ -18,7 +18,7 @@ pub returns-clause-kept : goal.returns-clause-kept
 returns-clause-kept c =
     let nano = c.args.nano.now in
     let parcel = Edge (edge_bits c.args.edge.now) in
-    subst (λ (kept : KeptPart). c.instruct.new.self
+    subst (λ (kept : PartView). c.instruct.new.self
     ≡ record kept { part = absorbed kept.dims kept.room (Instruct nano) parcel kept.part })
-    (ap (λ (block : KeptBlock). block.kept) c.self.view_is)
+    (ap (λ (block : BlockView). block.kept) c.self.view_is)
     (absorbed-instruct c.self.inside.k nano parcel c.instruct.new.self c.self.inside.part c.instruct.ensures.value)
