@@ -73,7 +73,7 @@ fn words_of(alloc: Global, text: &str) -> Result<Vec<String>, AllocError> {
 impl<'a> System for Files<'a> {
     type File = Bytes<'a>;
 
-    type Part = ();
+    type Pending = ();
 
     ghost does = { λ before deed after. Unit {0} };
 

@@ -491,7 +491,7 @@ impl Desk {
 impl System for Desk {
     type File = Bytes<'static>;
 
-    type Part = String;
+    type Pending = String;
 
     ghost does = { λ before deed after. Unit {0} };
 

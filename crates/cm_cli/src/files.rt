@@ -71,7 +71,7 @@ fn begin_files<H: System>(
     alloc: Global,
     system: &mut H,
     line: &RunLine,
-) -> Result<PreparedFiles<AnyMachine, H::Part>, ProgramFault>
+) -> Result<PreparedFiles<AnyMachine, H::Pending>, ProgramFault>
     ensures value { IfOk result (λ begun. HasTrace H.does system.old system.new (BeginsFiles
         (reads_by H.File.left H.File.has_failed) line.now (sized begun.taken.machine) begun.taken.program begun.part)) }
     ensures refused { IfErr result (λ fault. HasTrace H.does system.old system.new (RefusesFiles
@@ -90,7 +90,7 @@ fn begin_taken<H: System, M: Drop>(
     line: &RunLine,
     n: u8,
     taken: Taken<M>,
-) -> Result<PreparedFiles<M, H::Part>, ProgramFault>
+) -> Result<PreparedFiles<M, H::Pending>, ProgramFault>
     requires dimension { n ≤ 12 }
     ensures same { IfOk result (λ begun. begun.taken ≡ taken) }
     ensures shared { OnOk result (sharing_fault n line.now.sharing ≡ None) }
@@ -113,7 +113,7 @@ fn run_any<S: SessionRunner, H: System, I: Source, O: Sink>(
     system: &mut H,
     mut machine: AnyMachine,
     program: &Program,
-    part: Option<H::Part>,
+    part: Option<H::Pending>,
     runner: S,
     commands: &mut I,
     answers: &mut O,
@@ -146,7 +146,7 @@ fn run_lent<S: SessionRunner, H: System, I: Source, O: Sink>(
     system: &mut H,
     machine: &mut AnyMachine,
     program: &Program,
-    part: Option<H::Part>,
+    part: Option<H::Pending>,
     runner: S,
     commands: &mut I,
     answers: &mut O,
@@ -169,7 +169,7 @@ fn run_lent<S: SessionRunner, H: System, I: Source, O: Sink>(
 fn close_any<H: System, O: Sink>(
     alloc: Global,
     system: &mut H,
-    part: Option<H::Part>,
+    part: Option<H::Pending>,
     out: &O,
     machine: &AnyMachine,
 ) -> Result<(), ProgramFault>

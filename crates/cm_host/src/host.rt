@@ -27,7 +27,7 @@ impl<'a, R> Host<'a, R> {
 impl<'a, R: Env + Files + Print + AllocGlobal> System for Host<'a, R> {
     type File = Std<R::File>;
 
-    type Part = PendingFile<R::File>;
+    type Pending = PendingFile<R::File>;
 
     // No contract tells what a runtime does: each call is trusted to do what it is named for.
     ghost does = { λ before deed after. Unit {0} };
@@ -44,7 +44,7 @@ impl<'a, R: Env + Files + Print + AllocGlobal> System for Host<'a, R> {
         open(self.rt, path)
     }
 
-    fn ready(&mut self, alloc: Global, path: &str) -> Result<Self::Part, PutFault> {
+    fn ready(&mut self, alloc: Global, path: &str) -> Result<Self::Pending, PutFault> {
         make_ready(self.rt, alloc, path)
     }
 
@@ -55,11 +55,11 @@ impl<'a, R: Env + Files + Print + AllocGlobal> System for Host<'a, R> {
         }
     }
 
-    fn fill<T: Written>(&mut self, part: Self::Part, image: T) -> Result<(), PutFault> {
+    fn fill<T: Written>(&mut self, part: Self::Pending, image: T) -> Result<(), PutFault> {
         part.fill(self.rt, image)
     }
 
-    fn let_go(&mut self, part: Self::Part) {
+    fn let_go(&mut self, part: Self::Pending) {
         part.let_go(self.rt);
     }
 }

@@ -19,7 +19,7 @@ pub fn make_ready<H: System>(
     alloc: Global,
     system: &mut H,
     out: &Option<String>,
-) -> Result<Option<H::Part>, ProgramFault>
+) -> Result<Option<H::Pending>, ProgramFault>
     ensures value { IfOk result (λ part. HasTrace H.does system.old system.new
         (Readies (option_map string_bytes out.now) part)) }
     ensures refused { IfErr result (λ fault. HasTrace H.does system.old system.new
@@ -64,7 +64,7 @@ pub fn flush_out<H: System, O: Sink>(system: &mut H, out: &O) -> Result<(), Prog
 pub fn finish_files<const N: usize, const CAP: usize, H: System, O: Sink>(
     alloc: Global,
     system: &mut H,
-    part: Option<H::Part>,
+    part: Option<H::Pending>,
     out: &O,
     machine: &Machine<N, CAP>,
 ) -> Result<(), ProgramFault>
@@ -87,7 +87,7 @@ pub fn finish_files<const N: usize, const CAP: usize, H: System, O: Sink>(
 /// Once a session broke off: the file that was made ready is taken away.
 pub fn abort_files<H: System>(
     system: &mut H,
-    part: Option<H::Part>,
+    part: Option<H::Pending>,
     fault: ProgramFault,
 ) -> Result<(), ProgramFault>
     ensures value { HasTrace H.does system.old system.new (Aborts part fault result) }
@@ -97,7 +97,7 @@ pub fn abort_files<H: System>(
 }
 
 /// A file that was made ready, if one was, is taken away.
-fn take_away<H: System>(system: &mut H, part: Option<H::Part>)
+fn take_away<H: System>(system: &mut H, part: Option<H::Pending>)
     ensures { HasTrace H.does system.old system.new (λ trace. trace ≡ let_go part) }
 {
     if let Some(part) = part {
@@ -108,7 +108,7 @@ fn take_away<H: System>(system: &mut H, part: Option<H::Part>)
 /// What was written goes out, and then the file that was made ready is filled.
 fn save<H: System, T: Written, O: Sink>(
     system: &mut H,
-    part: H::Part,
+    part: H::Pending,
     out: &O,
     image: T,
 ) -> Result<(), ProgramFault>
@@ -125,7 +125,11 @@ fn save<H: System, T: Written, O: Sink>(
 }
 
 /// Fills a file that was made ready.
-fn fill<H: System, T: Written>(system: &mut H, part: H::Part, image: T) -> Result<(), ProgramFault>
+fn fill<H: System, T: Written>(
+    system: &mut H,
+    part: H::Pending,
+    image: T,
+) -> Result<(), ProgramFault>
     ensures { HasTrace H.does system.old system.new (Fills part (T.bytes image) result) }
 {
     match system.fill(part, image) {

@@ -25,10 +25,10 @@ pub trait System {
     type File: Source + Drop;
 
     /// A file that was made ready, and is not yet where it was wanted.
-    type Part: Drop;
+    type Pending: Drop;
 
     // What a deed may leave of the outside: the outside before, the deed, the outside after it.
-    ghost does: { Self → IoEvent Self.File Self.Part → Self → Type 0 };
+    ghost does: { Self → IoEvent Self.File Self.Pending → Self → Type 0 };
 
     /// The words of the command line, the first of which is the program's name.
     fn words(&mut self, alloc: Global) -> Result<Vec<String>, LineFault>
@@ -40,7 +40,7 @@ pub trait System {
         ensures does { does self.old (Opened path.now result) self.new };
 
     /// Makes a file ready that is to stand where the path says. What stands there is left as it is.
-    fn ready(&mut self, alloc: Global, path: &str) -> Result<Self::Part, PutFault>
+    fn ready(&mut self, alloc: Global, path: &str) -> Result<Self::Pending, PutFault>
         ensures does { does self.old (Readied path.now result) self.new };
 
     /// Sends on its way what standard output has taken.
@@ -48,10 +48,10 @@ pub trait System {
         ensures does { does self.old (Flushed (O.contents out.now) result) self.new };
 
     /// Writes the bytes of this into the file that was made ready, and puts it where it was wanted; or takes it away.
-    fn fill<T: Written>(&mut self, part: Self::Part, image: T) -> Result<(), PutFault>
+    fn fill<T: Written>(&mut self, part: Self::Pending, image: T) -> Result<(), PutFault>
         ensures does { does self.old (Filled part (T.bytes image) result) self.new };
 
     /// Takes away a file that was made ready.
-    fn let_go(&mut self, part: Self::Part)
+    fn let_go(&mut self, part: Self::Pending)
         ensures does { does self.old (LetGo part) self.new };
 }

@@ -125,7 +125,7 @@ fn open_ends<H: System>(
     alloc: Global,
     system: &mut H,
     line: &WeaveLine,
-) -> Result<Ends<H::File, H::Part>, ProgramFault>
+) -> Result<Ends<H::File, H::Pending>, ProgramFault>
     ensures working { IfOk result (λ ends. IfSome ends.steps (λ one. H.File.has_failed one ≡ false)) }
     ensures value { IfOk result
         (λ ends. HasTrace H.does system.old system.new (OpensEnds line.now ends.steps ends.part)) }
