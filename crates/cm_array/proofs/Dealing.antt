@@ -15,7 +15,7 @@ use Rattle.cm_model.proofs.Each.{length-tabulate, get_or-each_below, same_each_b
 use Rattle.cm_blocks.specs.Parts.{cut}
 use Rattle.cm_blocks.proofs.Cutting.{length-cut, read-cut_at}
 use Rattle.cm_router.specs.Logs.{Log}
-use Rattle.cm_router.specs.Rows.{teller, events_of_chip, with_row}
+use Rattle.cm_router.specs.Rows.{logging_chip, events_of_chip, with_row}
 use Rattle.cm_router.proofs.Telling.{events_of_chip-append, length-with_row, with_row_at}
 use Rattle.cm_petit.specs.Routers.{events_of}
 use Rattle.cm_array.specs.Rows.{dealt}
@@ -23,22 +23,22 @@ use Rattle.cm_array.proofs.Laying.{log_left, log_here}
 
 -- ---- one event
 
-told_here : (c : ℕ) (e : Event) → teller e ≡ c → events_of_chip c (e ∷ []) ≡ e ∷ []
-told_here c e is = let yes : (teller e == c) ≡ true = grind (arith, nat_tests, is) in rw yes refl
+told_here : (c : ℕ) (e : Event) → logging_chip e ≡ c → events_of_chip c (e ∷ []) ≡ e ∷ []
+told_here c e is = let yes : (logging_chip e == c) ≡ true = grind (arith, nat_tests, is) in rw yes refl
 
-told_elsewhere : (c : ℕ) (e : Event) → teller e ≢ c → events_of_chip c (e ∷ []) ≡ []
-told_elsewhere c e other = let no : (teller e == c) ≡ false = grind (arith, nat_tests, other) in rw no refl
+told_elsewhere : (c : ℕ) (e : Event) → logging_chip e ≢ c → events_of_chip c (e ∷ []) ≡ []
+told_elsewhere c e other = let no : (logging_chip e == c) ≡ false = grind (arith, nat_tests, other) in rw no refl
 
 -- told by a chip whose log is not there
 pub dealt_elsewhere : (first : ℕ) (logs : List (List Event)) (e : Event)
-    → ((c : ℕ) → c < length logs → teller e ≢ first + c) → logs ≡ dealt first logs (e ∷ [])
+    → ((c : ℕ) → c < length logs → logging_chip e ≢ first + c) → logs ≡ dealt first logs (e ∷ [])
 dealt_elsewhere first logs e other =
     is_each [] (length logs) (λ c. nth_or_nil logs c ++ events_of_chip (first + c) (e ∷ [])) logs refl
     (λ c l. sym (ap (λ z. nth_or_nil logs c ++ z) (told_elsewhere (first + c) e (other c l))
     ∙ append-nil (nth_or_nil logs c)))
 
 -- told by a chip whose log it is
-pub dealt_here : (first i : ℕ) (logs : List Log) (was log : Log) (e : Event) → i < length logs → teller e ≡ first + i
+pub dealt_here : (first i : ℕ) (logs : List Log) (was log : Log) (e : Event) → i < length logs → logging_chip e ≡ first + i
     → log.items ≡ (get_or logs i was).items ++ e ∷ [] → events_of (set logs i log) ≡ dealt first (events_of logs) (e ∷ [])
 dealt_here first i logs was log e inside told is =
     let long = length-map logs (λ (x : Log). x.items) in
@@ -114,24 +114,24 @@ dealt-cut first count logs row fits =
 
 -- ---- whether a row tells of a chip
 
-pub told_none : (c : ℕ) (row : List Event) → list_any (λ e. teller e == c) row ≡ false → events_of_chip c row ≡ []
+pub told_none : (c : ℕ) (row : List Event) → list_any (λ e. logging_chip e == c) row ≡ false → events_of_chip c row ≡ []
 told_none c [] none = refl
 told_none c (e ∷ row) none =
-    let parts = or_parts (teller e == c) (list_any (λ x. teller x == c) row) none in
+    let parts = or_parts (logging_chip e == c) (list_any (λ x. logging_chip x == c) row) none in
     rw parts.0 (told_none c row parts.1)
 
-pub told_some : (c : ℕ) (row : List Event) → list_any (λ e. teller e == c) row ≡ true → 0 < length (events_of_chip c row)
+pub told_some : (c : ℕ) (row : List Event) → list_any (λ e. logging_chip e == c) row ≡ true → 0 < length (events_of_chip c row)
 told_some c [] some = absurd cc
 told_some c (e ∷ row) some =
     ⊎_elim
-    (λ (h : (teller e == c) ≡ true). rw h (omega arith))
-    (λ (h : (teller e == c) ≡ false).
-    let rest : list_any (λ x. teller x == c) row ≡ true = cc in rw h (told_some c row rest))
-    (cases_Bool (teller e == c))
+    (λ (h : (logging_chip e == c) ≡ true). rw h (omega arith))
+    (λ (h : (logging_chip e == c) ≡ false).
+    let rest : list_any (λ x. logging_chip x == c) row ≡ true = cc in rw h (told_some c row rest))
+    (cases_Bool (logging_chip e == c))
 
 -- where nothing is dealt out, there is nothing exactly where the row does not tell of the chip
 pub none_where_untold : (c : ℕ) (dealt row : List Event) (told : Bool) → length dealt ≡ 0
-    → told ≡ list_any (λ e. teller e == c) row → not told ≡ (length (dealt ++ events_of_chip c row) == 0)
+    → told ≡ list_any (λ e. logging_chip e == c) row → not told ≡ (length (dealt ++ events_of_chip c row) == 0)
 none_where_untold c dealt row true none is =
     let some = told_some c row (sym is) in
     let no : (length (dealt ++ events_of_chip c row) == 0) ≡ false =

@@ -22,10 +22,10 @@ use Rattle.cm_model.specs.Machine.{Machine}
 use Rattle.cm_model.specs.Found.{same_tag, router_of, delivery_place, delivery_places, found_from, found_in}
 use Rattle.cm_model.proofs.Counting.{sum_by-flat_map, sum_by-same}
 use Rattle.cm_router.specs.Logs.{Log}
-use Rattle.cm_router.specs.Rows.{teller, events_of_chip, with_row}
+use Rattle.cm_router.specs.Rows.{logging_chip, events_of_chip, with_row}
 use Rattle.cm_router.proofs.Telling.{with_row_at}
 use Rattle.cm_petit.specs.Routers.{events_of}
-use Rattle.cm_array.specs.Finding.{TellOf, TellNone, IsToldIn}
+use Rattle.cm_array.specs.Finding.{TellOf, TellNone, IsLoggedIn}
 
 -- ---- the numbers of a range
 
@@ -155,17 +155,17 @@ any_in_range {X} P f c a (suc k) from below there =
     (cases_eq c a)
 
 -- what a row tells of a chip
-any_told : (P : Event → Type 0) (c : ℕ) → ((e : Event) → P e → teller e ≡ c) → (row : List Event) → Any P row
+any_told : (P : Event → Type 0) (c : ℕ) → ((e : Event) → P e → logging_chip e ≡ c) → (row : List Event) → Any P row
     → Any P (events_of_chip c row)
 any_told P c says [] there = absurd (omega (arith, there.2))
 any_told P c says (e ∷ row) (zero, x, inside, read, holds) =
     let here : P e = subst P (sym read) holds in
-    let yes : (teller e == c) ≡ true = grind (arith, nat_tests, says e here) in
+    let yes : (logging_chip e == c) ≡ true = grind (arith, nat_tests, says e here) in
     rw yes (0, e, omega arith, refl, here)
 any_told P c says (e ∷ row) (suc k, x, inside, read, holds) =
     let rest = any_told P c says row (k, x, omega (arith, inside), read, holds) in
-    ⊎_elim (λ (h : (teller e == c) ≡ true). rw h (any_later P e (events_of_chip c row) rest))
-    (λ (h : (teller e == c) ≡ false). rw h rest) (cases_Bool (teller e == c))
+    ⊎_elim (λ (h : (logging_chip e == c) ≡ true). rw h (any_later P e (events_of_chip c row) rest))
+    (λ (h : (logging_chip e == c) ≡ false). rw h rest) (cases_Bool (logging_chip e == c))
 
 -- the places of events
 any_place : (tag : Tag) (p : Place) (events : List Event) → TellOf tag p events
@@ -186,7 +186,7 @@ chip_of : Option Place → ℕ
 chip_of None = 0
 chip_of (Some p) = p.chip
 
-pub place_of_teller : (tag : Tag) (p : Place) (e : Event) → delivery_place tag e ≡ Some p → teller e ≡ p.chip
+pub place_of_teller : (tag : Tag) (p : Place) (e : Event) → delivery_place tag e ≡ Some p → logging_chip e ≡ p.chip
 unfolding chip_of
 place_of_teller tag p (Injected m) is = absurd cc
 place_of_teller tag p (Delivered c m) is =
@@ -203,17 +203,17 @@ only_place p (q ∷ r ∷ ps) few there = absurd (omega (arith, few))
 -- ---- no place is told
 
 none_told : (c count : ℕ) (tag : Tag) (row : List Event) → c < count
-    → All (λ e. teller e < count → delivery_place tag e ≡ None) row → TellNone tag (events_of_chip c row)
+    → All (λ e. logging_chip e < count → delivery_place tag e ≡ None) row → TellNone tag (events_of_chip c row)
 none_told c count tag [] l none = All-nil (λ e. delivery_place tag e ≡ None)
 none_told c count tag (e ∷ row) l none =
-    let here = All-head (λ x. teller x < count → delivery_place tag x ≡ None) e row none in
+    let here = All-head (λ x. logging_chip x < count → delivery_place tag x ≡ None) e row none in
     let rest = none_told c count tag row l
-    (All-tail (λ x. teller x < count → delivery_place tag x ≡ None) e row none) in
+    (All-tail (λ x. logging_chip x < count → delivery_place tag x ≡ None) e row none) in
     ⊎_elim
-    (λ (h : (teller e == c) ≡ true).
-    let of : teller e ≡ c = eqb-true (teller e) c h in
+    (λ (h : (logging_chip e == c) ≡ true).
+    let of : logging_chip e ≡ c = eqb-true (logging_chip e) c h in
     rw h (All-cons (λ x. delivery_place tag x ≡ None) e (events_of_chip c row) (here (omega (arith, of, l))) rest))
-    (λ (h : (teller e == c) ≡ false). rw h rest) (cases_Bool (teller e == c))
+    (λ (h : (logging_chip e == c) ≡ false). rw h rest) (cases_Bool (logging_chip e == c))
 
 no_place : (tag : Tag) (events : List Event) → TellNone tag events → filter_map (delivery_place tag) events ≡ []
 no_place tag [] none = refl
@@ -264,7 +264,7 @@ module _ (n : ℕ) (machine : Machine) (tag : Tag) (buffers : List (List Message
       ∙ ap (λ (o : Option ℕ). found_from o (delivery_places n machine tag)) (none ∙ stands_in)
 
   -- delivered, as a log tells
-  pub found_in-delivered : (place : Place) → IsToldIn tag place (events_of logs)
+  pub found_in-delivered : (place : Place) → IsLoggedIn tag place (events_of logs)
       → None ≡ find (stands tag buffers) (range_with_len 0 (length buffers))
       → found.Delivered place.chip place.proc ≡ found_in n machine tag
   found_in-delivered place told none =
@@ -289,7 +289,7 @@ module _ (n : ℕ) (machine : Machine) (tag : Tag) (buffers : List (List Message
 
   -- nowhere
   pub found_in-nowhere : ((c : ℕ) → c < length logs → TellNone tag (nth_or_nil (events_of logs) c))
-      → All (λ e. teller e < length logs → delivery_place tag e ≡ None) row
+      → All (λ e. logging_chip e < length logs → delivery_place tag e ≡ None) row
       → None ≡ find (stands tag buffers) (range_with_len 0 (length buffers)) → found.Unknown ≡ found_in n machine tag
   unfolding found_in here
   found_in-nowhere dealt told none =

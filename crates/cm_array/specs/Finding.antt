@@ -16,7 +16,7 @@ abbrev pub TellNone : Tag → List Event → Type 0
 TellNone tag events = All (λ event. delivery_place tag event ≡ None) events
 
 -- some log tells that it was, to this place
-pub record IsToldIn (tag : Tag) (place : Place) (logs : List (List Event)) : Type 0 where
+pub record IsLoggedIn (tag : Tag) (place : Place) (logs : List (List Event)) : Type 0 where
   pub chip : ℕ
   pub is_chip : chip < length logs
   pub tells : TellOf tag place (nth_or_nil logs chip)

@@ -34,7 +34,7 @@ LogsAreNeverRead = (n cap : ℕ) (machine : Machine) (acts : List Act) → IsMac
     → run_of n cap machine acts ≡ logs_appended n machine.logs (run_of n cap (unlogged n machine) acts)
 
 -- a run tells at most so many events of a chip in each petit cycle
-abbrev pub FewEventsAreTold : Type 0
-FewEventsAreTold = (n cap : ℕ) (machine : Machine) (acts : List Act) (c : ℕ) → IsMachine n cap machine → c < 2 ^ n
+abbrev pub FewEventsAreLogged : Type 0
+FewEventsAreLogged = (n cap : ℕ) (machine : Machine) (acts : List Act) (c : ℕ) → IsMachine n cap machine → c < 2 ^ n
     → length (nth_or_nil (run_of n cap machine acts).logs c)
     ≤ length (nth_or_nil machine.logs c) + cycles_in acts * (4 + cap)

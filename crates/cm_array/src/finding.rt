@@ -4,9 +4,9 @@ ghost use Rattle.std.specs.Prelude.{◌≡◌, ℕ, ◌<◌, IfSome, IsTrue, Non
 ghost use Rattle.std.specs.List.{All, find, list_any, range_with_len};
 ghost use Rattle.cm_model.specs.Array.{nth_or_nil};
 ghost use Rattle.cm_model.specs.Found.{same_tag, delivery_place};
-ghost use Rattle.cm_router.specs.Rows.{teller};
+ghost use Rattle.cm_router.specs.Rows.{logging_chip};
 ghost use Rattle.cm_petit.specs.Routers.{events_of};
-ghost use Rattle.cm_array.specs.Finding.{TellOf, TellNone, IsToldIn};
+ghost use Rattle.cm_array.specs.Finding.{TellOf, TellNone, IsLoggedIn};
 
 use cm_bits::Place;
 use cm_crossing::RouterEngine;
@@ -35,7 +35,7 @@ fn has_tag(messages: &[Message], tag: &Tag) -> bool
 
 /// The first place to which a log tells that a message of the tag was delivered.
 pub(crate) fn delivered_to(logs: &[Vec<Event>], tag: &Tag) -> Option<Place>
-    ensures some { IfSome result (λ place. IsToldIn tag.now place (events_of logs.now)) }
+    ensures some { IfSome result (λ place. IsLoggedIn tag.now place (events_of logs.now)) }
     ensures none { result ≡ None → (c : ℕ) → c < length logs.now
         → TellNone tag.now (nth_or_nil (events_of logs.now) c) }
 {
@@ -63,7 +63,8 @@ fn delivered_in(log: &[Event], tag: &Tag) -> Option<Place>
 pub(crate) fn told_in(row: &[Event], chips: usize, tag: &Tag) -> Option<Place>
     ensures some { IfSome result (λ place. TellOf tag.now place row.now) }
     ensures within { IfSome result (λ place. place.chip < chips) }
-    ensures none { result ≡ None → All (λ event. teller event < chips → delivery_place tag.now event ≡ None) row.now }
+    ensures none { result ≡ None
+        → All (λ event. logging_chip event < chips → delivery_place tag.now event ≡ None) row.now }
 {
     for event in row {
         if let Some(place) = delivery_place(event, tag) {

@@ -4,7 +4,7 @@ ghost use Rattle.std.specs.Prelude.{◌≡◌, ℕ, ◌<◌, ◌≤◌, ◌++◌
 ghost use Rattle.std.specs.Prelude.{vec_len};
 ghost use Rattle.std.specs.List.{list_any};
 ghost use Rattle.cm_model.specs.Array.{nth_or_nil};
-ghost use Rattle.cm_router.specs.Rows.{teller, events_of_chip, with_row};
+ghost use Rattle.cm_router.specs.Rows.{logging_chip, events_of_chip, with_row};
 ghost use Rattle.cm_petit.specs.Routers.{events_of};
 ghost use Rattle.cm_array.specs.Rows.{dealt};
 
@@ -90,7 +90,7 @@ pub(crate) fn has_events(logs: &[Vec<Event>]) -> bool
 
 /// The number of the chip whose router tells an event.
 pub(crate) fn teller(event: &Event) -> u16
-    ensures value { result ≡ teller event.now }
+    ensures value { result ≡ logging_chip event.now }
 {
     match event {
         Event::Injected(message) => message.tag.chip,
@@ -100,7 +100,7 @@ pub(crate) fn teller(event: &Event) -> u16
 
 /// Whether a row tells an event of a chip.
 pub(crate) fn tells_of(row: &[Event], chip: u16) -> bool
-    ensures value { result ≡ list_any (λ event. teller event == chip) row.now }
+    ensures value { result ≡ list_any (λ event. logging_chip event == chip) row.now }
 {
     row.iter().any(|event| teller(event) == chip)
 }

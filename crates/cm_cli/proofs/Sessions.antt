@@ -11,7 +11,7 @@ use Rattle.cm_outside.specs.declared.program_fault.ProgramFault.TheVariants.{Rea
 use Rattle.cm_outside.specs.ProgramFault.{of_session}
 use Rattle.cm_sizes.specs.Sizes.{SizedMachine}
 use Rattle.cm_outside.specs.OutputFiles.{KeepsImage}
-use Rattle.cm_cli.specs.Run.{IsToldAs}
+use Rattle.cm_cli.specs.Run.{IsReportedAs}
 use Rattle.cm_outside.specs.Streams.{Streams}
 use Rattle.cm_cli.specs.Runs.{IsSession}
 
@@ -22,7 +22,7 @@ lift_some None f h = tt
 
 -- want of memory for the image
 wants_memory : (keeps : Bool) (fault : ProgramFault) → keeps ≡ true → fault ≡ Memory
-    → IsToldAs keeps (Ok tt) fault
+    → IsReportedAs keeps (Ok tt) fault
 wants_memory true fault is same = same
 wants_memory false fault is same = absurd (let wrong : false ≡ true = is in cc)
 
@@ -65,7 +65,7 @@ pub kept_without : (n cap : ℕ) (after : Machine) (keeps : Bool) {Wants : Type 
 kept_without n cap after keeps (Ok image) is e = absurd (cc)
 kept_without n cap after keeps (Err fault) is e = absurd (let same = is.1 in cc)
 
-own_fault : (keeps : Bool) (fault : SessionFault) → IsToldAs keeps (Err fault) (of_session fault)
+own_fault : (keeps : Bool) (fault : SessionFault) → IsReportedAs keeps (Err fault) (of_session fault)
 own_fault true fault = refl
 own_fault false fault = refl
 

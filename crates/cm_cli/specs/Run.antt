@@ -29,10 +29,10 @@ pub record HasLeftForSome (start : SizedMachine) (acts : List Act) (source rest 
   pub run : HasLeft start acts lines (Some []) held holds keeps image
 
 -- a session that ended so ends the program with this fault: its own, or want of memory for an image that is to be kept
-abbrev pub IsToldAs : Bool → Result (Unit {0}) SessionFault → ProgramFault → Type 0
-IsToldAs true (Ok done) fault = fault ≡ Memory
-IsToldAs false (Ok done) fault = ⊥
-IsToldAs keeps (Err own) fault = fault ≡ of_session own
+abbrev pub IsReportedAs : Bool → Result (Unit {0}) SessionFault → ProgramFault → Type 0
+IsReportedAs true (Ok done) fault = fault ≡ Memory
+IsReportedAs false (Ok done) fault = ⊥
+IsReportedAs keeps (Err own) fault = fault ≡ of_session own
 
 -- the session broke off
 pub record HasAbortedSession (start : SizedMachine) (acts : List Act) (lines : List ℕ) (rest held holds : Option (List ℕ))
@@ -40,7 +40,7 @@ pub record HasAbortedSession (start : SizedMachine) (acts : List Act) (lines : L
   pub after : Machine
   pub result : Result (Unit {0}) SessionFault
   pub ends : Ends start.n start.cap acts lines rest start.machine held after holds result
-  pub told : IsToldAs keeps result fault
+  pub told : IsReportedAs keeps result fault
 
 -- the commands gave some text, and it broke off so as of that text and nothing more; if it is the image that memory was
 -- wanting for, the text is all that they had

@@ -11,7 +11,7 @@ use Rattle.cm_session.specs.Session.{Session, Answered, preceded_by, opening, af
 use Rattle.cm_session.specs.Ends.{ended_lines, open_line, IsBeforeOrAmid, IsInFlight, IsStopped, IsAborted}
 use Rattle.cm_session.proofs.Lines.{ended_lines-end}
 use Rattle.cm_debug.specs.BufferedOutput.{IsCutOff, AbortsBetween}
-use Rattle.cm_debug.specs.Talk.{Talk, Setting, after_all, IsTold, AbortsAmong}
+use Rattle.cm_debug.specs.Talk.{Talk, Setting, after_all, AreProcessed, AbortsAmong}
 use Rattle.cm_debug.specs.Taking.{AbortsIn}
 use Rattle.cm_debug.proofs.Lines.{next, lines-more, answers-append, answers-longer}
 use Rattle.cm_debug.proofs.Sending.{take_front, front_written, all_written}
@@ -167,7 +167,7 @@ given_up_in n cap first done line kept holds on machine wrote rest way = record 
 
 -- a line that has ended breaks off; it is cleared then
 pub breaks_in : (n cap : ℕ) (first : Setting) (taken : List ℕ) (a : Talk) (cleared : List ℕ) (machine : Machine)
-    (on : Option (List ℕ)) (fault : SessionFault) → IsTold n cap first taken a
+    (on : Option (List ℕ)) (fault : SessionFault) → AreProcessed n cap first taken a
     → AbortsIn n cap (after_line n cap a.acts a.session a.line) (record a { line = cleared }) machine on fault
     → AbortsAmong n cap first (ended_lines (taken ++ 10 ∷ [])) machine on fault
 breaks_in n cap first taken a cleared machine on fault told' breaks =
@@ -203,7 +203,7 @@ breaks_in n cap first taken a cleared machine on fault told' breaks =
 -- ---- between two lines
 
 broken_between : (n cap : ℕ) (first : Setting) (taken : List ℕ) (a : Talk) (on : Option (List ℕ))
-    → IsTold n cap first taken a → Appends a.out on a.kept
+    → AreProcessed n cap first taken a → Appends a.out on a.kept
     → IsAborted n cap first.acts first.machine first.out (ended_lines taken) a.session.machine on
 broken_between n cap first taken a on told' wrote = record {
   done = ended_lines taken;
@@ -215,7 +215,7 @@ broken_between n cap first taken a on told' wrote = record {
 }
 
 pub breaks_between : (n cap : ℕ) (first : Setting) (taken : List ℕ) (a : Talk) (on : Option (List ℕ))
-    (fault : SessionFault) → IsTold n cap first taken a → AbortsBetween a.sent a.kept a.out on fault
+    (fault : SessionFault) → AreProcessed n cap first taken a → AbortsBetween a.sent a.kept a.out on fault
     → AbortsAmong n cap first (ended_lines taken) a.session.machine on fault
 breaks_between n cap first taken a on (Write count) told' cut =
     let front : List ℕ = (after_all n cap first (ended_lines taken)).answer in

@@ -15,7 +15,7 @@ use Rattle.cm_session.specs.declared.fault.SessionFault.TheVariants.{Read, Write
 use Rattle.cm_session.specs.Session.{Session, opening, after_lines}
 use Rattle.cm_session.specs.Ends.{COMMANDS_LIMIT, ended_lines, open_line, processed_lines, IsAnswered, Ends, EndsForSome}
 use Rattle.cm_session.proofs.Lines.{heard_first, heard_whole}
-use Rattle.cm_debug.specs.Talk.{Talk, Setting, setting, after_all, IsTold, IsBroken, AbortsAmong, MayBeLeft, HasEnded, HasTakenAll}
+use Rattle.cm_debug.specs.Talk.{Talk, Setting, setting, after_all, AreProcessed, IsBroken, AbortsAmong, MayBeLeft, HasEnded, HasTakenAll}
 use Rattle.cm_debug.specs.Taking.{HasTaken, HasStopped}
 use Rattle.cm_debug.proofs.Breaking.{among_more, broken_first}
 use Rattle.cm_debug.proofs.Lines.{lines_of-closed, lines_at_last}
@@ -24,7 +24,7 @@ use Rattle.cm_debug.proofs.Sending.{with_none}
 -- ---- what was told is an end
 
 -- all lines that have ended are answered, where nothing is gathered
-all_told : {n cap : ℕ} {first : Setting} {taken : List ℕ} {a : Talk} → a.kept ≡ [] → IsTold n cap first taken a
+all_told : {n cap : ℕ} {first : Setting} {taken : List ℕ} {a : Talk} → a.kept ≡ [] → AreProcessed n cap first taken a
     → IsAnswered n cap first.acts first.machine first.out (ended_lines taken) a.session.machine a.out
 all_told {n} {cap} {first} {taken} {a} none told' = record {
   written = subst (λ (on : Option (List ℕ)). Appends first.out on (after_all n cap first (ended_lines taken)).answer)
@@ -74,7 +74,7 @@ ended_first n cap first source = record {
 -- nothing is taken
 pub told_first : (n cap : ℕ) (first : Setting) (now : Talk) → now.acts ≡ first.acts
     → now.session ≡ opening first.machine (length first.acts) → now.line ≡ [] → now.out ≡ first.out → now.kept ≡ []
-    → now.sent ≡ 0 → now.lacked ≡ first.lacked → IsTold n cap first [] now
+    → now.sent ≡ 0 → now.lacked ≡ first.lacked → AreProcessed n cap first [] now
 unfolding after_lines ended_lines open_line
 told_first n cap first now acts session line out kept sent lacked = record {
   acts = acts;
@@ -90,7 +90,7 @@ told_first n cap first now acts session line out kept sent lacked = record {
 
 -- a read failed
 pub ended_read : {n cap : ℕ} {first : Setting} {taken : List ℕ} {a : Talk} (source left rest : Option (List ℕ))
-    → Consumes source left taken → Keeps left rest → length taken ≤ COMMANDS_LIMIT → a.kept ≡ [] → IsTold n cap first taken a
+    → Consumes source left taken → Keeps left rest → length taken ≤ COMMANDS_LIMIT → a.kept ≡ [] → AreProcessed n cap first taken a
     → HasEnded n cap first source rest (setting first.acts a.session.machine a.out a.lacked) (Err Read)
 ended_read {n} {cap} {first} {taken} {a} source left rest read kept few none told' = record {
   text = taken;
@@ -147,7 +147,7 @@ take_all xs ys k is = grind (arith, common_steps)
 pub ended_over : {n cap : ℕ} {first : Setting} {a : Talk} (source left rest : Option (List ℕ))
     (taken buf : List ℕ) (count room used : ℕ) → count ≤ length buf → room ≡ min count (COMMANDS_LIMIT - used) → room < count
     → used ≡ length taken → used ≤ COMMANDS_LIMIT → Consumes source left taken → Consumes left rest (take count buf)
-    → a.kept ≡ [] → IsTold n cap first (taken ++ take room buf) a
+    → a.kept ≡ [] → AreProcessed n cap first (taken ++ take room buf) a
     → HasEnded n cap first source rest (setting first.acts a.session.machine a.out a.lacked) (Err TooMuch)
 ended_over {n} {cap} {first} {a} source left rest taken buf count room used inside is less so few read more_read none
     told' =
@@ -186,7 +186,7 @@ ended_over {n} {cap} {first} {a} source left rest taken buf count room used insi
 -- a read gave nothing
 pub taken_all : {n cap : ℕ} {first : Setting} {taken : List ℕ} {a : Talk} (source left rest : Option (List ℕ))
     (buf : List ℕ) (count : ℕ) → count ≡ 0 → Consumes source left taken → Consumes left rest (take count buf)
-    → IsAtEnd rest → length taken ≤ COMMANDS_LIMIT → IsTold n cap first taken a → HasTakenAll n cap first source rest a
+    → IsAtEnd rest → length taken ≤ COMMANDS_LIMIT → AreProcessed n cap first taken a → HasTakenAll n cap first source rest a
 taken_all {n} {cap} {first} {taken} {a} source left rest buf count none read more_read end few told' = record {
   text = taken;
   read = subst (Consumes source rest) (append-nil taken)

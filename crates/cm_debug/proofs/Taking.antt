@@ -16,7 +16,7 @@ use Rattle.cm_session.specs.Session.{Answered, preceded_by, answered, after_line
 use Rattle.cm_session.specs.Ends.{ended_lines, is_session_no_thread}
 use Rattle.cm_session.proofs.Lines.{ended_lines-append, ended_lines-end, open_line-end, ended_after}
 use Rattle.cm_debug.specs.BufferedOutput.{AbortsBetween}
-use Rattle.cm_debug.specs.Talk.{Talk, Setting, holds_of, answered_count, after_all, IsTold, IsBroken, AbortsAmong}
+use Rattle.cm_debug.specs.Talk.{Talk, Setting, holds_of, answered_count, after_all, AreProcessed, IsBroken, AbortsAmong}
 use Rattle.cm_debug.specs.Taking.{AbortsIn, HasTaken, HasStopped, HasAnswered, HasAborted}
 use Rattle.cm_debug.proofs.Breaking.{among_more, breaks_in, breaks_between}
 use Rattle.cm_debug.proofs.Lines.{ended_lines-part, open_line-part, lines-more, answered_line}
@@ -29,8 +29,8 @@ take_whole xs k h = grind (arith, common_steps)
 
 -- bytes that end no line are kept
 told_part : {n cap : ℕ} {first : Setting} {taken : List ℕ} {a : Talk} (part grown : List ℕ) → IsUnended part
-    → grown ≡ a.line ++ part → IsTold n cap first taken a
-    → IsTold n cap first (taken ++ part) (record a { line = grown })
+    → grown ≡ a.line ++ part → AreProcessed n cap first taken a
+    → AreProcessed n cap first (taken ++ part) (record a { line = grown })
 told_part {n} {cap} {first} {taken} {a} part grown free is told' =
     let same : after_all n cap first (ended_lines taken) ≡ after_all n cap first (ended_lines (taken ++ part)) =
     ap (after_all n cap first) (sym (ended_lines-part taken part free)) in
@@ -45,8 +45,8 @@ told_part {n} {cap} {first} {taken} {a} part grown free is told' =
 
 -- what was gathered is written
 told_sent : {n cap : ℕ} {first : Setting} {taken : List ℕ} {a : Talk} (on : Option (List ℕ)) (kept : List ℕ) (sent : ℕ)
-    → Appends (holds_of a) (append_known on kept) [] → sent + length kept ≡ answered_count a → IsTold n cap first taken a
-    → IsTold n cap first taken (record a { out = on; kept = kept; sent = sent })
+    → Appends (holds_of a) (append_known on kept) [] → sent + length kept ≡ answered_count a → AreProcessed n cap first taken a
+    → AreProcessed n cap first taken (record a { out = on; kept = kept; sent = sent })
 told_sent {n} {cap} {first} {taken} {a} on kept sent wrote count told' =
     let front : List ℕ = (after_all n cap first (ended_lines taken)).answer in
     record {
@@ -61,8 +61,8 @@ told_sent {n} {cap} {first} {taken} {a} on kept sent wrote count told' =
 
 -- a line that has ended is answered; it is cleared before
 told_line : {n cap : ℕ} {first : Setting} {taken : List ℕ} {a c : Talk} {one : Answered} (cleared : List ℕ)
-    → cleared ≡ [] → IsTold n cap first taken a → one ≡ after_line n cap a.acts a.session a.line
-    → HasAnswered one (record a { line = cleared }) c → IsTold n cap first (taken ++ 10 ∷ []) c
+    → cleared ≡ [] → AreProcessed n cap first taken a → one ≡ after_line n cap a.acts a.session a.line
+    → HasAnswered one (record a { line = cleared }) c → AreProcessed n cap first (taken ++ 10 ∷ []) c
 told_line {n} {cap} {first} {taken} {a} {c} {one} cleared none told' same done =
     let front : Answered = after_all n cap first (ended_lines taken) in
     let whole : preceded_by front.answer one ≡ after_all n cap first (ended_lines (taken ++ 10 ∷ [])) =
@@ -85,7 +85,7 @@ told_line {n} {cap} {first} {taken} {a} {c} {one} cleared none told' same done =
 -- none are taken
 pub nothing_taken : (n cap : ℕ) (a : Talk) → HasTaken n cap a [] a
 nothing_taken n cap a = record {
-  told = λ first taken told'. subst (λ (t : List ℕ). IsTold n cap first t a) (sym (append-nil taken)) told';
+  told = λ first taken told'. subst (λ (t : List ℕ). AreProcessed n cap first t a) (sym (append-nil taken)) told';
   few = omega arith;
 }
 
@@ -93,7 +93,7 @@ nothing_taken n cap a = record {
 pub taken_on : {n cap : ℕ} {a b c : Talk} {front more : List ℕ} → HasTaken n cap a front b → HasTaken n cap b more c
     → HasTaken n cap a (front ++ more) c
 taken_on {n} {cap} {a} {b} {c} {front} {more} here there = record {
-  told = λ first taken told'. subst (λ (t : List ℕ). IsTold n cap first t c) (append_assoc taken front more)
+  told = λ first taken told'. subst (λ (t : List ℕ). AreProcessed n cap first t c) (append_assoc taken front more)
       (there.told first (taken ++ front) (here.told first taken told'));
   few = omega (arith, here.few, there.few, length-append front more);
 }
@@ -184,7 +184,7 @@ pub line_taken : {n cap : ℕ} {a c : Talk} {asked : Result (Option Command) Ref
     → HasTaken n cap a (part ++ 10 ∷ []) c
 line_taken {n} {cap} {a} {c} {asked} part cleared kept on sent free is none wrote count done = record {
   told = λ first taken told'.
-      subst (λ (t : List ℕ). IsTold n cap first t c) (append_assoc taken part (10 ∷ []))
+      subst (λ (t : List ℕ). AreProcessed n cap first t c) (append_assoc taken part (10 ∷ []))
       (told_line cleared none (told_sent on kept sent wrote count (told_part part (a.line ++ part) free refl told'))
       (answered_line n cap a.acts a.session (a.line ++ part) asked is) done);
   few = omega (arith, done.few, count, length-append part (10 ∷ []));

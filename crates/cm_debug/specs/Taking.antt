@@ -8,20 +8,20 @@ use Rattle.cm_session.specs.declared.fault.SessionFault.TheVariants.{Write, Memo
 use Rattle.cm_session.specs.Session.{Answered}
 use Rattle.cm_session.specs.Ends.{ended_lines, is_session_no_thread, IsInFlight}
 use Rattle.cm_debug.specs.BufferedOutput.{IsCutOff}
-use Rattle.cm_debug.specs.Talk.{Talk, Setting, holds_of, answered_count, IsTold, IsBroken}
+use Rattle.cm_debug.specs.Talk.{Talk, Setting, holds_of, answered_count, AreProcessed, IsBroken}
 
 -- ---- bytes
 
 -- more bytes are taken, whatever was taken before
 pub record HasTaken (n cap : ℕ) (before : Talk) (bytes : List ℕ) (after : Talk) : Type 0 where
-  pub told : (first : Setting) (taken : List ℕ) → IsTold n cap first taken before
-      → IsTold n cap first (taken ++ bytes) after
+  pub told : (first : Setting) (taken : List ℕ) → AreProcessed n cap first taken before
+      → AreProcessed n cap first (taken ++ bytes) after
   pub few : answered_count after ≤ answered_count before + length bytes * 2 ^ 64
 
 -- the session breaks off among them
 pub record HasStopped (n cap : ℕ) (before : Talk) (bytes : List ℕ) (after : Talk) (fault : SessionFault)
     : Type 0 where
-  pub broken : (first : Setting) (taken : List ℕ) → IsTold n cap first taken before
+  pub broken : (first : Setting) (taken : List ℕ) → AreProcessed n cap first taken before
       → IsBroken n cap first (ended_lines (taken ++ bytes)) after fault
 
 -- how a console takes bytes

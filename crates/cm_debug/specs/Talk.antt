@@ -63,7 +63,7 @@ after_all n cap first lines =
     after_lines n cap first.acts (opening first.machine (length first.acts)) lines
 
 -- of a session that began so these bytes were taken: the lines that ended in them are answered, the open line is kept
-pub record IsTold (n cap : ℕ) (first : Setting) (taken : List ℕ) (now : Talk) : Type 0 where
+pub record AreProcessed (n cap : ℕ) (first : Setting) (taken : List ℕ) (now : Talk) : Type 0 where
   pub acts : now.acts ≡ first.acts
   pub session : now.session ≡ (after_all n cap first (ended_lines taken)).session
   pub line : now.line ≡ open_line taken
@@ -109,7 +109,7 @@ pub record HasTakenAll (n cap : ℕ) (first : Setting) (source rest : Option (Li
   pub read : Consumes source rest text
   pub end : IsAtEnd rest
   pub within : length text ≤ COMMANDS_LIMIT
-  pub told : IsTold n cap first text now
+  pub told : AreProcessed n cap first text now
 
 -- how a console takes what a source gives
 abbrev pub TakesAll : ℕ → ℕ → Setting → Option (List ℕ) → Option (List ℕ) → Talk → Result (Unit {0}) SessionFault

@@ -5,7 +5,7 @@ ghost use Rattle.std.specs.Prelude.{OnOk};
 ghost use Rattle.std.specs.Io.KnownBytes.{IsAtEnd};
 ghost use Rattle.cm_array.specs.Faults.{CountsLacks};
 ghost use Rattle.cm_session.specs.Ends.{Ends, EndsForSome, is_session_no_thread, is_write};
-ghost use Rattle.cm_debug.specs.Talk.{setting, talk, IsTold, HasEnded, TakesAll};
+ghost use Rattle.cm_debug.specs.Talk.{setting, talk, AreProcessed, HasEnded, TakesAll};
 
 use crate::console::Console;
 use cm_array::{Machine, Runner};
@@ -97,7 +97,7 @@ impl Console<'_> {
         requires runner { R.ready }
         requires reader { I.has_failed commands.old ≡ false }
         requires writer { O.has_failed out.old ≡ false }
-        requires first { IsTold N CAP (setting self.old.debugger.acts.now machine.old.machine (O.contents out.old)
+        requires first { AreProcessed N CAP (setting self.old.debugger.acts.now machine.old.machine (O.contents out.old)
             (R.threads_lacked runner.old)) []
             (talk machine.old.machine self.old (O.contents out.old) (R.threads_lacked runner.old)) }
         requires none { self.old.output.bytes.items ≡ [] }

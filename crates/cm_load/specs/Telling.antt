@@ -18,10 +18,10 @@ abbrev pub latency_of : ℕ → Message → ℕ
 latency_of t m = t + 1 - m.payload
 
 -- what an event of petit cycle t tells of it
-abbrev pub latency_told : ℕ → Event → List ℕ
-latency_told t (Injected m) = []
-latency_told t (Delivered c m) = latency_of t m ∷ []
+abbrev pub latency_logged : ℕ → Event → List ℕ
+latency_logged t (Injected m) = []
+latency_logged t (Delivered c m) = latency_of t m ∷ []
 
 -- those of all messages that were delivered in petit cycle t
 abbrev pub latencies_in : ℕ → List (List Event) → List ℕ
-latencies_in t logs = flat_map (flat_map (latency_told t)) logs
+latencies_in t logs = flat_map (flat_map (latency_logged t)) logs

@@ -2,7 +2,7 @@
 
 ghost use Rattle.std.specs.Prelude.{◌≡◌, ◌++◌, ◌∷◌, [], ◌<◌, ◌≤◌, ◌^◌, OnOk, length, sum_by};
 ghost use Rattle.std.specs.List.{count_by, flat_map};
-ghost use Rattle.cm_load.specs.Telling.{is_injection_event, latency_told};
+ghost use Rattle.cm_load.specs.Telling.{is_injection_event, latency_logged};
 
 use cm_bits::NoMemory;
 use cm_message::Event;
@@ -40,7 +40,7 @@ pub(crate) fn push_latencies(
 ) -> Result<(), NoMemory>
     requires early { t < 2 ^ 31 }
     ensures ok { OnOk result (latencies.new.items
-        ≡ latencies.old.items ++ flat_map (λ log. flat_map (latency_told t) log.items) logs.now) }
+        ≡ latencies.old.items ++ flat_map (λ log. flat_map (latency_logged t) log.items) logs.now) }
 {
     for log in logs {
         push_told(latencies, t, log)?;
@@ -51,7 +51,7 @@ pub(crate) fn push_latencies(
 fn push_told(latencies: &mut Vec<u32>, t: u32, events: &[Event]) -> Result<(), NoMemory>
     requires early { t < 2 ^ 31 }
     ensures ok { OnOk result (latencies.new.items
-        ≡ latencies.old.items ++ flat_map (latency_told t) events.now) }
+        ≡ latencies.old.items ++ flat_map (latency_logged t) events.now) }
 {
     for event in events {
         push_event(latencies, t, event)?;
@@ -61,7 +61,7 @@ fn push_told(latencies: &mut Vec<u32>, t: u32, events: &[Event]) -> Result<(), N
 
 fn push_event(latencies: &mut Vec<u32>, t: u32, event: &Event) -> Result<(), NoMemory>
     requires early { t < 2 ^ 31 }
-    ensures ok { OnOk result (latencies.new.items ≡ latencies.old.items ++ latency_told t event.now) }
+    ensures ok { OnOk result (latencies.new.items ≡ latencies.old.items ++ latency_logged t event.now) }
 {
     match event {
         Event::Injected(_) => Ok(()),

@@ -8,7 +8,7 @@ use Rattle.cm_model.specs.declared.message.Event.{Event}
 use Rattle.cm_model.specs.Processor.{Processor}
 use Rattle.cm_model.specs.Array.{Chips, nth_or_nil}
 use Rattle.cm_router.specs.Logs.{Log, log_room}
-use Rattle.cm_router.specs.Rows.{teller, with_row}
+use Rattle.cm_router.specs.Rows.{logging_chip, with_row}
 use Rattle.cm_router.proofs.Telling.{length-with_row, told_more, told_no_more}
 use Rattle.cm_petit.proofs.Making.{Standing, Cell, cell_of, AreDone, done_none, done_past, done_more}
 
@@ -67,7 +67,7 @@ pub told_one : {f : ℕ → Cell → Cell} {most count i : ℕ} {before now : Te
     → ((logs : List (List Event)) → f i (cell_of (behind logs now) i)
     ≡ record { chip = chip; messages = messages; events = nth_or_nil (with_row logs now.row.items) i ++ es })
     → chips ≡ set now.chips i chip → buffers ≡ set now.buffers i messages
-    → after.items ≡ now.row.items ++ es → All (λ e. teller e ≡ i) es
+    → after.items ≡ now.row.items ++ es → All (λ e. logging_chip e ≡ i) es
     → vec_len after ≤ vec_len now.row + most → vec_capacity now.row ≤ vec_capacity after
     → AreTold f most count before (record { chips = chips; buffers = buffers; row = after }) (i + 1)
 told_one {f} {most} {count} {i} {before} {now} {chips} {buffers} {chip} {messages} {after} es was here makes

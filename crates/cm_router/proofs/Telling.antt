@@ -13,10 +13,10 @@ use Rattle.cm_model.specs.Processor.{Processor}
 use Rattle.cm_model.specs.Array.{nth_or_nil}
 use Rattle.cm_model.specs.Letters.{messages_sent}
 use Rattle.cm_model.proofs.Each.{length-tabulate, get_or-each_below, is_each}
-use Rattle.cm_router.specs.Rows.{teller, events_of_chip, with_row}
+use Rattle.cm_router.specs.Rows.{logging_chip, events_of_chip, with_row}
 
 pub events_of_chip-append : (c : ℕ) (row more : List Event) → events_of_chip c (row ++ more) ≡ events_of_chip c row ++ events_of_chip c more
-events_of_chip-append c row more = filter-append (λ e. teller e == c) row more
+events_of_chip-append c row more = filter-append (λ e. logging_chip e == c) row more
 
 pub length-with_row : (logs : List (List Event)) (row : List Event) → length (with_row logs row) ≡ length logs
 length-with_row logs row = length-tabulate 0 (length logs) (λ c. nth_or_nil logs c ++ events_of_chip c row)
@@ -34,22 +34,22 @@ with_row-nil logs = sym (is_each [] (length logs) (λ c. nth_or_nil logs c ++ []
 -- ---- what one chip tells
 
 -- of what another chip tells a chip tells nothing
-told_elsewhere : (c k : ℕ) (es : List Event) → k ≢ c → All (λ e. teller e ≡ c) es → events_of_chip k es ≡ []
+told_elsewhere : (c k : ℕ) (es : List Event) → k ≢ c → All (λ e. logging_chip e ≡ c) es → events_of_chip k es ≡ []
 told_elsewhere c k [] other all = refl
 told_elsewhere c k (e ∷ es) other all =
-    let not_it : (teller e == k) ≡ false = grind (arith, nat_tests, All-head (λ x. teller x ≡ c) e es all) in
-    rw not_it (told_elsewhere c k es other (All-tail (λ x. teller x ≡ c) e es all))
+    let not_it : (logging_chip e == k) ≡ false = grind (arith, nat_tests, All-head (λ x. logging_chip x ≡ c) e es all) in
+    rw not_it (told_elsewhere c k es other (All-tail (λ x. logging_chip x ≡ c) e es all))
 
 -- and of what it tells itself all
-told_here : (c : ℕ) (es : List Event) → All (λ e. teller e ≡ c) es → events_of_chip c es ≡ es
+told_here : (c : ℕ) (es : List Event) → All (λ e. logging_chip e ≡ c) es → events_of_chip c es ≡ es
 told_here c [] all = refl
 told_here c (e ∷ es) all =
-    let it : (teller e == c) ≡ true = grind (arith, nat_tests, All-head (λ x. teller x ≡ c) e es all) in
-    rw it (ap (λ (xs : List Event). e ∷ xs) (told_here c es (All-tail (λ x. teller x ≡ c) e es all)))
+    let it : (logging_chip e == c) ≡ true = grind (arith, nat_tests, All-head (λ x. logging_chip x ≡ c) e es all) in
+    rw it (ap (λ (xs : List Event). e ∷ xs) (told_here c es (All-tail (λ x. logging_chip x ≡ c) e es all)))
 
 -- behind a row in which one chip told more each log is as before, but that chip's, which has more behind it
 pub told_more : (logs : List (List Event)) (row es : List Event) (c : ℕ) → c < length logs
-    → All (λ e. teller e ≡ c) es → nth_or_nil (with_row logs (row ++ es)) c ≡ nth_or_nil (with_row logs row) c ++ es
+    → All (λ e. logging_chip e ≡ c) es → nth_or_nil (with_row logs (row ++ es)) c ≡ nth_or_nil (with_row logs row) c ++ es
 told_more logs row es c inside all =
     with_row_at logs (row ++ es) c inside
     ∙ ap (λ (xs : List Event). nth_or_nil logs c ++ xs)
@@ -58,7 +58,7 @@ told_more logs row es c inside all =
     ∙ ap (λ (xs : List Event). xs ++ es) (sym (with_row_at logs row c inside))
 
 pub told_no_more : (logs : List (List Event)) (row es : List Event) (c k : ℕ) → k ≢ c
-    → All (λ e. teller e ≡ c) es → nth_or_nil (with_row logs (row ++ es)) k ≡ nth_or_nil (with_row logs row) k
+    → All (λ e. logging_chip e ≡ c) es → nth_or_nil (with_row logs (row ++ es)) k ≡ nth_or_nil (with_row logs row) k
 told_no_more logs row es c k other all =
     ⊎_elim
     (λ (inside : k < length logs).
@@ -75,11 +75,11 @@ told_no_more logs row es c k other all =
 -- ---- injection and delivery tell at their chip
 
 pub told_of_sent : (n clock c : ℕ) (chip : List Processor) (ps : List ℕ)
-    → All (λ e. teller e ≡ c) (map Injected (messages_sent n clock c chip ps))
-told_of_sent n clock c chip [] = All-nil (λ e. teller e ≡ c)
+    → All (λ e. logging_chip e ≡ c) (map Injected (messages_sent n clock c chip ps))
+told_of_sent n clock c chip [] = All-nil (λ e. logging_chip e ≡ c)
 told_of_sent n clock c chip (p ∷ ps) =
-    All-cons (λ e. teller e ≡ c) _ _ refl (told_of_sent n clock c chip ps)
+    All-cons (λ e. logging_chip e ≡ c) _ _ refl (told_of_sent n clock c chip ps)
 
-pub told_of_delivered : (c : ℕ) (ms : List Message) → All (λ e. teller e ≡ c) (map (λ m. Delivered c m) ms)
-told_of_delivered c [] = All-nil (λ e. teller e ≡ c)
-told_of_delivered c (m ∷ ms) = All-cons (λ e. teller e ≡ c) _ _ refl (told_of_delivered c ms)
+pub told_of_delivered : (c : ℕ) (ms : List Message) → All (λ e. logging_chip e ≡ c) (map (λ m. Delivered c m) ms)
+told_of_delivered c [] = All-nil (λ e. logging_chip e ≡ c)
+told_of_delivered c (m ∷ ms) = All-cons (λ e. logging_chip e ≡ c) _ _ refl (told_of_delivered c ms)

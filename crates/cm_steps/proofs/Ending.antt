@@ -16,7 +16,7 @@ use Rattle.cm_exchange.specs.Worlds.{World, IsFinished}
 use Rattle.cm_steps.specs.declared.fault.WeaveFault.{WeaveFault}
 use Rattle.cm_steps.specs.declared.fault.WeaveFault.TheVariants.{Read, Write, TooMuch, Memory, Unfinished}
 use Rattle.cm_steps.specs.Session.{world_answers, world_left}
-use Rattle.cm_steps.specs.Ends.{STEPS_LIMIT, processed_step_lines, closing, told_text, finished_line, unfinished_line, is_finished}
+use Rattle.cm_steps.specs.Ends.{STEPS_LIMIT, processed_step_lines, closing, answer_text, finished_line, unfinished_line, is_finished}
 use Rattle.cm_steps.specs.Ends.{last_line, IsCutBy, EndsBy, EndsByForSome, EndsFinished, EndsFinishedForSome}
 use Rattle.cm_steps.specs.Hearing.{Hearing, processed, at_start, TextAborts, HasHeard, IsHeard, IsHeardForSome}
 use Rattle.cm_steps.proofs.Lines.{heard_first, heard_whole, closing_whole, told_on, lines_closed, lines_at_last}
@@ -129,17 +129,17 @@ module _ (exchange : Exchange) (start : World) (held before : Option (List ℕ))
     -- that broke off
     pub cut_in_piece : (rest : List ℕ) (on : Option (List ℕ)) (fault : WeaveFault) → length (text ++ piece) ≤ STEPS_LIMIT
         → TextAborts at.answers sent holds on fault
-        → IsCutBy (told_text exchange start ((text ++ piece) ++ rest)) held on fault
+        → IsCutBy (answer_text exchange start ((text ++ piece) ++ rest)) held on fault
     cut_in_piece rest on fault within breaks =
         let begins = told_on exchange start ((text ++ piece) ++ rest) (ended_lines (text ++ piece))
         (heard_first (text ++ piece) rest within) in
-        cut_text (told_text exchange start ((text ++ piece) ++ rest)) mid.said at.answers begins.more
+        cut_text (answer_text exchange start ((text ++ piece) ++ rest)) mid.said at.answers begins.more
         held holds on sent fault mid.written mid.sent_is
         (begins.is ∙ ap (λ (xs : List ℕ). xs ++ begins.more) (sym both_are)
         ∙ append_assoc mid.said at.answers begins.more) breaks
 
   cut_ends : (all : List ℕ) (rest on : Option (List ℕ)) (fault : WeaveFault)
-      → IsCutBy (told_text exchange start all) held on fault
+      → IsCutBy (answer_text exchange start all) held on fault
       → EndsBy exchange all rest start held on fault
   cut_ends all rest on (Write count) cut = cut
   cut_ends all rest on Memory cut = cut
@@ -275,7 +275,7 @@ module _ (exchange : Exchange) (start : World) (held before : Option (List ℕ))
       let all : world_answers exchange start (processed_step_lines text) ≡ mid.said ++ (at (10 ∷ [])).answers =
       ap (world_answers exchange start) (heard_is ∙ lines) ∙ sym (both_are (10 ∷ [])) in
       cut_ends text beyond on fault
-      (cut_text (told_text exchange start text) mid.said (at (10 ∷ [])).answers last held holds on sent
+      (cut_text (answer_text exchange start text) mid.said (at (10 ∷ [])).answers last held holds on sent
       fault mid.written mid.sent_is
       (ap (λ (xs : List ℕ). xs ++ last) all ∙ append_assoc mid.said (at (10 ∷ [])).answers last) breaks)
 
@@ -379,12 +379,12 @@ module _ (exchange : Exchange) (start world : World) (held holds on : Option (Li
   cut_at beyond last part is inside wrote =
       let lines : processed_step_lines text ≡ lines_of text = heard_whole text all.within in
       let first : List ℕ = world_answers exchange start (lines_of text) in
-      let whole : told_text exchange start text ≡ first ++ (last ++ []) =
+      let whole : answer_text exchange start text ≡ first ++ (last ++ []) =
       ap (λ (xs : List (List ℕ)). world_answers exchange start xs ++ closing exchange start text) lines
       ∙ ap (λ (xs : List ℕ). first ++ xs) (closing_whole exchange start text all.within)
       ∙ ap (λ (w : World). first ++ last_line exchange w) (sym all.world_is)
       ∙ ap (λ (xs : List ℕ). first ++ xs) (sym is ∙ sym (append-nil last)) in
-      cut_text (told_text exchange start text) first last [] held holds on sent (Write (sent + part))
+      cut_text (answer_text exchange start text) first last [] held holds on sent (Write (sent + part))
       all.written all.sent_is whole
       (record { part = part; count_is = refl; within = inside; written = wrote })
 

@@ -12,7 +12,7 @@ use Rattle.cm_exchange.specs.Lanes.{Exchange}
 use Rattle.cm_exchange.specs.Worlds.{World}
 use Rattle.cm_steps.specs.Session.{WorldAnswered, world_answered_with, world_preceded_by, world_after_line}
 use Rattle.cm_steps.specs.Session.{world_after_lines, world_answers, world_left}
-use Rattle.cm_steps.specs.Ends.{STEPS_LIMIT, processed_step_lines, last_line, closing, told_text}
+use Rattle.cm_steps.specs.Ends.{STEPS_LIMIT, processed_step_lines, last_line, closing, answer_text}
 
 world_preceded_by-twice : (first second : List ℕ) (rest : WorldAnswered)
     → world_preceded_by first (world_preceded_by second rest) ≡ world_preceded_by (first ++ second) rest
@@ -70,7 +70,7 @@ pub record IsGoneOn (text first : List ℕ) : Type 0 where
 
 pub told_on : (exchange : Exchange) (start : World) (text : List ℕ) (first : List (List ℕ))
     → BeginsWith (processed_step_lines text) first
-    → IsGoneOn (told_text exchange start text) (world_answers exchange start first)
+    → IsGoneOn (answer_text exchange start text) (world_answers exchange start first)
 told_on exchange start text first begins =
     let last : List ℕ = closing exchange start text in
     let others : List ℕ = world_answers exchange (world_left exchange start first) begins.more in

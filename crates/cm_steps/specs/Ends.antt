@@ -44,8 +44,8 @@ closing exchange start text =
     if nat_le (length text) STEPS_LIMIT then last_line exchange (world_left exchange start (lines_of text)) else []
 
 -- all that is told of a text
-abbrev pub told_text : Exchange → World → List ℕ → List ℕ
-told_text exchange start text = world_answers exchange start (processed_step_lines text) ++ closing exchange start text
+abbrev pub answer_text : Exchange → World → List ℕ → List ℕ
+answer_text exchange start text = world_answers exchange start (processed_step_lines text) ++ closing exchange start text
 
 -- ---- ends
 
@@ -70,7 +70,7 @@ pub record IsAnsweredSoFar (exchange : Exchange) (text : List ℕ) (rest : Optio
   pub written : Appends held holds (world_answers exchange start (ended_lines taken))
 
 -- all lines of a text are answered, and the last line told
-pub record IsTold (exchange : Exchange) (text : List ℕ) (start : World) (last : List ℕ) (held holds : Option (List ℕ))
+pub record IsAnsweredToEnd (exchange : Exchange) (text : List ℕ) (start : World) (last : List ℕ) (held holds : Option (List ℕ))
     : Type 0 where
   pub within : length text ≤ STEPS_LIMIT
   pub written : Appends held holds (world_answers exchange start (lines_of text) ++ last)
@@ -87,21 +87,21 @@ IsCutBy text held holds Unfinished = ⊥
 pub record EndsFinished (exchange : Exchange) (text : List ℕ) (start : World) (held holds : Option (List ℕ))
     : Type 0 where
   pub finished : IsFinished exchange (world_left exchange start (lines_of text))
-  pub told : IsTold exchange text start finished_line held holds
+  pub told : IsAnsweredToEnd exchange text start finished_line held holds
 
 -- how it ends by a fault, where that is left of the source
 abbrev pub EndsBy : Exchange → List ℕ → Option (List ℕ) → World → Option (List ℕ) → Option (List ℕ) → WeaveFault
     → Type 0
 EndsBy exchange text rest start held holds Read = IsAnsweredSoFar exchange text rest start held holds
 EndsBy exchange text rest start held holds (Write count) =
-    IsCutBy (told_text exchange start text) held holds (Write count)
+    IsCutBy (answer_text exchange start text) held holds (Write count)
 EndsBy exchange text rest start held holds TooMuch =
     (STEPS_LIMIT < length text) × Appends held holds (world_answers exchange start (ended_lines (take STEPS_LIMIT text)))
 EndsBy exchange text rest start held holds Memory =
-    IsCutBy (told_text exchange start text) held holds Memory
+    IsCutBy (answer_text exchange start text) held holds Memory
 EndsBy exchange text rest start held holds Unfinished =
     (IsFinished exchange (world_left exchange start (lines_of text)) → ⊥)
-    × IsTold exchange text start unfinished_line held holds
+    × IsAnsweredToEnd exchange text start unfinished_line held holds
 
 -- it ends finished so for some text: this can be said of a source that does not tell its bytes
 pub record EndsFinishedForSome (exchange : Exchange) (start : World) (held holds : Option (List ℕ)) : Type 0 where

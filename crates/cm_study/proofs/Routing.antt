@@ -8,7 +8,7 @@ use Rattle.cm_study.specs.declared.routes.RouteFault.{RouteFault}
 use Rattle.cm_study.specs.declared.routes.RouteFault.TheVariants.{Clock}
 use Rattle.cm_study.specs.Study.{act_lacks_room}
 use Rattle.cm_study.specs.Whereabouts.{stand_in}
-use Rattle.cm_study.specs.Routes.{route_preceded_by, act_then, told_last, route_from}
+use Rattle.cm_study.specs.Routes.{route_preceded_by, act_then, route_end_text, route_from}
 
 -- nothing before
 pub route_preceded_by-nothing : (rest : Result (List ℕ) RouteFault) → route_preceded_by [] rest ≡ rest
@@ -45,6 +45,6 @@ no_act_told n cap tag machine act acts text room =
 -- the end
 pub end_told : (n cap : ℕ) (tag : Tag) (machine : Machine) (acts : List Act) (text : List ℕ) → acts ≡ []
     → route_preceded_by text (route_from n cap tag machine acts)
-    ≡ route_preceded_by text (told_last tag machine.clock (stand_in n tag machine))
+    ≡ route_preceded_by text (route_end_text tag machine.clock (stand_in n tag machine))
 unfolding route_from
 end_told n cap tag machine acts text none = ap (λ left. route_preceded_by text (route_from n cap tag machine left)) none

@@ -26,15 +26,15 @@ origin tag None = tag.chip
 
 -- what a petit cycle at this count tells, which led a message from a chip to where it was delivered, or else to where
 -- it stands, and what comes then; where it was delivered its route ends
-abbrev pub told_then : ℕ → ℕ → ℕ → Option Place → Option Stand → Result (List ℕ) RouteFault → Result (List ℕ) RouteFault
-told_then n clock from (Some place) stand rest = Ok (delivery_line n clock from place)
-told_then n clock from None (Some stand) rest = route_preceded_by (stand_line n clock from stand) rest
-told_then n clock from None None rest = rest
+abbrev pub route_text_then : ℕ → ℕ → ℕ → Option Place → Option Stand → Result (List ℕ) RouteFault → Result (List ℕ) RouteFault
+route_text_then n clock from (Some place) stand rest = Ok (delivery_line n clock from place)
+route_text_then n clock from None (Some stand) rest = route_preceded_by (stand_line n clock from stand) rest
+route_text_then n clock from None None rest = rest
 
 -- the same of a petit cycle that led from one machine to another
 abbrev pub cycle_then : ℕ → Tag → Machine → Machine → Result (List ℕ) RouteFault → Result (List ℕ) RouteFault
 cycle_then n tag before after rest =
-    told_then n before.clock (origin tag (stand_in n tag before)) (delivery_in n tag (log_lengths n before) after)
+    route_text_then n before.clock (origin tag (stand_in n tag before)) (delivery_in n tag (log_lengths n before) after)
     (stand_in n tag after) rest
 
 -- the same of an act: in others no message moves
@@ -53,13 +53,13 @@ abbrev pub no_message_fault : Tag → ℕ → RouteFault
 no_message_fault tag clock = if nat_le clock tag.birth then Late clock else Unsent
 
 -- what is told at the end, at this count: where the message stands, or that there is none
-abbrev pub told_last : Tag → ℕ → Option Stand → Result (List ℕ) RouteFault
-told_last tag clock (Some stand) = Ok (undelivered_line stand)
-told_last tag clock None = Err (no_message_fault tag clock)
+abbrev pub route_end_text : Tag → ℕ → Option Stand → Result (List ℕ) RouteFault
+route_end_text tag clock (Some stand) = Ok (undelivered_line stand)
+route_end_text tag clock None = Err (no_message_fault tag clock)
 
 -- what acts tell, one after another, and the end; or the counter has no room for one of them
 unfoldable pub route_from : ℕ → ℕ → Tag → Machine → List Act → Result (List ℕ) RouteFault
-route_from n cap tag machine [] = told_last tag machine.clock (stand_in n tag machine)
+route_from n cap tag machine [] = route_end_text tag machine.clock (stand_in n tag machine)
 route_from n cap tag machine (act ∷ acts) =
     if act_lacks_room machine.clock act then Err Clock
     else act_then n tag act machine (run_of n cap machine (act ∷ []))

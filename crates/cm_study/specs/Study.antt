@@ -34,14 +34,14 @@ one_cycle_on n studied machine =
 
 -- what is told of a petit cycle at this count, which left this machine, where so many events were told by chip and
 -- this was known before
-abbrev pub told_cycle : ℕ → ℕ → Table → ℕ → List ℕ → Traces → Machine → List ℕ
-told_cycle n cap Cycles clock told traces machine = cycle_line clock (counts_of n cap told traces machine)
-told_cycle n cap Messages clock told traces machine = delivered_text n clock told traces machine
+abbrev pub study_cycle_text : ℕ → ℕ → Table → ℕ → List ℕ → Traces → Machine → List ℕ
+study_cycle_text n cap Cycles clock told traces machine = cycle_line clock (counts_of n cap told traces machine)
+study_cycle_text n cap Messages clock told traces machine = delivered_text n clock told traces machine
 
 -- the same, of what was studied so far
 abbrev pub cycle_text : ℕ → ℕ → Table → Studied → Machine → List ℕ
 cycle_text n cap table before machine =
-    told_cycle n cap table before.machine.clock before.told before.traces machine
+    study_cycle_text n cap table before.machine.clock before.told before.traces machine
 
 -- what is told at the end
 abbrev pub end_text : ℕ → Table → Studied → List ℕ

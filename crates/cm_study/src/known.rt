@@ -3,7 +3,7 @@
 ghost use Rattle.std.specs.Prelude.{◌≡◌, ◌++◌, ◌∷◌, [], IfOk, OnOk};
 ghost use Rattle.cm_model.specs.declared.act.Act.TheVariants as act;
 ghost use Rattle.cm_model.specs.Machine.{run_of};
-ghost use Rattle.cm_study.specs.Study.{studied, study_opening, told_cycle, end_text, act_text, one_act_on};
+ghost use Rattle.cm_study.specs.Study.{studied, study_opening, study_cycle_text, end_text, act_text, one_act_on};
 
 use crate::counting::{counts, log_lengths};
 use crate::studies::Table;
@@ -87,7 +87,8 @@ impl Known {
         text: &mut Vec<u8>,
     ) -> Result<(), NoMemory>
         ensures ok { OnOk result (text.new.items
-            ≡ text.old.items ++ told_cycle N CAP table clock self.now.told.items self.now.ways machine.now.machine) }
+            ≡ text.old.items
+            ++ study_cycle_text N CAP table clock self.now.told.items self.now.ways machine.now.machine) }
     {
         match table {
             Table::Cycles => push_cycle(text, clock, counts(&self.told, &self.ways, machine)?),

@@ -3,8 +3,9 @@
 ghost use Rattle.std.specs.Prelude.{◌≡◌, ◌≢◌, ◌≤◌, ◌∷◌, [], Ok, Err, IfOk, IfErr, OnOk};
 ghost use Rattle.cm_model.specs.declared.act.Act.TheVariants as act;
 ghost use Rattle.cm_model.specs.Machine.{run_of};
-ghost use Rattle.cm_study.specs.Routes.{route_preceded_by, origin, told_then, act_then, TellsRoute, no_message_fault};
-ghost use Rattle.cm_study.specs.Routes.{told_last, route_of};
+ghost use Rattle.cm_study.specs.Routes.{route_preceded_by, origin, route_text_then, act_then, TellsRoute};
+ghost use Rattle.cm_study.specs.Routes.{no_message_fault};
+ghost use Rattle.cm_study.specs.Routes.{route_end_text, route_of};
 ghost use Rattle.cm_study.specs.Whereabouts.{stand_in};
 
 use crate::counting::{chip_count, log_lengths};
@@ -150,7 +151,7 @@ fn tell(
 ) -> Result<bool, NoMemory>
     requires dims { dims ≤ 12 }
     ensures text { IfOk result (TellsRoute
-        (λ rest. told_then dims clock from delivery stand rest) text.old.items text.new.items) }
+        (λ rest. route_text_then dims clock from delivery stand rest) text.old.items text.new.items) }
 {
     if let Some(place) = delivery {
         push_delivery(text, dims, clock, from, place)?;
@@ -168,10 +169,10 @@ fn tell_last<const N: usize, const CAP: usize>(
     tag: &Tag,
     text: &mut Vec<u8>,
 ) -> Result<(), RouteFault>
-    ensures ok { OnOk result (route_preceded_by text.old.items (told_last tag.now machine.now.machine.clock
+    ensures ok { OnOk result (route_preceded_by text.old.items (route_end_text tag.now machine.now.machine.clock
         (stand_in N tag.now machine.now.machine)) ≡ Ok text.new.items) }
     ensures refused { IfErr result (λ fault. fault ≢ RouteFault.Memory
-        → route_preceded_by text.old.items (told_last tag.now machine.now.machine.clock
+        → route_preceded_by text.old.items (route_end_text tag.now machine.now.machine.clock
         (stand_in N tag.now machine.now.machine)) ≡ Err fault) }
 {
     let clock = machine.clock();

@@ -108,12 +108,12 @@ abbrev pub line_legs : List ℕ → List Leg
 line_legs line = cycle_legs line (cycle_in line)
 
 -- it is a line of a route
-abbrev pub is_told : List ℕ → Bool
-is_told line = is_some (cycle_in line) || starts_with nat_eq line (codes "stands at ")
+abbrev pub is_route_line : List ℕ → Bool
+is_route_line line = is_some (cycle_in line) || starts_with nat_eq line (codes "stands at ")
 
 -- the legs so far and those of a line, which has this number and has to be one of a route
 abbrev pub legs_told : ℕ → List Leg → List ℕ → Result (List Leg) PlotFault
-legs_told number legs line = if is_told line then Ok (legs ++ line_legs line) else Err (Route number)
+legs_told number legs line = if is_route_line line then Ok (legs ++ line_legs line) else Err (Route number)
 
 -- the same, whatever blanks stand around it; a blank line has no legs
 abbrev pub legs_with : ℕ → List Leg → List ℕ → Result (List Leg) PlotFault

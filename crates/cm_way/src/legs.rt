@@ -8,7 +8,7 @@ ghost use Rattle.cm_plot.specs.Cells.{cell, is_colon};
 ghost use Rattle.cm_way.specs.Legs.{dim_between, option_below, cycle_behind, cycle_in, chip_of_word, is_number};
 ghost use Rattle.cm_way.specs.Legs.{is_referral};
 ghost use Rattle.cm_way.specs.Legs.{is_referred, says_delivered, leg_to, last_leg, legs_at, next_chip, legs_end};
-ghost use Rattle.cm_way.specs.Legs.{legs_from, line_legs, is_told, legs_told, legs_with, legs_after};
+ghost use Rattle.cm_way.specs.Legs.{legs_from, line_legs, is_route_line, legs_told, legs_with, legs_after};
 
 use cm_bits::{Lines, NoMemory, Words, read_number};
 use cm_plot::{PlotFault, behind, cell, has_words, place, trim};
@@ -88,7 +88,7 @@ fn push_told(legs: &mut Vec<Leg>, number: u64, line: &[u8]) -> Result<(), PlotFa
 
 /// Whether it is a line of a route.
 fn is_told(line: &[u8]) -> bool
-    ensures value { result ≡ is_told line.now }
+    ensures value { result ≡ is_route_line line.now }
 {
     cycle_in(line).is_some() || line.starts_with(b"stands at ")
 }

@@ -13,7 +13,7 @@ use Rattle.cm_model.proofs.Runs.{run_of-append, run_of-nil}
 use Rattle.cm_session.specs.Answer.{CLOCK, at_line, end_line, refused_line}
 use Rattle.cm_session.specs.Session.{Session, Answered, answered_with, preceded_by, lacks_room, one_on, has_acts, going}
 use Rattle.cm_session.specs.Whole.{acts_between}
-use Rattle.cm_whole.specs.Acts.{act_at, come_to, told_at, told_between, StopsWith, GoesOn}
+use Rattle.cm_whole.specs.Acts.{act_at, come_to, answer_at, answers_between, StopsWith, GoesOn}
 
 -- ---- acts between two places
 
@@ -67,7 +67,7 @@ record GoesFrom (n cap : ℕ) (acts : List Act) (stops : ℕ → Bool) (before :
   pub session_is : after.session ≡ come_to n cap acts before to
   pub last : List ℕ
   pub stops_with : StopsWith stops acts after.session last
-  pub answer_is : after.answer ≡ told_between n cap acts before place to ++ last
+  pub answer_is : after.answer ≡ answers_between n cap acts before place to ++ last
 
 -- it stops at once, with this answer
 stops_here : (n cap : ℕ) (acts : List Act) (stops : ℕ → Bool) (before : Session) (place : ℕ) (answer : List ℕ)
@@ -81,16 +81,16 @@ stops_here n cap acts stops before place answer why =
       session_is = refl;
       last = answer;
       stops_with = why;
-      answer_is = ap (λ k. flat_map (told_at n cap acts before) (range_with_len place k) ++ answer) (sym none);
+      answer_is = ap (λ k. flat_map (answer_at n cap acts before) (range_with_len place k) ++ answer) (sym none);
     }
 
 -- after an act it goes on from the next place
 goes_by_one : (n cap : ℕ) (acts : List Act) (stops : ℕ → Bool) (before : Session) (place : ℕ) (after : Answered)
     → GoesFrom n cap acts stops before (place + 1) after
-    → GoesFrom n cap acts stops before place (preceded_by (told_at n cap acts before place) after)
+    → GoesFrom n cap acts stops before place (preceded_by (answer_at n cap acts before place) after)
 goes_by_one n cap acts stops before place after it =
     let count : it.to - place ≡ suc (it.to - (place + 1)) = omega (arith, it.forward) in
-    let first : List ℕ = told_at n cap acts before place in
+    let first : List ℕ = answer_at n cap acts before place in
     record {
       to = it.to;
       forward = omega (arith, it.forward);
@@ -98,8 +98,8 @@ goes_by_one n cap acts stops before place after it =
       last = it.last;
       stops_with = it.stops_with;
       answer_is = ap (λ z. first ++ z) it.answer_is
-          ∙ (sym (append_assoc first (told_between n cap acts before (place + 1) it.to) it.last)
-          ∙ ap (λ k. flat_map (told_at n cap acts before) (range_with_len place k) ++ it.last) (sym count));
+          ∙ (sym (append_assoc first (answers_between n cap acts before (place + 1) it.to) it.last)
+          ∙ ap (λ k. flat_map (answer_at n cap acts before) (range_with_len place k) ++ it.last) (sym count));
     }
 
 first_of_both : (a b : Bool) → (a && b) ≡ true → a ≡ true
@@ -129,13 +129,13 @@ by_room : (n cap : ℕ) (acts : List Act) (stops : ℕ → Bool) (before : Sessi
     → one_on n cap (come_to n cap acts before place) (act_at acts place) ≡ come_to n cap acts before (place + 1)
     → GoesFrom n cap acts stops before place
     (cond b (answered_with (come_to n cap acts before place) (refused_line CLOCK))
-    (preceded_by (told_at n cap acts before place)
+    (preceded_by (answer_at n cap acts before place)
     (onward n cap stops place more (one_on n cap (come_to n cap acts before place) (act_at acts place)))))
 by_room n cap acts stops before place more true e rest next =
     stops_here n cap acts stops before place (refused_line CLOCK) (inr (inr (e, refl)))
 by_room n cap acts stops before place more false e rest next =
     subst (λ (session : Session). GoesFrom n cap acts stops before place
-    (preceded_by (told_at n cap acts before place) (onward n cap stops place more session))) (sym next)
+    (preceded_by (answer_at n cap acts before place) (onward n cap stops place more session))) (sym next)
     (goes_by_one n cap acts stops before place
     (onward n cap stops place more (come_to n cap acts before (place + 1))) rest)
 

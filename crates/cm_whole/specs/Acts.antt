@@ -28,12 +28,12 @@ come_to n cap acts session place = record session {
 }
 
 -- what the act at a place tells: a look at the wire that of the machine after all acts before it, where looks are told
-abbrev pub told_at : ℕ → ℕ → List Act → Session → ℕ → List ℕ
-told_at n cap acts session place = answer_of_act (come_to n cap acts session place) (act_at acts place)
+abbrev pub answer_at : ℕ → ℕ → List Act → Session → ℕ → List ℕ
+answer_at n cap acts session place = answer_of_act (come_to n cap acts session place) (act_at acts place)
 
 -- what the acts tell from one place to a later one, where a session had stood before
-abbrev pub told_between : ℕ → ℕ → List Act → Session → ℕ → ℕ → List ℕ
-told_between n cap acts session from to = flat_map (told_at n cap acts session) (range_with_len from (to - from))
+abbrev pub answers_between : ℕ → ℕ → List Act → Session → ℕ → ℕ → List ℕ
+answers_between n cap acts session from to = flat_map (answer_at n cap acts session) (range_with_len from (to - from))
 
 -- why a session stops where it stands, and what is told then: no acts are left; it was to stop at this place; the
 -- counter has no room for the petit cycle that comes next
@@ -51,7 +51,7 @@ pub record GoesOn (n cap : ℕ) (acts : List Act) (stops : ℕ → Bool) (before
   pub session_is : after.session ≡ come_to n cap acts before to
   pub last : List ℕ
   pub stops_with : StopsWith stops acts after.session last
-  pub answer_is : after.answer ≡ told_between n cap acts before before.position to ++ last
+  pub answer_is : after.answer ≡ answers_between n cap acts before before.position to ++ last
 
 -- what a command does: `step` goes on by an act and `run` to a breakpoint; a poke puts one bit; all others leave the
 -- machine as it is

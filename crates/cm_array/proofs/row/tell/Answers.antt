@@ -1,7 +1,7 @@
 use Rattle.std.proofs.Common.{◌≢◌, ◌+◌, ◌-◌, ◌<◌, ℕ, length, arith, rules}
 use Rattle.std.proofs.lemmas.List.{length-map}
 use Rattle.cm_router.specs.Logs.{Log}
-use Rattle.cm_router.specs.Rows.{teller}
+use Rattle.cm_router.specs.Rows.{logging_chip}
 use Rattle.cm_petit.specs.Routers.{events_of}
 use Rattle.cm_array.proofs.Dealing.{dealt_elsewhere, dealt_here}
 use Rattle.cm_array.proofs.Rooms.{events_of-set}
@@ -15,7 +15,7 @@ returns-then-chip-from-clause-ok c =
     let told = c.teller.ensures.value in
     let chip = c.from-chip.ensures in
     let from = c.from-from.ensures in
-    let apart : (k : ℕ) → k < length (events_of logs) → teller c.args.event.now ≢ c.args.first + k =
+    let apart : (k : ℕ) → k < length (events_of logs) → logging_chip c.args.event.now ≢ c.args.first + k =
     λ k l. elim c.then-chip-from.branch [
       | then-chip-from-via-then-chip-from w ↦ omega (arith, l, long, told, chip, from, w.if-chip-from.true)
       | then-chip-from-via-else-chip-from+then-logs-chip w ↦ omega (

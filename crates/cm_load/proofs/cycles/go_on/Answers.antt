@@ -11,7 +11,7 @@ use Rattle.cm_model.proofs.Each.{length-tabulate}
 use Rattle.cm_element.specs.Wide.{with_flag_plane}
 use Rattle.cm_router.specs.Logs.{Log}
 use Rattle.cm_router.specs.Routes.{routing_of}
-use Rattle.cm_load.specs.Telling.{is_injection_event, latency_told}
+use Rattle.cm_load.specs.Telling.{is_injection_event, latency_logged}
 use Rattle.cm_load.proofs.Adding.{flat_map-map, sum_by-map}
 use Rattle.cm_load.proofs.Cycling.{one_cycle}
 use Rattle.cm_load.proofs.cycles.go_on.Goals as goal
@@ -40,7 +40,7 @@ returns-clause-ok c =
     (c.taken_in.ensures.value ∙ sym (sum_by-map (count_by is_injection_event) (λ (log : Log). log.items) logs))
     (c.in_ok-push_latencies.ensures.ok
     ∙ ap (λ (xs : List ℕ). c.args.told.now.latencies.items ++ xs)
-    (sym (flat_map-map (flat_map (latency_told c.args.t)) (λ (log : Log). log.items) logs)))
+    (sym (flat_map-map (flat_map (latency_logged c.args.t)) (λ (log : Log). log.items) logs)))
     (c.fetch_all.ensures.value
     ∙ ap (λ (k : ℕ). tabulate 0 k (λ x. with_flag_plane (chip_at c.cycle.new.run x) RECV (bit 0)))
     (chip_count c.args.sizes.dims c.args.sizes.bounds.dimension))

@@ -6,10 +6,10 @@ use Rattle.cm_model.specs.Array.{nth_or_nil}
 use Rattle.cm_model.specs.Found.{IsWhereabouts, delivery_place}
 use Rattle.cm_model.proofs.Finding.{messages_are_found}
 use Rattle.cm_router.specs.Logs.{Log}
-use Rattle.cm_router.specs.Rows.{teller}
+use Rattle.cm_router.specs.Rows.{logging_chip}
 use Rattle.cm_petit.specs.Routers.{events_of}
 use Rattle.cm_array.specs.Parts.{MachineView}
-use Rattle.cm_array.specs.Finding.{TellOf, TellNone, IsToldIn}
+use Rattle.cm_array.specs.Finding.{TellOf, TellNone, IsLoggedIn}
 use Rattle.cm_array.proofs.Machines.{AreOf-parts}
 use Rattle.cm_array.proofs.Searching.{found_in-router, found_in-delivered, found_in-told, found_in-nowhere}
 use Rattle.cm_array.proofs.machine.Machine.find.Goals as goal
@@ -35,7 +35,7 @@ returns-in-Some-delivered_to-clause-value g c =
     let place = c.in-Some-delivered_to.place in
     found_in-delivered g.row.N machine c.args.tag parts.crossing.buffers parts.logs.items parts.row.items
     (AreOf-parts g.row.N g.row.CAP parts machine c.self.invariant (ap (λ (k : MachineView). k.machine) c.self.view_is)) place
-    (subst (λ (logs : List Log). IsToldIn c.args.tag place (events_of logs)) c.deref.ensures.value
+    (subst (λ (logs : List Log). IsLoggedIn c.args.tag place (events_of logs)) c.deref.ensures.value
     c.in-Some-delivered_to.ensures.some)
     (sym c.in_default.is ∙ c.router_of.ensures.value)
 
@@ -71,10 +71,10 @@ returns-in-None-clause-value g c =
     subst (λ (xs : List Log). (k : ℕ) → k < length xs → TellNone tag (nth_or_nil (events_of xs) k)) c.deref.ensures.value
     (c.in_default-delivered_to.ensures.none refl) in
     let many : c.len.result ≡ length parts.logs.items = omega (arith, c.len.ensures, parts.logs.ok.0) in
-    let row : All (λ (e : Event). teller e < length parts.logs.items → delivery_place tag e ≡ None) parts.row.items =
-    subst (λ (xs : List Event). All (λ e. teller e < length parts.logs.items → delivery_place tag e ≡ None) xs)
+    let row : All (λ (e : Event). logging_chip e < length parts.logs.items → delivery_place tag e ≡ None) parts.row.items =
+    subst (λ (xs : List Event). All (λ e. logging_chip e < length parts.logs.items → delivery_place tag e ≡ None) xs)
     c.deref-2.ensures.value
-    (subst (λ (n : ℕ). All (λ (e : Event). teller e < n → delivery_place tag e ≡ None) c.deref-2.result.now) many
+    (subst (λ (n : ℕ). All (λ (e : Event). logging_chip e < n → delivery_place tag e ≡ None) c.deref-2.result.now) many
     (c.in-None.ensures.none refl)) in
     found_in-nowhere g.row.N machine tag parts.crossing.buffers parts.logs.items parts.row.items
     (AreOf-parts g.row.N g.row.CAP parts machine c.self.invariant (ap (λ (k : MachineView). k.machine) c.self.view_is)) logs row

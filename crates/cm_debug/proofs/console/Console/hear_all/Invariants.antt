@@ -1,14 +1,14 @@
 use Rattle.std.proofs.Common.{◌≡◌, ℕ, ◌-◌, ◌*◌, ◌^◌, ◌≤◌, false, List, [], length}
 use Rattle.std.specs.Io.KnownBytes.{Consumes}
 use Rattle.cm_session.specs.Ends.{COMMANDS_LIMIT}
-use Rattle.cm_debug.specs.Talk.{setting, talk, IsTold}
+use Rattle.cm_debug.specs.Talk.{setting, talk, AreProcessed}
 use Rattle.cm_debug.proofs.console.Console.hear_all.Given as goal
 
 abbrev pub invariant-loop-count : goal.invariant-loop-count
 invariant-loop-count g l = record {
   text : List ℕ;
   read : Consumes (g.I.Source.left l.fn.commands) (g.I.Source.left l.commands) text;
-  told : IsTold g.row.N g.row.CAP (setting l.fn.self.debugger.acts.now l.fn.machine.machine
+  told : AreProcessed g.row.N g.row.CAP (setting l.fn.self.debugger.acts.now l.fn.machine.machine
       (g.O.Sink.contents l.fn.out) (g.R.Runner.threads_lacked l.fn.runner)) text
       (talk l.machine.machine l.self (g.O.Sink.contents l.out) (g.R.Runner.threads_lacked l.runner));
   none : l.self.output.bytes.items ≡ [];
