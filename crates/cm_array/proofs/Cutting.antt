@@ -6,8 +6,8 @@ use Rattle.std.proofs.lemmas.List.Elements.{All-from_get_or}
 use Rattle.std.specs.List.{All, slice_range}
 use Rattle.cm_model.specs.declared.message.Message.{Message}
 use Rattle.cm_model.specs.declared.message.Event.{Event}
-use Rattle.cm_blocks.specs.Parts.{cut, part}
-use Rattle.cm_blocks.proofs.Cutting.{length-cut, read-cut_at}
+use Rattle.cm_blocks.specs.Parts.{sliced, part}
+use Rattle.cm_blocks.proofs.Cutting.{length-sliced, read-cut_at}
 use Rattle.cm_router.specs.declared.routing.Routing.{Routing}
 use Rattle.cm_router.specs.Routes.{routing_of}
 use Rattle.cm_router.specs.Logs.{Log}
@@ -28,19 +28,19 @@ pub few_buffers : (n cap : ℕ) (parts : ChipState) → AreParts n cap parts →
 few_buffers n cap parts h = omega (arith, h.machine.buffer_count, few_chips n h.sized.sizes.dimension)
 
 -- the events of some of the logs
-pub events_of-cut : (first count : ℕ) (logs : List Log)
-    → events_of (slice_range logs first (first + count)) ≡ cut first count (events_of logs)
-unfolding cut
-events_of-cut first count logs =
+pub events_of-sliced : (first count : ℕ) (logs : List Log)
+    → events_of (slice_range logs first (first + count)) ≡ sliced first count (events_of logs)
+unfolding sliced
+events_of-sliced first count logs =
     let read : Log → List Event = λ log. log.items in
     ap (λ (k : ℕ). map read (take k (drop first logs))) (let e : first + count - first ≡ count = omega arith in e)
     ∙ sym (ap (take count) (drop-map read first logs) ∙ take-map read count (drop first logs))
 
 -- what is kept of some chips is a cut of what is kept of all
 pub record AreCut (first count : ℕ) (old new : ChipState) : Type 0 where
-  pub run : new.run ≡ cut first count old.run
-  pub buffers : new.crossing.buffers ≡ cut first count old.crossing.buffers
-  pub logs : events_of new.logs.items ≡ cut first count (machine_of old).logs
+  pub run : new.run ≡ sliced first count old.run
+  pub buffers : new.crossing.buffers ≡ sliced first count old.crossing.buffers
+  pub logs : events_of new.logs.items ≡ sliced first count (machine_of old).logs
   pub sent : length new.sent.items ≡ count
   pub incoming : length new.incoming.items ≡ count
   pub clock : new.clock ≡ old.clock
@@ -49,18 +49,18 @@ pub record AreCut (first count : ℕ) (old new : ChipState) : Type 0 where
 module _ (n cap first count : ℕ) (old new : ChipState) (were : AreParts n cap old) (there : first + count ≤ 2 ^ n)
     (are : AreCut first count old new) where
   length-run_cut : length new.run ≡ count
-  length-run_cut = ap length are.run ∙ length-cut first count old.run (omega (arith, there, were.machine.chip_count))
+  length-run_cut = ap length are.run ∙ length-sliced first count old.run (omega (arith, there, were.machine.chip_count))
 
   length-buffers_cut : length new.crossing.buffers ≡ count
   length-buffers_cut =
       ap length are.buffers
-      ∙ length-cut first count old.crossing.buffers (omega (arith, there, were.machine.buffer_count))
+      ∙ length-sliced first count old.crossing.buffers (omega (arith, there, were.machine.buffer_count))
 
   length-logs_cut : length new.logs.items ≡ count
   length-logs_cut =
       sym (length-map new.logs.items (λ (log : Log). log.items))
       ∙ ap (λ (logs : List (List Event)). length logs) are.logs
-      ∙ length-cut first count (machine_of old).logs (omega (arith, there, were.machine.log_count))
+      ∙ length-sliced first count (machine_of old).logs (omega (arith, there, were.machine.log_count))
 
   within_cut : All (λ ms. length ms ≤ cap) new.crossing.buffers
   within_cut =

@@ -12,8 +12,8 @@ use Rattle.cm_model.specs.declared.message.Event.{Event}
 use Rattle.cm_model.specs.Array.{nth_or_nil}
 use Rattle.cm_model.specs.Each.{tabulate}
 use Rattle.cm_model.proofs.Each.{length-tabulate, get_or-each_below, same_each_below, is_each}
-use Rattle.cm_blocks.specs.Parts.{cut}
-use Rattle.cm_blocks.proofs.Cutting.{length-cut, read-cut_at}
+use Rattle.cm_blocks.specs.Parts.{sliced}
+use Rattle.cm_blocks.proofs.Cutting.{length-sliced, read-cut_at}
 use Rattle.cm_router.specs.Logs.{Log}
 use Rattle.cm_router.specs.Rows.{logging_chip, events_of_chip, with_row}
 use Rattle.cm_router.proofs.Telling.{events_of_chip-append, length-with_row, with_row_at}
@@ -99,14 +99,14 @@ some_dealt logs now row left count told rest =
     ∙ ap (dealt 0 logs) (take-append-drop count row) ∙ sym (with_row-dealt logs row)
 
 -- the logs of some of the chips
-pub dealt-cut : (first count : ℕ) (logs : List (List Event)) (row : List Event) → first + count ≤ length logs
-    → dealt first (cut first count logs) row ≡ cut first count (with_row logs row)
-dealt-cut first count logs row fits =
-    let some : List (List Event) = cut first count logs in
-    let wide : length some ≡ count = length-cut first count logs fits in
+pub dealt-sliced : (first count : ℕ) (logs : List (List Event)) (row : List Event) → first + count ≤ length logs
+    → dealt first (sliced first count logs) row ≡ sliced first count (with_row logs row)
+dealt-sliced first count logs row fits =
+    let some : List (List Event) = sliced first count logs in
+    let wide : length some ≡ count = length-sliced first count logs fits in
     let long = length-with_row logs row in
-    sym (is_each [] (length some) (λ c. nth_or_nil some c ++ events_of_chip (first + c) row) (cut first count (with_row logs row))
-    (length-cut first count (with_row logs row) (omega (arith, fits, long)) ∙ sym wide)
+    sym (is_each [] (length some) (λ c. nth_or_nil some c ++ events_of_chip (first + c) row) (sliced first count (with_row logs row))
+    (length-sliced first count (with_row logs row) (omega (arith, fits, long)) ∙ sym wide)
     (λ c l. let below : c < count = omega (arith, l, wide) in
     read-cut_at first count (with_row logs row) c [] below
     ∙ with_row_at logs row (first + c) (omega (arith, fits, below))

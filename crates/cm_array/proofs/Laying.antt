@@ -8,8 +8,8 @@ use Rattle.cm_model.specs.declared.message.Event.{Event}
 use Rattle.cm_model.specs.Each.{tabulate}
 use Rattle.cm_model.proofs.Each.{length-tabulate, get_or-each_below}
 use Rattle.cm_model.specs.Array.{Chips, nth_or_nil}
-use Rattle.cm_blocks.specs.Parts.{cut}
-use Rattle.cm_blocks.proofs.Cutting.{length-cut, read-cut_at}
+use Rattle.cm_blocks.specs.Parts.{sliced}
+use Rattle.cm_blocks.proofs.Cutting.{length-sliced, read-cut_at}
 use Rattle.cm_element.specs.Laid.{AreLaid}
 use Rattle.cm_router.specs.Logs.{Log}
 use Rattle.cm_petit.specs.Routers.{events_of}
@@ -42,33 +42,33 @@ length_come lists c ys inside = ap length (get_or-set_same lists c ys [] inside)
 
 -- what a cut is laid from
 pub laid_cut : {X : Type 0} (first count i : ℕ) (xs : List (List X)) → i < count
-    → nth_or_nil (cut first count xs) i ≡ nth_or_nil xs (first + i)
+    → nth_or_nil (sliced first count xs) i ≡ nth_or_nil xs (first + i)
 laid_cut first count i xs l = read-cut_at first count xs i [] l
 
 -- chips that were laid over all chips of another run
 pub chips_cut : (first count : ℕ) (from old new : Chips) → length old ≡ count → first + count ≤ length from
-    → AreLaid 0 first count from old new → new ≡ cut first count from
+    → AreLaid 0 first count from old new → new ≡ sliced first count from
 chips_cut first count from old new long fits laid =
-    ext_get_or [] new (cut first count from) (laid.chips ∙ long ∙ sym (length-cut first count from fits))
+    ext_get_or [] new (sliced first count from) (laid.chips ∙ long ∙ sym (length-sliced first count from fits))
     (λ i l. let below : i < count = omega (arith, l, laid.chips, long) in
     ap (λ (k : ℕ). get_or new k []) (sym (zero-add i)) ∙ laid.laid i below ∙ sym (laid_cut first count i from below))
 
 pub buffers_cut : {X : Type 0} (first count : ℕ) (from old new : List (List X)) → length old ≡ count
-    → first + count ≤ length from → IsLaid 0 (cut first count from) old new → new ≡ cut first count from
+    → first + count ≤ length from → IsLaid 0 (sliced first count from) old new → new ≡ sliced first count from
 buffers_cut first count from old new long fits laid =
-    let wide : length (cut first count from) ≡ count = length-cut first count from fits in
-    ext_get_or [] new (cut first count from) (laid.count ∙ long ∙ sym wide)
+    let wide : length (sliced first count from) ≡ count = length-sliced first count from fits in
+    ext_get_or [] new (sliced first count from) (laid.count ∙ long ∙ sym wide)
     (λ i l. ap (λ (k : ℕ). get_or new k []) (sym (zero-add i)) ∙ laid.laid i (omega (arith, l, laid.count, long, wide)))
 
 -- lists that read so have a cut laid into them
-pub IsLaid-cut : {X : Type 0} (at first count : ℕ) (from old new : List (List X)) → first + count ≤ length from
+pub IsLaid-sliced : {X : Type 0} (at first count : ℕ) (from old new : List (List X)) → first + count ≤ length from
     → length new ≡ length old
     → ((k : ℕ) → k < count → nth_or_nil new (at + k) ≡ nth_or_nil from (first + k))
     → ((k : ℕ) → k < at → nth_or_nil new k ≡ nth_or_nil old k)
     → ((k : ℕ) → at + count ≤ k → nth_or_nil new k ≡ nth_or_nil old k)
-    → IsLaid at (cut first count from) old new
-IsLaid-cut at first count from old new fits same laid below above =
-    let wide : length (cut first count from) ≡ count = length-cut first count from fits in
+    → IsLaid at (sliced first count from) old new
+IsLaid-sliced at first count from old new fits same laid below above =
+    let wide : length (sliced first count from) ≡ count = length-sliced first count from fits in
     record {
       count = same;
       laid = λ i l. let inside : i < count = omega (arith, l, wide) in
@@ -144,6 +144,6 @@ all_chips_laid at count from old new all laid = record {
 }
 
 -- a cut of all is all
-pub cut_all : {X : Type 0} (count : ℕ) (xs : List X) → count ≡ length xs → cut 0 count xs ≡ xs
-unfolding cut
+pub cut_all : {X : Type 0} (count : ℕ) (xs : List X) → count ≡ length xs → sliced 0 count xs ≡ xs
+unfolding sliced
 cut_all count xs all = take_all count xs (omega (arith, all))

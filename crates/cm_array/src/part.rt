@@ -9,7 +9,7 @@ ghost use Rattle.cm_model.specs.Wiring.{is_cut};
 ghost use Rattle.cm_model.specs.Steps.{Cross};
 ghost use Rattle.cm_blocks.specs.Parcels.{Mail, due};
 ghost use Rattle.cm_blocks.specs.Steps.{less, absorbed};
-ghost use Rattle.cm_blocks.specs.Parts.{cut, chip_in, buffer_in, log_in};
+ghost use Rattle.cm_blocks.specs.Parts.{sliced, chip_in, buffer_in, log_in};
 ghost use Rattle.cm_router.specs.Routes.{routing_of};
 ghost use Rattle.cm_array.specs.Cuts.{part_view, IsPartView, IsLaid};
 
@@ -180,7 +180,7 @@ impl Part {
 pub(crate) fn lay_chips(run: &mut Run, from: &Run, first: u16, count: u16)
     requires here { length run.old ≡ count }
     requires there { first + count ≤ length from.now }
-    ensures value { run.new ≡ cut first count from.now }
+    ensures value { run.new ≡ sliced first count from.now }
 {
     run.lay(0, from, first, count);
 }
@@ -197,7 +197,7 @@ pub(crate) fn lay_all_buffers(
     requires gathered { IsTrue from.now.gathered }
     requires few { length from.now.buffers ≤ 4096 }
     requires within { All (λ ms. length ms ≤ 15) from.now.buffers }
-    ensures value { crossing.new.buffers ≡ cut first count from.now.buffers }
+    ensures value { crossing.new.buffers ≡ sliced first count from.now.buffers }
     ensures gathered { IsTrue crossing.new.gathered }
 {
     crossing.clear();
@@ -220,7 +220,7 @@ pub(crate) fn lay_buffers(
     requires gathered { IsTrue from.now.gathered }
     requires within { All (λ ms. length ms ≤ 15) from.now.buffers }
     requires empty { (c : ℕ) → at ≤ c → nth_or_nil to.old.buffers c ≡ [] }
-    ensures value { IsLaid at (cut first count from.now.buffers) to.old.buffers to.new.buffers }
+    ensures value { IsLaid at (sliced first count from.now.buffers) to.old.buffers to.new.buffers }
 {
     for i in 0..count {
         arrive_all(to, at + i, from.buffer(first + i));

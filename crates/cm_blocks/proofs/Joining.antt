@@ -6,13 +6,13 @@ use Rattle.std.proofs.lemmas.List.{take_all, drop-drop}
 use Rattle.std.proofs.Math.Seq.{take-add}
 use Rattle.std.specs.List.{flat_map, range_with_len}
 use Rattle.cm_model.specs.Machine.{Machine}
-use Rattle.cm_blocks.specs.Parts.{cut, part, block_size}
+use Rattle.cm_blocks.specs.Parts.{sliced, part, block_size}
 use Rattle.cm_blocks.specs.Laws.{AreJoined}
 
 -- so many cuts of one size, one after another, are one cut
 cuts : {X : Type 0} (xs : List X) (width a j : ℕ)
-    → flat_map (λ b. cut (b * width) width xs) (range_with_len a j) ≡ take (j * width) (drop (a * width) xs)
-unfolding cut
+    → flat_map (λ b. sliced (b * width) width xs) (range_with_len a j) ≡ take (j * width) (drop (a * width) xs)
+unfolding sliced
 cuts xs width a zero =
     let none : 0 * width ≡ 0 = omega arith in ap (λ (k : ℕ). take k (drop (a * width) xs)) (sym none)
 cuts xs width a (suc j) =
@@ -24,7 +24,7 @@ cuts xs width a (suc j) =
     ∙ (sym (take-add width (j * width) (drop (a * width) xs)) ∙ ap (λ (k : ℕ). take k (drop (a * width) xs)) (sym more))
 
 all_cuts : {X : Type 0} (n k : ℕ) (xs : List X) → k ≤ n → length xs ≡ 2 ^ n
-    → flat_map (λ b. cut (b * block_size n k) (block_size n k) xs) (range_with_len 0 (2 ^ k)) ≡ xs
+    → flat_map (λ b. sliced (b * block_size n k) (block_size n k) xs) (range_with_len 0 (2 ^ k)) ≡ xs
 all_cuts n k xs h long =
     let whole : 2 ^ n ≡ 2 ^ k * 2 ^ (n - k) =
     ap (λ (z : ℕ). 2 ^ z) (let e : n ≡ k + (n - k) = omega arith in e) ∙ pow-add 2 k (n - k) in

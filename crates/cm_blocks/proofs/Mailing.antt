@@ -15,7 +15,7 @@ use Rattle.cm_model.proofs.Each.{get_or-tabulate}
 use Rattle.cm_blocks.specs.Parts.{Part, part, block, block_size, is_within, buffer_in}
 use Rattle.cm_blocks.specs.Parcels.{Parcel, due, sender}
 use Rattle.cm_blocks.specs.Steps.{mail_for, part_after}
-use Rattle.cm_blocks.proofs.Cutting.{cut-same, within-part, within-from, within-below}
+use Rattle.cm_blocks.proofs.Cutting.{sliced-same, within-part, within-from, within-below}
 use Rattle.cm_blocks.proofs.Local.{read-buffer}
 
 -- block b ends within the machine
@@ -97,7 +97,7 @@ block-cross n cap k b d machine h l below =
     let first : ℕ = b * block_size n k in
     let s : Part = block n k b machine in
     let parcel : Parcel = due n cap (Cross d) (block n k (sender n k (Cross d) b) machine) in
-    let buffers = cut-same [] first (block_size n k) (2 ^ n)
+    let buffers = sliced-same [] first (block_size n k) (2 ^ n)
     (λ c. buffer_after_dimension (way_of machine.routing c d) cap d (nth_or_nil machine.buffers c)
     (sent_across machine.routing cap d machine.buffers (bit_xor c (2 ^ d))))
     (λ c. buffer_after_dimension (way_of machine.routing c d) cap d (buffer_in s c) (mail_for cap d parcel s c))

@@ -24,7 +24,7 @@ use Rattle.cm_blocks.specs.Parcels.{Parcel, edge_row, due, sender_over, sender}
 use Rattle.cm_blocks.specs.Steps.{news_in, incoming_in, part_after}
 use Rattle.cm_blocks.proofs.Bands.{band, block_size-band, rows-band, block-row, row-from, row-below, its_row-from}
 use Rattle.cm_blocks.proofs.Bands.{its_row-below, row_back, row_on}
-use Rattle.cm_blocks.proofs.Cutting.{cut-same, within-part, within-from, within-below}
+use Rattle.cm_blocks.proofs.Cutting.{sliced-same, within-part, within-from, within-below}
 use Rattle.cm_blocks.proofs.Local.{read-chip}
 use Rattle.cm_blocks.proofs.Mailing.{block-fits}
 
@@ -222,7 +222,7 @@ block-instruct n cap k b nano machine h l =
     let first : ℕ = b * block_size n k in
     let s : Part = block n k b machine in
     let parcel : Parcel = due n cap (Instruct nano) (block n k (sender n k (Instruct nano) b) machine) in
-    let chips = cut-same [] first (block_size n k) (2 ^ n)
+    let chips = sliced-same [] first (block_size n k) (2 ^ n)
     (λ c. chip_after nano (incoming n nano machine.chips c) (chip_at machine.chips c))
     (λ c. chip_after nano (incoming_in n nano parcel s c) (chip_in s c)) (block-fits n k b (omega arith) l)
     (λ i inside.

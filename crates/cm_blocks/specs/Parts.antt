@@ -8,8 +8,8 @@ use Rattle.cm_model.specs.Wiring.{Routing}
 use Rattle.cm_model.specs.Machine.{Machine}
 
 -- so many elements of a list, from a place on
-unfoldable pub cut : {X : Type 0} → ℕ → ℕ → List X → List X
-cut first count xs = take count (drop first xs)
+unfoldable pub sliced : {X : Type 0} → ℕ → ℕ → List X → List X
+sliced first count xs = take count (drop first xs)
 
 -- some chips of a machine, with their buffers and logs, its counter and how it routes
 pub record Part : Type 0 where
@@ -29,9 +29,9 @@ unfoldable pub part : ℕ → ℕ → Machine → Part
 part first count machine = record {
   first = first;
   count = count;
-  chips = cut first count machine.chips;
-  buffers = cut first count machine.buffers;
-  logs = cut first count machine.logs;
+  chips = sliced first count machine.chips;
+  buffers = sliced first count machine.buffers;
+  logs = sliced first count machine.logs;
   clock = machine.clock;
   routing = machine.routing;
 }

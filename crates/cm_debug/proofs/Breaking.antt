@@ -10,7 +10,7 @@ use Rattle.cm_session.specs.declared.fault.SessionFault.TheVariants.{Read, Write
 use Rattle.cm_session.specs.Session.{Session, Answered, preceded_by, opening, after_line, after_lines}
 use Rattle.cm_session.specs.Ends.{ended_lines, open_line, IsBeforeOrAmid, IsInFlight, IsStopped, IsAborted}
 use Rattle.cm_session.proofs.Lines.{ended_lines-end}
-use Rattle.cm_debug.specs.BufferedOutput.{IsCutOff, AbortsBetween}
+use Rattle.cm_debug.specs.BufferedOutput.{IsShortWriteAfter, AbortsBetween}
 use Rattle.cm_debug.specs.Talk.{Talk, Setting, after_all, AreProcessed, AbortsAmong}
 use Rattle.cm_debug.specs.Taking.{AbortsIn}
 use Rattle.cm_debug.proofs.Lines.{next, lines-more, answers-append, answers-longer}
@@ -104,7 +104,7 @@ stopped_in : (n cap : ℕ) (first : Setting) (done : List (List ℕ)) (line : Li
     (holds on : Option (List ℕ)) (machine : Machine) (count : ℕ)
     → Appends first.out (append_known holds kept) (after_all n cap first done).answer
     → sent + length kept ≡ length (after_all n cap first done).answer
-    → IsCutOff sent (kept ++ (next n cap first done line).answer) holds on count
+    → IsShortWriteAfter sent (kept ++ (next n cap first done line).answer) holds on count
     → (machine ≡ (next n cap first done line).session.machine)
     ⊎ IsInFlight n cap first.acts (after_all n cap first done).session (next n cap first done line).session machine
     → IsStopped n cap first.acts first.machine first.out (done ++ line ∷ []) machine on count

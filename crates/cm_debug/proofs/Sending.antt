@@ -5,7 +5,7 @@ use Rattle.std.proofs.Common.{append_assoc, append-nil, length-append}
 use Rattle.std.proofs.lemmas.Grind.{common_steps}
 use Rattle.std.proofs.KnownBytes.{Appends-trans}
 use Rattle.std.specs.Io.KnownBytes.{Appends, append_known}
-use Rattle.cm_debug.specs.BufferedOutput.{IsCutOff}
+use Rattle.cm_debug.specs.BufferedOutput.{IsShortWriteAfter}
 
 -- a count of bytes of the answers to the first lines is one of the answers to all
 pub take_front : (front rest : List ℕ) (count : ℕ) → count ≤ length front → take count (front ++ rest) ≡ take count front
@@ -69,7 +69,7 @@ all_written (Some h) (Some c) (Some o) kept first wrote rest = rest ∙ wrote
 pub cut_later : (held holds on : Option (List ℕ)) (kept gone more text : List ℕ) (sent before now part : ℕ)
     → gone ≡ kept → text ≡ more → before ≡ sent → Appends held holds gone → now ≡ before + length gone
     → part < length text → Appends holds on (take part text)
-    → IsCutOff sent (kept ++ more) held on (now + part)
+    → IsShortWriteAfter sent (kept ++ more) held on (now + part)
 cut_later held holds on kept gone more text sent before now part same alike kept' wrote count within cut = record {
   part = length kept + part;
   count_is = omega (arith, count, kept', ap length same);

@@ -14,7 +14,7 @@ abbrev pub answered_bytes : BufferedOutput → ℕ
 answered_bytes gathered = gathered.sent + length gathered.bytes.items
 
 -- a front of a text was written, and the count of bytes is those before it and its own
-pub record IsCutOff (sent : ℕ) (text : List ℕ) (held holds : Option (List ℕ)) (count : ℕ) : Type 0 where
+pub record IsShortWriteAfter (sent : ℕ) (text : List ℕ) (held holds : Option (List ℕ)) (count : ℕ) : Type 0 where
   pub part : ℕ
   pub count_is : count ≡ sent + part
   pub within : part < length text
@@ -22,7 +22,7 @@ pub record IsCutOff (sent : ℕ) (text : List ℕ) (held holds : Option (List �
 
 -- how a session breaks off between two lines: with a front of what is gathered written, or all of it
 abbrev pub AbortsBetween : ℕ → List ℕ → Option (List ℕ) → Option (List ℕ) → SessionFault → Type 0
-AbortsBetween sent kept held holds (Write count) = IsCutOff sent kept held holds count
+AbortsBetween sent kept held holds (Write count) = IsShortWriteAfter sent kept held holds count
 AbortsBetween sent kept held holds Memory = Appends held holds kept
 AbortsBetween sent kept held holds NoThread = Appends held holds kept
 AbortsBetween sent kept held holds _ = ⊥

@@ -7,7 +7,7 @@ use Rattle.cm_session.specs.declared.fault.SessionFault.{SessionFault}
 use Rattle.cm_session.specs.declared.fault.SessionFault.TheVariants.{Write, Memory, NoThread}
 use Rattle.cm_session.specs.Session.{Answered}
 use Rattle.cm_session.specs.Ends.{ended_lines, is_session_no_thread, IsInFlight}
-use Rattle.cm_debug.specs.BufferedOutput.{IsCutOff}
+use Rattle.cm_debug.specs.BufferedOutput.{IsShortWriteAfter}
 use Rattle.cm_debug.specs.Talk.{Talk, Setting, holds_of, answered_count, AreProcessed, IsBroken}
 
 -- ---- bytes
@@ -46,7 +46,7 @@ pub record HasAnswered (one : Answered) (before after : Talk) : Type 0 where
 -- machine is on the way
 abbrev pub AbortsIn : ℕ → ℕ → Answered → Talk → Machine → Option (List ℕ) → SessionFault → Type 0
 AbortsIn n cap one before machine holds (Write count) =
-    IsCutOff before.sent (before.kept ++ one.answer) before.out holds count
+    IsShortWriteAfter before.sent (before.kept ++ one.answer) before.out holds count
     × ((machine ≡ one.session.machine) ⊎ IsInFlight n cap before.acts before.session one.session machine)
 AbortsIn n cap one before machine holds Memory =
     Appends before.out holds before.kept × IsInFlight n cap before.acts before.session one.session machine

@@ -4,7 +4,7 @@ ghost use Rattle.std.specs.Prelude.{◌≡◌, ◌+◌, ◌<◌, ◌^◌, ◌++�
 ghost use Rattle.std.specs.Prelude.{if◌then◌else◌};
 ghost use Rattle.std.specs.Io.KnownBytes.{Appends};
 ghost use Rattle.cm_session.specs.Ends.{is_session_no_thread, is_write};
-ghost use Rattle.cm_debug.specs.BufferedOutput.{answered_bytes, with_gathered, AbortsBetween, IsCutOff};
+ghost use Rattle.cm_debug.specs.BufferedOutput.{answered_bytes, with_gathered, AbortsBetween, IsShortWriteAfter};
 ghost use Rattle.cm_debug.specs.Telling.{is_thread};
 ghost use Rattle.cm_debug.specs.declared.out_of.OutOf.TheVariants.{Thread};
 
@@ -50,7 +50,7 @@ impl BufferedOutput {
             (with_gathered (O.contents out.new) self.new) self.old.line.items) }
         ensures count { OnOk result (answered_bytes self.new
             ≡ answered_bytes self.old + length self.old.line.items) }
-        ensures err { IfErr result (λ cut. IsCutOff self.old.sent (self.old.bytes.items ++ self.old.line.items)
+        ensures err { IfErr result (λ cut. IsShortWriteAfter self.old.sent (self.old.bytes.items ++ self.old.line.items)
             (O.contents out.old) (O.contents out.new) cut.0) }
         ensures failed { O.has_failed out.new ≡ is_err result }
     {
@@ -89,7 +89,7 @@ impl BufferedOutput {
         ensures written { OnOk result (Appends (O.contents out.old) (O.contents out.new) self.old.bytes.items) }
         ensures none { OnOk result (self.new.bytes.items ≡ []) }
         ensures sent { OnOk result (self.new.sent ≡ answered_bytes self.old) }
-        ensures err { IfErr result (λ cut. IsCutOff self.old.sent self.old.bytes.items (O.contents out.old)
+        ensures err { IfErr result (λ cut. IsShortWriteAfter self.old.sent self.old.bytes.items (O.contents out.old)
             (O.contents out.new) cut.0) }
         ensures failed { O.has_failed out.new ≡ is_err result }
     {

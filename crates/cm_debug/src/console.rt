@@ -8,7 +8,7 @@ ghost use Rattle.cm_session.specs.Bounds.{IsFor};
 ghost use Rattle.cm_session.specs.Commands.{command_of};
 ghost use Rattle.cm_session.specs.Session.{answered};
 ghost use Rattle.cm_session.specs.Ends.{is_write};
-ghost use Rattle.cm_debug.specs.BufferedOutput.{answered_bytes, with_gathered, IsCutOff};
+ghost use Rattle.cm_debug.specs.BufferedOutput.{answered_bytes, with_gathered, IsShortWriteAfter};
 ghost use Rattle.cm_debug.specs.State.{session_of};
 ghost use Rattle.cm_debug.specs.Talk.{talk};
 ghost use Rattle.cm_debug.specs.Taking.{Takes, ConsoleAnswers};
@@ -226,7 +226,7 @@ fn send_before<O: Sink>(
     ensures count { OnOk result (answered_bytes answers.new ≡ answered_bytes answers.old) }
     ensures none { OnOk result (wants ≡ true → IsTrue (asks_for_acts asked.now) → answers.new.bytes.items ≡ []) }
     ensures run { OnOk result (IsTrue (asks_to_run asked.now) → answers.new.bytes.items ≡ []) }
-    ensures err { IfErr result (λ cut. IsCutOff answers.old.sent answers.old.bytes.items (O.contents out.old)
+    ensures err { IfErr result (λ cut. IsShortWriteAfter answers.old.sent answers.old.bytes.items (O.contents out.old)
         (O.contents out.new) cut.0) }
     ensures failed { O.has_failed out.new ≡ is_err result }
 {

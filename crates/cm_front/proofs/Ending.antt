@@ -11,7 +11,7 @@ use Rattle.cm_model.specs.Machine.{Machine}
 use Rattle.cm_session.specs.declared.fault.SessionFault.{SessionFault}
 use Rattle.cm_session.specs.declared.fault.SessionFault.TheVariants.{Read, Write, TooMuch, Memory, NoThread}
 use Rattle.cm_session.specs.Ends.{ended_lines, open_line}
-use Rattle.cm_debug.specs.BufferedOutput.{IsCutOff}
+use Rattle.cm_debug.specs.BufferedOutput.{IsShortWriteAfter}
 use Rattle.cm_front.specs.Front.{Front}
 use Rattle.cm_front.specs.Ends.{LINE_LIMIT, ALL, AreShort, Ends, IsAnswered}
 use Rattle.cm_front.specs.Hearing.{LineAborts, HasHeard, HearingStops}
@@ -85,7 +85,7 @@ line_ends n cap start held before after heard given rest line place len done fro
 pub send_ends : (n cap : ℕ) (start : Machine) (held before after : Option (List ℕ)) (given rest : List ℕ)
     (done : List (List ℕ)) (front : Front) (holds on : Option (List ℕ)) (sent : ℕ) (kept : List ℕ) (count : ℕ)
     → AreLinesOf given done → Consumes before after (given ++ rest) → IsTold n cap start held done front holds sent kept
-    → IsCutOff sent kept holds on count → Ends n cap before after start held front.machine on (Err (Write count))
+    → IsShortWriteAfter sent kept holds on count → Ends n cap before after start held front.machine on (Err (Write count))
 send_ends n cap start held before after given rest done front holds on sent kept count lines consumed told' cut = record {
   taken = given ++ rest;
   consumed = consumed;
@@ -262,7 +262,7 @@ answered_ends n cap start held before after given heard done front holds sent ke
 pub cut_ends : (n cap : ℕ) (start : Machine) (held before after : Option (List ℕ)) (given heard : List ℕ)
     (done : List (List ℕ)) (front : Front) (holds on : Option (List ℕ)) (sent : ℕ) (kept : List ℕ) (count : ℕ)
     → IsUnended heard → 0 < length heard → AreLinesOf given done → Consumes before after (given ++ heard)
-    → IsTold n cap start held (done ++ heard ∷ []) front holds sent kept → IsCutOff sent kept holds on count
+    → IsTold n cap start held (done ++ heard ∷ []) front holds sent kept → IsShortWriteAfter sent kept holds on count
     → Ends n cap before after start held front.machine on (Err (Write count))
 cut_ends n cap start held before after given heard done front holds on sent kept count free some lines consumed told' cut =
     record {

@@ -7,7 +7,7 @@ use Rattle.cm_bits.specs.Text.{lines_of}
 use Rattle.cm_model.specs.Machine.{Machine}
 use Rattle.cm_session.specs.declared.fault.SessionFault.{SessionFault}
 use Rattle.cm_session.specs.declared.fault.SessionFault.TheVariants.{Read, Write, TooMuch, Memory, NoThread}
-use Rattle.cm_debug.specs.BufferedOutput.{IsCutOff, AbortsBetween}
+use Rattle.cm_debug.specs.BufferedOutput.{IsShortWriteAfter, AbortsBetween}
 use Rattle.cm_debug.proofs.Sending.{front_written, all_written, with_none}
 use Rattle.cm_front.specs.Front.{Front, FrontAnswered, front_opening, front_answered_with, front_preceded_by}
 use Rattle.cm_front.specs.Front.{front_after_line, front_after_lines, front_answers}
@@ -132,7 +132,7 @@ answered_all n cap start held done front holds sent kept none told' = record {
 -- a write was cut off
 pub stopped : (n cap : ℕ) (start : Machine) (held : Option (List ℕ)) (done undone lines : List (List ℕ)) (front : Front)
     (holds on : Option (List ℕ)) (sent : ℕ) (kept : List ℕ) (count : ℕ) → lines ≡ done ++ undone
-    → IsTold n cap start held done front holds sent kept → IsCutOff sent kept holds on count
+    → IsTold n cap start held done front holds sent kept → IsShortWriteAfter sent kept holds on count
     → IsStopped n cap start held lines front.machine on count
 stopped n cap start held done undone lines front holds on sent kept count parts told' cut =
     let first : List ℕ = front_answers n cap start done in

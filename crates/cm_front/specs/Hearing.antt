@@ -4,7 +4,7 @@ use Rattle.std.specs.Io.KnownBytes.{Appends, Consumes, IsAtEnd, Keeps}
 use Rattle.cm_model.specs.Machine.{Machine}
 use Rattle.cm_session.specs.declared.fault.SessionFault.{SessionFault}
 use Rattle.cm_session.specs.declared.fault.SessionFault.TheVariants.{Read, Write, TooMuch, Memory, NoThread}
-use Rattle.cm_debug.specs.BufferedOutput.{IsCutOff}
+use Rattle.cm_debug.specs.BufferedOutput.{IsShortWriteAfter}
 use Rattle.cm_front.specs.Front.{Front, front_after_line}
 use Rattle.cm_front.specs.Ends.{LINE_LIMIT}
 
@@ -36,9 +36,9 @@ HearingStops before after NoThread = ⊥
 abbrev pub LineAborts : ℕ → ℕ → Front → List ℕ → ℕ → List ℕ → Option (List ℕ) → Machine → Option (List ℕ)
     → SessionFault → Type 0
 LineAborts n cap front line sent kept held machine holds (Write count) =
-    ((machine ≡ front.machine) × IsCutOff sent kept held holds count)
+    ((machine ≡ front.machine) × IsShortWriteAfter sent kept held holds count)
     ⊎ ((machine ≡ (front_after_line n cap front line).front.machine)
-    × IsCutOff sent (kept ++ (front_after_line n cap front line).answer) held holds count)
+    × IsShortWriteAfter sent (kept ++ (front_after_line n cap front line).answer) held holds count)
 LineAborts n cap front line sent kept held machine holds Memory = (machine ≡ front.machine) × Appends held holds kept
 LineAborts n cap front line sent kept held machine holds NoThread = (machine ≡ front.machine) × Appends held holds kept
 LineAborts n cap front line sent kept held machine holds Read = ⊥

@@ -7,7 +7,7 @@ use Rattle.std.proofs.lemmas.List.Splits.{slice_split_first}
 use Rattle.cm_bits.specs.Text.{is_comma}
 use Rattle.cm_lab_line.specs.declared.fault.CommandFault.{CommandFault}
 use Rattle.cm_lab_line.specs.Refusals.{Text, Refusal, Reports, ◌>>=◌}
-use Rattle.cm_lab_line.specs.Rates.{IsCutAtComma, all_rates, rate, rates, with_rate}
+use Rattle.cm_lab_line.specs.Rates.{IsSplitAtComma, all_rates, rate, rates, with_rate}
 
 -- a list in which nothing passes is not cut
 pub uncut : (p : ℕ → Bool) (xs : List ℕ) → position_or_len p xs ≡ length xs → slice_split p xs ≡ xs ∷ []
@@ -32,7 +32,7 @@ abbrev pub behind : List ℕ → Text → Result (List ℕ) Refusal
 behind known word = rates word >>= λ others. Ok (known ++ others)
 
 -- where a word is cut its first rate is read, and then the others
-pub cut_rates : (known : List ℕ) (word part after : Text) → IsCutAtComma word part after
+pub cut_rates : (known : List ℕ) (word part after : Text) → IsSplitAtComma word part after
     → behind known word ≡ (with_rate known part >>= λ more. behind more after)
 cut_rates known word part after is =
     ap (λ (parts : List Text). all_rates parts >>= λ others. Ok (known ++ others))
@@ -60,14 +60,14 @@ none_known word = by (rates word) where
   by (Err refusal) = refl
 
 -- the first rate that is read goes to those that are known
-pub one_known : (known more : List ℕ) (word part after : Text) → IsCutAtComma word part after
+pub one_known : (known more : List ℕ) (word part after : Text) → IsSplitAtComma word part after
     → with_rate known part ≡ Ok more → behind more after ≡ behind known word
 one_known known more word part after is e =
     sym (cut_rates known word part after is
     ∙ ap (λ (r : Result (List ℕ) Refusal). r >>= λ found. behind found after) e)
 
 -- a fault of the first rate is one of all
-pub fault_known : (known : List ℕ) (word part after : Text) (fault : CommandFault) → IsCutAtComma word part after
+pub fault_known : (known : List ℕ) (word part after : Text) (fault : CommandFault) → IsSplitAtComma word part after
     → Reports (with_rate known part) fault → Reports (behind known word) fault
 fault_known known word part after fault is (inl memory) = inl memory
 fault_known known word part after fault is (inr e) =

@@ -38,7 +38,7 @@ abbrev pub rate : Text → Result ℕ Refusal
 rate word = ok_or (hundredths_in word) (Wanted operand.Rate word)
 
 -- a word is cut at its first comma
-pub record IsCutAtComma (word part after : Text) : Type 0 where
+pub record IsSplitAtComma (word part after : Text) : Type 0 where
   pub there : position_or_len is_comma word < length word
   pub before : part ≡ before_first is_comma word
   pub behind : after ≡ after_first is_comma word

@@ -5,7 +5,7 @@ ghost use Rattle.std.specs.List.{position_or_len};
 ghost use Rattle.cm_bits.specs.Text.{is_comma};
 ghost use Rattle.cm_lab_line.specs.Refusals.{Reports};
 ghost use Rattle.cm_lab_line.specs.Operands.{digits_below};
-ghost use Rattle.cm_lab_line.specs.Rates.{IsCutAtComma, behind_point, fitting, hundredths_in, rate, rates};
+ghost use Rattle.cm_lab_line.specs.Rates.{IsSplitAtComma, behind_point, fitting, hundredths_in, rate, rates};
 ghost use Rattle.cm_lab_line.specs.Rates.{with_rate};
 
 use crate::fault::CommandFault;
@@ -29,7 +29,7 @@ pub(crate) fn read_rates(alloc: Global, word: &str) -> Result<Vec<u16>, CommandF
 /// What stands before the first comma and behind it, if there is one.
 fn cut_at_comma(word: &str) -> Option<(&str, &str)>
     ensures { MatchOption result (position_or_len is_comma word.now ≡ length word.now)
-        (λ parts. IsCutAtComma word.now parts.0.now parts.1.now) }
+        (λ parts. IsSplitAtComma word.now parts.0.now parts.1.now) }
 {
     word.split_once(',')
 }

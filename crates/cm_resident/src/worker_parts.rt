@@ -44,7 +44,7 @@ pub(crate) fn worker_parts<const N: usize, const CAP: usize>(
         (record { n = N; k = k; room = CAP; machine = machine.now.machine; acts = acts.now }))
         (2 ^ k) worker_parts.items) }
 {
-    let mut blocks = cut_up(alloc, machine, k, cycles, used)?;
+    let mut blocks = partition(alloc, machine, k, cycles, used)?;
     let Ends {
         mut sends,
         mut gets,
@@ -63,7 +63,7 @@ pub(crate) fn worker_parts<const N: usize, const CAP: usize>(
 }
 
 /// The blocks of a machine, with room in their logs for so many petit cycles.
-fn cut_up<const N: usize, const CAP: usize>(
+fn partition<const N: usize, const CAP: usize>(
     alloc: Global,
     machine: &Machine<N, CAP>,
     k: u8,

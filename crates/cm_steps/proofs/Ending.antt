@@ -17,7 +17,7 @@ use Rattle.cm_steps.specs.declared.fault.WeaveFault.{WeaveFault}
 use Rattle.cm_steps.specs.declared.fault.WeaveFault.TheVariants.{Read, Write, TooMuch, Memory, Unfinished}
 use Rattle.cm_steps.specs.Session.{world_answers, world_left}
 use Rattle.cm_steps.specs.Ends.{STEPS_LIMIT, processed_step_lines, closing, answer_text, finished_line, unfinished_line, is_finished}
-use Rattle.cm_steps.specs.Ends.{last_line, IsCutBy, EndsBy, EndsByForSome, EndsFinished, EndsFinishedForSome}
+use Rattle.cm_steps.specs.Ends.{last_line, IsWrittenInPart, EndsBy, EndsByForSome, EndsFinished, EndsFinishedForSome}
 use Rattle.cm_steps.specs.Hearing.{Hearing, processed, at_start, TextAborts, HasHeard, IsHeard, IsHeardForSome}
 use Rattle.cm_steps.proofs.Lines.{heard_first, heard_whole, closing_whole, told_on, lines_closed, lines_at_last}
 use Rattle.cm_steps.proofs.Pieces.{heard_piece, heard_so_far, so_far}
@@ -129,7 +129,7 @@ module _ (exchange : Exchange) (start : World) (held before : Option (List ℕ))
     -- that broke off
     pub cut_in_piece : (rest : List ℕ) (on : Option (List ℕ)) (fault : WeaveFault) → length (text ++ piece) ≤ STEPS_LIMIT
         → TextAborts at.answers sent holds on fault
-        → IsCutBy (answer_text exchange start ((text ++ piece) ++ rest)) held on fault
+        → IsWrittenInPart (answer_text exchange start ((text ++ piece) ++ rest)) held on fault
     cut_in_piece rest on fault within breaks =
         let begins = told_on exchange start ((text ++ piece) ++ rest) (ended_lines (text ++ piece))
         (heard_first (text ++ piece) rest within) in
@@ -139,7 +139,7 @@ module _ (exchange : Exchange) (start : World) (held before : Option (List ℕ))
         ∙ append_assoc mid.said at.answers begins.more) breaks
 
   cut_ends : (all : List ℕ) (rest on : Option (List ℕ)) (fault : WeaveFault)
-      → IsCutBy (answer_text exchange start all) held on fault
+      → IsWrittenInPart (answer_text exchange start all) held on fault
       → EndsBy exchange all rest start held on fault
   cut_ends all rest on (Write count) cut = cut
   cut_ends all rest on Memory cut = cut

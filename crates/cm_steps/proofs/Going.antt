@@ -7,7 +7,7 @@ use Rattle.std.proofs.KnownBytes.{Appends-trans}
 use Rattle.std.specs.Io.KnownBytes.{Appends}
 use Rattle.cm_steps.specs.declared.fault.WeaveFault.{WeaveFault}
 use Rattle.cm_steps.specs.declared.fault.WeaveFault.TheVariants.{Read, Write, TooMuch, Memory, Unfinished}
-use Rattle.cm_steps.specs.Ends.{IsCutBy}
+use Rattle.cm_steps.specs.Ends.{IsWrittenInPart}
 use Rattle.cm_steps.specs.Hearing.{TextAborts}
 
 front_of : (front rest : List ℕ) (count : ℕ) → count ≤ length front → take count (front ++ rest) ≡ take count front
@@ -19,7 +19,7 @@ all_of xs = grind (arith, common_steps)
 -- what breaks off behind a front that was written is cut
 pub cut_text : (whole gone text more : List ℕ) (held holds on : Option (List ℕ)) (sent : ℕ) (fault : WeaveFault)
     → Appends held holds gone → sent ≡ length gone → whole ≡ gone ++ (text ++ more)
-    → TextAborts text sent holds on fault → IsCutBy whole held on fault
+    → TextAborts text sent holds on fault → IsWrittenInPart whole held on fault
 cut_text whole gone text more held holds on sent (Write count) wrote long is cut =
     let at : count ≡ length gone + cut.part = cut.count_is ∙ ap (λ (k : ℕ). k + cut.part) long in
     let taken : take count whole ≡ gone ++ take cut.part text =

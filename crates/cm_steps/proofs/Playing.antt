@@ -18,7 +18,7 @@ use Rattle.cm_exchange.proofs.Counting.{steps_are_counted, orders_come_to_an_end
 use Rattle.cm_steps.specs.declared.fault.WeaveFault.{WeaveFault}
 use Rattle.cm_steps.specs.declared.fault.WeaveFault.TheVariants.{Memory}
 use Rattle.cm_steps.specs.Alone.{step_line, with_rest, by_itself, step_count, own_steps, own_text}
-use Rattle.cm_steps.specs.Ends.{finished_line, IsCutBy}
+use Rattle.cm_steps.specs.Ends.{finished_line, IsWrittenInPart}
 use Rattle.cm_weave.specs.Woven.{Woven, IsOnItsWay}
 use Rattle.cm_weave.proofs.Following.{exchange_is}
 use Rattle.cm_steps.specs.Hearing.{exchange_in, TextAborts, HasSentFront, HasPlayed}
@@ -183,7 +183,7 @@ module _ (exchange : Exchange) (is : HasItsKinds exchange) (start world : World)
 
     -- it breaks off
     pub plays_cut : (on : Option (List ℕ)) (fault : WeaveFault) → TextAborts (rest ++ step_line step) sent holds on fault
-        → IsCutBy (own_text exchange start) held on fault
+        → IsWrittenInPart (own_text exchange start) held on fault
     plays_cut on fault breaks =
         let others : List Step = by_itself exchange (mid.left - 1) (world_after exchange world step) in
         let tail : List ℕ = end_text (length (own_steps exchange start)) in
@@ -250,11 +250,11 @@ module _ (exchange : Exchange) (start world : World) (held holds : Option (List 
 
   -- it is cut
   pub plays_cut_at_end : (text : List ℕ) (on : Option (List ℕ)) (fault : WeaveFault) → text ≡ rest ++ end_text steps
-      → TextAborts text sent holds on fault → IsCutBy (own_text exchange start) held on fault
+      → TextAborts text sent holds on fault → IsWrittenInPart (own_text exchange start) held on fault
   plays_cut_at_end text on fault is breaks =
       cut_text (own_text exchange start) has.gone text [] held holds on sent fault has.written has.sent_is
       (whole ∙ ap (λ (xs : List ℕ). has.gone ++ xs) (sym is ∙ sym (append-nil text))) breaks
 
   -- there is no memory for the end
-  pub plays_without_end : IsCutBy (own_text exchange start) held holds Memory
+  pub plays_without_end : IsWrittenInPart (own_text exchange start) held holds Memory
   plays_without_end = plays_cut_at_end (rest ++ end_text steps) holds Memory refl (Appends-nil holds)

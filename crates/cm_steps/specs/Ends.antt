@@ -76,12 +76,12 @@ pub record IsAnsweredToEnd (exchange : Exchange) (text : List ℕ) (start : Worl
   pub written : Appends held holds (world_answers exchange start (lines_of text) ++ last)
 
 -- a text is written in part: it was cut by a write, or for want of memory
-abbrev pub IsCutBy : List ℕ → Option (List ℕ) → Option (List ℕ) → WeaveFault → Type 0
-IsCutBy text held holds (Write count) = IsShortWrite text held holds count
-IsCutBy text held holds Memory = IsPartWritten text held holds
-IsCutBy text held holds Read = ⊥
-IsCutBy text held holds TooMuch = ⊥
-IsCutBy text held holds Unfinished = ⊥
+abbrev pub IsWrittenInPart : List ℕ → Option (List ℕ) → Option (List ℕ) → WeaveFault → Type 0
+IsWrittenInPart text held holds (Write count) = IsShortWrite text held holds count
+IsWrittenInPart text held holds Memory = IsPartWritten text held holds
+IsWrittenInPart text held holds Read = ⊥
+IsWrittenInPart text held holds TooMuch = ⊥
+IsWrittenInPart text held holds Unfinished = ⊥
 
 -- how a session ends finished whose source has this text
 pub record EndsFinished (exchange : Exchange) (text : List ℕ) (start : World) (held holds : Option (List ℕ))
@@ -94,11 +94,11 @@ abbrev pub EndsBy : Exchange → List ℕ → Option (List ℕ) → World → Op
     → Type 0
 EndsBy exchange text rest start held holds Read = IsAnsweredSoFar exchange text rest start held holds
 EndsBy exchange text rest start held holds (Write count) =
-    IsCutBy (answer_text exchange start text) held holds (Write count)
+    IsWrittenInPart (answer_text exchange start text) held holds (Write count)
 EndsBy exchange text rest start held holds TooMuch =
     (STEPS_LIMIT < length text) × Appends held holds (world_answers exchange start (ended_lines (take STEPS_LIMIT text)))
 EndsBy exchange text rest start held holds Memory =
-    IsCutBy (answer_text exchange start text) held holds Memory
+    IsWrittenInPart (answer_text exchange start text) held holds Memory
 EndsBy exchange text rest start held holds Unfinished =
     (IsFinished exchange (world_left exchange start (lines_of text)) → ⊥)
     × IsAnsweredToEnd exchange text start unfinished_line held holds

@@ -8,7 +8,7 @@ ghost use Rattle.cm_exchange.specs.Steps.{is_possible, world_after};
 ghost use Rattle.cm_exchange.specs.Worlds.{IsFinished};
 ghost use Rattle.cm_session.specs.Answer.{line};
 ghost use Rattle.cm_steps.specs.Alone.{own_text, step_line};
-ghost use Rattle.cm_steps.specs.Ends.{finished_line, is_weave_write, IsCutBy};
+ghost use Rattle.cm_steps.specs.Ends.{finished_line, is_weave_write, IsWrittenInPart};
 ghost use Rattle.cm_steps.specs.Hearing.{exchange_in, TextAborts, HasSentFront, HasPlayed, IsOfRun};
 
 use crate::fault::WeaveFault;
@@ -42,7 +42,7 @@ pub fn weave_self<const N: usize, const CAP: usize, O: Sink>(
     ensures machine { IfOk result (λ done. done.machine ≡ run_of N CAP world.entry.machine world.entry.acts) }
     ensures ok { IsOk result → Appends (O.contents out.old) (O.contents out.new)
         (own_text (exchange_in N CAP world.entry) world.entry.world) }
-    ensures err { IfErr result (IsCutBy (own_text (exchange_in N CAP world.entry) world.entry.world)
+    ensures err { IfErr result (IsWrittenInPart (own_text (exchange_in N CAP world.entry) world.entry.world)
         (O.contents out.old) (O.contents out.new)) }
     ensures write { O.has_failed out.new ≡ is_weave_write result }
 {
@@ -68,7 +68,7 @@ fn tell_all<const N: usize, const CAP: usize, O: Sink>(
     ensures finished { OnOk result (IsFinished (exchange_in N CAP world.old) world.new.world) }
     ensures ok { OnOk result (Appends (O.contents out.old) (O.contents out.new)
         (own_text (exchange_in N CAP world.old) world.old.world)) }
-    ensures err { IfErr result (IsCutBy (own_text (exchange_in N CAP world.old) world.old.world)
+    ensures err { IfErr result (IsWrittenInPart (own_text (exchange_in N CAP world.old) world.old.world)
         (O.contents out.old) (O.contents out.new)) }
     ensures write { O.has_failed out.new ≡ is_weave_write result }
 {
@@ -99,7 +99,7 @@ fn play_on<const N: usize, const CAP: usize, O: Sink>(
     ensures ok { IfOk result (λ played. HasPlayed (exchange_in N CAP world.old) world.old.world world.new.world
         (O.contents out.old) (O.contents out.new) text.new.items played.steps played.sent) }
     ensures few { IfOk result (λ played. played.sent < 2 ^ 127) }
-    ensures err { IfErr result (IsCutBy (own_text (exchange_in N CAP world.old) world.old.world)
+    ensures err { IfErr result (IsWrittenInPart (own_text (exchange_in N CAP world.old) world.old.world)
         (O.contents out.old) (O.contents out.new)) }
     ensures write { O.has_failed out.new ≡ is_weave_write result }
 {

@@ -14,7 +14,7 @@ use Rattle.cm_weave.specs.Woven.{Woven}
 use Rattle.cm_steps.specs.declared.fault.WeaveFault.{WeaveFault}
 use Rattle.cm_steps.specs.declared.fault.WeaveFault.TheVariants as weave
 use Rattle.cm_steps.specs.Alone.{own_text}
-use Rattle.cm_steps.specs.Ends.{EndsBy, EndsByForSome, EndsFinished, EndsFinishedForSome, IsCutBy}
+use Rattle.cm_steps.specs.Ends.{EndsBy, EndsByForSome, EndsFinished, EndsFinishedForSome, IsWrittenInPart}
 use Rattle.cm_outside.specs.declared.program_fault.ProgramFault.{ProgramFault}
 use Rattle.cm_outside.specs.ProgramFault.{of_world}
 use Rattle.cm_outside.specs.InputFiles.{Reads}
@@ -72,6 +72,6 @@ hears_so reads exchange first file after out (Err fault) finished err heard read
 -- and one that went by itself
 pub tells_so : {M : Type 0} (exchange : Exchange) (first : World) (out : Outgoing) (r : Result M WeaveFault)
     → (IsOk r → Appends out.held out.holds (own_text exchange first))
-    → IfErr r (IsCutBy (own_text exchange first) out.held out.holds) → EndsByItself exchange first out (ended_of r)
+    → IfErr r (IsWrittenInPart (own_text exchange first) out.held out.holds) → EndsByItself exchange first out (ended_of r)
 tells_so exchange first out (Ok machine) whole err = whole refl
 tells_so exchange first out (Err fault) whole err = err

@@ -37,7 +37,7 @@ pub record IsAnswered (text : List ℕ) (held holds : Option (List ℕ)) : Type 
   pub written : Appends held holds answer
 
 -- only the first bytes of the answer were written
-pub record IsCutShort (text : List ℕ) (held holds : Option (List ℕ)) (count : ℕ) : Type 0 where
+pub record IsWrittenShort (text : List ℕ) (held holds : Option (List ℕ)) (count : ℕ) : Type 0 where
   pub within : length text ≤ CHIP_LIMIT
   pub answer : List ℕ
   pub is : answer_of text ≡ Ok answer
@@ -60,7 +60,7 @@ abbrev pub ChipSessionEnds : List ℕ → Option (List ℕ) → Option (List ℕ
 ChipSessionEnds text held holds (Ok done) = IsAnswered text held holds
 ChipSessionEnds text held holds (Err (Text fault)) = IsTextRefused text held holds fault
 ChipSessionEnds text held holds (Err Read) = Keeps held holds
-ChipSessionEnds text held holds (Err (Write count)) = IsCutShort text held holds count
+ChipSessionEnds text held holds (Err (Write count)) = IsWrittenShort text held holds count
 ChipSessionEnds text held holds (Err TooMuch) = IsTooLong text held holds
 ChipSessionEnds text held holds (Err Memory) = Keeps held holds
 

@@ -8,7 +8,7 @@ use Rattle.cm_weave.specs.Woven.{Woven}
 use Rattle.cm_steps.specs.declared.fault.WeaveFault.{WeaveFault}
 use Rattle.cm_steps.specs.declared.fault.WeaveFault.TheVariants as weave
 use Rattle.cm_steps.specs.Alone.{own_text}
-use Rattle.cm_steps.specs.Ends.{EndsBy, EndsByForSome, EndsFinished, EndsFinishedForSome, IsCutBy, is_weave_write}
+use Rattle.cm_steps.specs.Ends.{EndsBy, EndsByForSome, EndsFinished, EndsFinishedForSome, IsWrittenInPart, is_weave_write}
 use Rattle.cm_steps.specs.Hearing.{exchange_in}
 use Rattle.cm_outside.specs.declared.program_fault.ProgramFault.{ProgramFault}
 use Rattle.cm_outside.specs.ProgramFault.{of_weave}
@@ -43,7 +43,7 @@ EndsBySome exchange world out (Err fault) = EndsByForSome exchange world out.hel
 -- and so by itself
 abbrev pub EndsByItself : Exchange → World → Outgoing → Result (Unit {0}) WeaveFault → Type 0
 EndsByItself exchange world out (Ok done) = Appends out.held out.holds (own_text exchange world)
-EndsByItself exchange world out (Err fault) = IsCutBy (own_text exchange world) out.held out.holds fault
+EndsByItself exchange world out (Err fault) = IsWrittenInPart (own_text exchange world) out.held out.holds fault
 
 -- a file of steps is heard, and the exchange ends so
 pub record HearsSteps {F : Type 0} (reads : Reads F) (exchange : Exchange) (world : World) (file : F) (out : Outgoing)

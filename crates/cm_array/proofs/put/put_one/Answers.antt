@@ -4,7 +4,7 @@ use Rattle.cm_model.specs.declared.message.Event.{Event}
 use Rattle.std.specs.List.{All}
 use Rattle.cm_model.specs.Array.{Chips}
 use Rattle.cm_model.specs.Wiring.{Routing, IsWireOf}
-use Rattle.cm_blocks.specs.Parts.{cut}
+use Rattle.cm_blocks.specs.Parts.{sliced}
 use Rattle.cm_router.specs.Logs.{Log}
 use Rattle.cm_petit.specs.Routers.{events_of}
 use Rattle.cm_array.specs.Cuts.{PartView, IsLaid}
@@ -26,7 +26,7 @@ returns-clause-buffers c =
     let all = c.chips-count.ensures.value ∙ sym c.piece.invariant.buffer_count in
     subst (λ (buffers : List (List Message)).
     IsLaid c.args.at buffers c.args.parts.now.crossing.buffers c.lay_buffers.new.to.buffers)
-    (ap (cut 0 c.chips-count.result) c.gather.ensures.value ∙ cut_all c.chips-count.result from.crossing.buffers all
+    (ap (sliced 0 c.chips-count.result) c.gather.ensures.value ∙ cut_all c.chips-count.result from.crossing.buffers all
     ∙ ap (λ (k : PartView). k.part.buffers) c.piece.view_is) c.lay_buffers.ensures.value
 
 pub returns-clause-logs : goal.returns-clause-logs

@@ -2,18 +2,18 @@ use Rattle.std.proofs.Common.{ℕ, ◌+◌, ◌*◌, List, length, ap, sym, ◌�
 use Rattle.std.proofs.lemmas.List.{length-map}
 use Rattle.std.specs.List.{slice_range}
 use Rattle.std.specs.Vec.{with_items}
-use Rattle.cm_blocks.specs.Parts.{cut, part}
+use Rattle.cm_blocks.specs.Parts.{sliced, part}
 use Rattle.cm_router.specs.Logs.{Log, log_room, log_rooms_of, HaveLogRoom}
 use Rattle.cm_model.specs.declared.message.Event.{Event}
 use Rattle.cm_petit.specs.Routers.{events_of}
 use Rattle.cm_array.specs.Rows.{dealt}
-use Rattle.cm_array.proofs.Dealing.{dealt-cut}
+use Rattle.cm_array.proofs.Dealing.{dealt-sliced}
 use Rattle.cm_array.proofs.Machines.{length-logs, AreUnderWay-parts}
 use Rattle.cm_array.specs.declared.chip_state.ChipState.{ChipState}
 use Rattle.cm_array.specs.Parts.{MachineView}
 use Rattle.cm_array.proofs.Lists.{items-lent}
 use Rattle.cm_array.proofs.Rooms.{room_that_can_be}
-use Rattle.cm_array.proofs.Cutting.{within_fifteen, few_buffers, events_of-cut, AreCut, IsKeptPart-cut, part_of-cut}
+use Rattle.cm_array.proofs.Cutting.{within_fifteen, few_buffers, events_of-sliced, AreCut, IsKeptPart-cut, part_of-cut}
 use Rattle.cm_array.proofs.machine.Machine.lay_part.Goals as goal
 use Rattle.cm_array.proofs.machine.Machine.lay_part.Given.{Over}
 use Rattle.cm_array.proofs.machine.Machine.lay_part.Goals.{In_ok-routing}
@@ -61,17 +61,17 @@ are_cut g c =
     record {
       run = c.lay_chips.ensures.value;
       buffers = c.lay_all_buffers.ensures.value
-          ∙ ap (λ (k : ℕ). cut k chips old.crossing.buffers) c.from-at.ensures
-          ∙ ap (λ (k : ℕ). cut c.args.first k old.crossing.buffers) c.from-chips.ensures;
+          ∙ ap (λ (k : ℕ). sliced k chips old.crossing.buffers) c.from-at.ensures
+          ∙ ap (λ (k : ℕ). sliced c.args.first k old.crossing.buffers) c.from-chips.ensures;
       logs = ap events_of lent ∙ c.reserve.ensures.events ∙ ap events_of c.deref_mut-2.ensures.value ∙ ap events_of laid
           ∙ c.in_ok-lay_told.ensures.value
           ∙ (λ i. dealt c.args.first (events_of (slice_range (c.deref.ensures.value i) at (at + chips)))
           (c.deref-2.ensures.value i))
           ∙ ap (λ (logs : List (List Event)). dealt c.args.first logs old.row.items)
-          (events_of-cut at chips old.logs.items
-          ∙ ap (λ (k : ℕ). cut k chips (events_of old.logs.items)) c.from-at.ensures
-          ∙ ap (λ (k : ℕ). cut c.args.first k (events_of old.logs.items)) c.from-chips.ensures)
-          ∙ dealt-cut c.args.first c.args.count (events_of old.logs.items) old.row.items (omega (
+          (events_of-sliced at chips old.logs.items
+          ∙ ap (λ (k : ℕ). sliced k chips (events_of old.logs.items)) c.from-at.ensures
+          ∙ ap (λ (k : ℕ). sliced c.args.first k (events_of old.logs.items)) c.from-chips.ensures)
+          ∙ dealt-sliced c.args.first c.args.count (events_of old.logs.items) old.row.items (omega (
             arith,
             c.requires.there,
             length-map old.logs.items (λ (log : Log). log.items),

@@ -1,5 +1,5 @@
 use Rattle.cm_resident.proofs.Fitting.{just_cut}
-use Rattle.cm_resident.proofs.worker_parts.cut_up.Goals as goal
+use Rattle.cm_resident.proofs.worker_parts.partition.Goals as goal
 
 pub returns-in-Ok : goal.returns-in-Ok
 returns-in-Ok g c = record {
