@@ -29,9 +29,9 @@ wants_memory false fault is same = absurd (let wrong : false ≡ true = is in cc
 -- it ended well
 pub ended_well : (start : SizedMachine) (acts : List Act) (streams : Streams) (keeps : Bool) (after : Machine)
     (kept : Result (Option (List ℕ)) ProgramFault)
-    → IfSome streams.lines (λ lines. Ends start.n start.cap acts lines streams.rest start.machine streams.held after
-    streams.holds (Ok tt))
-    → EndsForSome start.n start.cap acts streams.lines streams.rest start.machine streams.held after streams.holds (Ok tt)
+    → IfSome streams.lines (λ lines. Ends start.n start.cap acts lines streams.rest start.machine streams.out_before after
+    streams.out_after (Ok tt))
+    → EndsForSome start.n start.cap acts streams.lines streams.rest start.machine streams.out_before after streams.out_after (Ok tt)
     → ((streams.read_failed ≡ true) ↔ IsErrOf {T = Unit {0}} {E = SessionFault} (Ok tt) session.Read)
     → streams.write_failed ≡ false → KeepsImage start.n start.cap after keeps kept
     → IsSession start acts streams keeps kept
@@ -90,9 +90,9 @@ same_write failed session.NoThread is = (λ f. absurd (cc), λ e. absurd (cc))
 -- it broke off, and this is told
 pub broken_off : (start : SizedMachine) (acts : List Act) (streams : Streams) (keeps : Bool) (after : Machine)
     (fault : SessionFault) (told : ProgramFault) → told ≡ of_session fault
-    → IfSome streams.lines (λ lines. Ends start.n start.cap acts lines streams.rest start.machine streams.held after
-    streams.holds (Err fault))
-    → EndsForSome start.n start.cap acts streams.lines streams.rest start.machine streams.held after streams.holds
+    → IfSome streams.lines (λ lines. Ends start.n start.cap acts lines streams.rest start.machine streams.out_before after
+    streams.out_after (Err fault))
+    → EndsForSome start.n start.cap acts streams.lines streams.rest start.machine streams.out_before after streams.out_after
     (Err fault)
     → ((streams.read_failed ≡ true) ↔ IsErrOf {T = Unit {0}} (Err fault) session.Read)
     → streams.write_failed ≡ is_write (Err fault) → IsSession start acts streams keeps (Err told)

@@ -13,9 +13,9 @@ pub record Goes (from to : SizedMachine) (acts : List Act) (streams : Streams) (
     : Type 0 where
   pub n : to.n ≡ from.n
   pub cap : to.cap ≡ from.cap
-  pub ends : IfSome streams.lines (λ lines. Ends from.n from.cap acts lines streams.rest from.machine streams.held
-      to.machine streams.holds result)
-  pub heard : EndsForSome from.n from.cap acts streams.lines streams.rest from.machine streams.held to.machine
-      streams.holds result
+  pub ends : IfSome streams.lines (λ lines. Ends from.n from.cap acts lines streams.rest from.machine streams.out_before
+      to.machine streams.out_after result)
+  pub heard : EndsForSome from.n from.cap acts streams.lines streams.rest from.machine streams.out_before to.machine
+      streams.out_after result
   pub read : (streams.read_failed ≡ true) ↔ IsErrOf result session.Read
   pub write : streams.write_failed ≡ is_write result

@@ -17,7 +17,7 @@ abbrev pub IsLineTrace : {F P : Type 0} → Reads F → Line → Streams → Res
 IsLineTrace reads line.Chip streams result trace = IsChipTrace streams result trace
 IsLineTrace reads (line.List program) streams result trace =
     IsUnread streams
-    × IsListTrace reads (string_bytes program) streams.held streams.holds streams.write_failed result trace
+    × IsListTrace reads (string_bytes program) streams.out_before streams.out_after streams.write_failed result trace
 IsLineTrace reads (line.Fresh n cap file) streams result trace =
     IsUntouched streams × IsFreshTrace n cap (string_bytes file) result trace
 IsLineTrace reads (line.Run image program split workers out) streams result trace =
@@ -32,4 +32,4 @@ IsLineTrace reads (line.Weave image program steps split out) streams result trac
     IsUnread streams
     × IsWeaveTrace reads
     (record { image = image; program = program; steps = steps; split = split; out = out })
-    (outgoing_of streams.held streams.holds streams.write_failed) result trace
+    (outgoing_of streams.out_before streams.out_after streams.write_failed) result trace

@@ -67,15 +67,15 @@ IsWordsTrace reads streams result trace =
 -- what standard error takes, and the status, where the program ends so: nothing and 0 without a fault; else the
 -- fault's line and its status, and 4 where that line could not be written
 abbrev pub ReportsFault : Result (Unit {0}) ProgramFault → Option (List ℕ) → Option (List ℕ) → Bool → ℕ → Type 0
-ReportsFault (Ok done) held holds failed status = (holds ≡ held) × (failed ≡ false) × (status ≡ 0)
-ReportsFault (Err fault) held holds false status =
-    Appends held holds (report_line (reported_number fault) (fault_line fault)) × (status ≡ status_of (reported_number fault))
-ReportsFault (Err fault) held holds true status =
-    HasFront held holds (report_line (reported_number fault) (fault_line fault)) × (status ≡ 4)
+ReportsFault (Ok done) out_before out_after failed status = (out_after ≡ out_before) × (failed ≡ false) × (status ≡ 0)
+ReportsFault (Err fault) out_before out_after false status =
+    Appends out_before out_after (report_line (reported_number fault) (fault_line fault)) × (status ≡ status_of (reported_number fault))
+ReportsFault (Err fault) out_before out_after true status =
+    HasFront out_before out_after (report_line (reported_number fault) (fault_line fault)) × (status ≡ 4)
 
 -- the whole program: what it does by its words, and what it tells
-pub record Performs {F P : Type 0} (reads : Reads F) (streams : Streams) (held holds : Option (List ℕ))
+pub record Performs {F P : Type 0} (reads : Reads F) (streams : Streams) (out_before out_after : Option (List ℕ))
     (failed : Bool) (status : ℕ) (trace : List (IoEvent F P)) : Type 0 where
   pub result : Result (Unit {0}) ProgramFault
   pub does : IsWordsTrace reads streams result trace
-  pub tells : ReportsFault result held holds failed status
+  pub tells : ReportsFault result out_before out_after failed status

@@ -12,21 +12,21 @@ use Rattle.cm_outside.specs.ProgramFault.{of_session}
 use Rattle.cm_sizes.specs.Sizes.{SizedMachine}
 
 -- all commands were answered, and this image is kept of the machine that they left
-pub record HasLeft (start : SizedMachine) (acts : List Act) (lines : List ℕ) (rest held holds : Option (List ℕ))
+pub record HasLeft (start : SizedMachine) (acts : List Act) (lines : List ℕ) (rest out_before out_after : Option (List ℕ))
     (keeps : Bool) (image : Option (List ℕ)) : Type 0 where
   pub after : Machine
-  pub ends : Ends start.n start.cap acts lines rest start.machine held after holds (Ok tt)
+  pub ends : Ends start.n start.cap acts lines rest start.machine out_before after out_after (Ok tt)
   pub kept : IsImageKept start.n start.cap after keeps image
 
 -- the commands gave some text to their end, all of whose lines were answered, and this image is kept of the machine
 -- that they left: this can be said of commands that do not tell their bytes
-pub record HasLeftForSome (start : SizedMachine) (acts : List Act) (source rest held holds : Option (List ℕ))
+pub record HasLeftForSome (start : SizedMachine) (acts : List Act) (source rest out_before out_after : Option (List ℕ))
     (keeps : Bool)
     (image : Option (List ℕ)) : Type 0 where
   pub lines : List ℕ
   pub read : Consumes source rest lines
   pub end : IsAtEnd rest
-  pub run : HasLeft start acts lines (Some []) held holds keeps image
+  pub run : HasLeft start acts lines (Some []) out_before out_after keeps image
 
 -- a session that ended so ends the program with this fault: its own, or want of memory for an image that is to be kept
 abbrev pub IsReportedAs : Bool → Result (Unit {0}) SessionFault → ProgramFault → Type 0
@@ -35,18 +35,18 @@ IsReportedAs false (Ok done) fault = ⊥
 IsReportedAs keeps (Err own) fault = fault ≡ of_session own
 
 -- the session broke off
-pub record HasAbortedSession (start : SizedMachine) (acts : List Act) (lines : List ℕ) (rest held holds : Option (List ℕ))
+pub record HasAbortedSession (start : SizedMachine) (acts : List Act) (lines : List ℕ) (rest out_before out_after : Option (List ℕ))
     (keeps : Bool) (fault : ProgramFault) : Type 0 where
   pub after : Machine
   pub result : Result (Unit {0}) SessionFault
-  pub ends : Ends start.n start.cap acts lines rest start.machine held after holds result
+  pub ends : Ends start.n start.cap acts lines rest start.machine out_before after out_after result
   pub told : IsReportedAs keeps result fault
 
 -- the commands gave some text, and it broke off so as of that text and nothing more; if it is the image that memory was
 -- wanting for, the text is all that they had
-pub record HasAbortedForSome (start : SizedMachine) (acts : List Act) (source rest held holds : Option (List ℕ))
+pub record HasAbortedForSome (start : SizedMachine) (acts : List Act) (source rest out_before out_after : Option (List ℕ))
     (keeps : Bool) (fault : ProgramFault) : Type 0 where
   pub lines : List ℕ
   pub read : Consumes source rest lines
-  pub run : HasAbortedSession start acts lines (Some []) held holds keeps fault
+  pub run : HasAbortedSession start acts lines (Some []) out_before out_after keeps fault
   pub end : OnOk run.result (IsAtEnd rest)

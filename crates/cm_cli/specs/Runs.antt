@@ -18,16 +18,16 @@ use Rattle.cm_cli.specs.Files.{BeginsFiles, RefusesFiles}
 -- how a session ends that begins here, with these acts
 abbrev pub EndsSession : SizedMachine → List Act → Streams → Bool → Result (Option (List ℕ)) ProgramFault → Type 0
 EndsSession start acts streams keeps (Ok kept) =
-    IfSome streams.lines (λ lines. HasLeft start acts lines streams.rest streams.held streams.holds keeps kept)
+    IfSome streams.lines (λ lines. HasLeft start acts lines streams.rest streams.out_before streams.out_after keeps kept)
 EndsSession start acts streams keeps (Err fault) =
-    IfSome streams.lines (λ lines. HasAbortedSession start acts lines streams.rest streams.held streams.holds keeps fault)
+    IfSome streams.lines (λ lines. HasAbortedSession start acts lines streams.rest streams.out_before streams.out_after keeps fault)
 
 -- the same of some text, whatever the commands tell of theirs
 abbrev pub HearsSession : SizedMachine → List Act → Streams → Bool → Result (Option (List ℕ)) ProgramFault → Type 0
 HearsSession start acts streams keeps (Ok kept) =
-    HasLeftForSome start acts streams.lines streams.rest streams.held streams.holds keeps kept
+    HasLeftForSome start acts streams.lines streams.rest streams.out_before streams.out_after keeps kept
 HearsSession start acts streams keeps (Err fault) =
-    HasAbortedForSome start acts streams.lines streams.rest streams.held streams.holds keeps fault
+    HasAbortedForSome start acts streams.lines streams.rest streams.out_before streams.out_after keeps fault
 
 -- a session that begins here, from standard input to standard output
 pub record IsSession (start : SizedMachine) (acts : List Act) (streams : Streams) (keeps : Bool)
@@ -44,7 +44,7 @@ pub record RunsFrom {F P : Type 0} (start : SizedMachine) (acts : List Act) (Wan
   pub ran : Result (Option (List ℕ)) ProgramFault
   pub session : IsSession start acts streams (is_some part) ran
   pub threads : IsErrOf ran NoThread → WantsThread
-  pub closes : FinishesOutput part streams.holds ran result trace
+  pub closes : FinishesOutput part streams.out_after ran result trace
 
 -- no session begins
 pub record BeginsNot {F P : Type 0} (reads : Reads F) (line : RunLine) (streams : Streams)
@@ -68,7 +68,7 @@ pub record IsFilesTrace {F P : Type 0} (reads : Reads F) (line : RunLine) (strea
   pub ran : Result (Option (List ℕ)) ProgramFault
   pub session : IsSession start program.acts streams (is_some part) ran
   pub threads : line.sharing.workers ≡ 1 → ¬ IsErrOf ran NoThread
-  pub closes : FinishesOutput part streams.holds ran result second
+  pub closes : FinishesOutput part streams.out_after ran result second
 
 -- what `cm1 run` does
 abbrev pub IsRunTrace : {F P : Type 0} → Reads F → RunLine → Streams → Result (Unit {0}) ProgramFault → List (IoEvent F P)

@@ -101,14 +101,14 @@ stopped_behind n cap first lines machine on count within wrote is = record {
 
 -- the last is, or is on the way
 stopped_in : (n cap : ℕ) (first : Setting) (done : List (List ℕ)) (line : List ℕ) (sent : ℕ) (kept : List ℕ)
-    (holds on : Option (List ℕ)) (machine : Machine) (count : ℕ)
-    → Appends first.out (append_known holds kept) (after_all n cap first done).answer
+    (out_after on : Option (List ℕ)) (machine : Machine) (count : ℕ)
+    → Appends first.out (append_known out_after kept) (after_all n cap first done).answer
     → sent + length kept ≡ length (after_all n cap first done).answer
-    → IsShortWriteAfter sent (kept ++ (next n cap first done line).answer) holds on count
+    → IsShortWriteAfter sent (kept ++ (next n cap first done line).answer) out_after on count
     → (machine ≡ (next n cap first done line).session.machine)
     ⊎ IsInFlight n cap first.acts (after_all n cap first done).session (next n cap first done line).session machine
     → IsStopped n cap first.acts first.machine first.out (done ++ line ∷ []) machine on count
-stopped_in n cap first done line sent kept holds on machine count wrote long cut came = by came where
+stopped_in n cap first done line sent kept out_after on machine count wrote long cut came = by came where
   front : List ℕ
   front = (after_all n cap first done).answer
 
@@ -135,7 +135,7 @@ stopped_in n cap first done line sent kept holds on machine count wrote long cut
       (ap (λ (k : ℕ). take k (front ++ (one.answer ++ []))) (sym cut.count_is)
       ∙ ap (λ (xs : List ℕ). take count (front ++ xs)) (append-nil one.answer)
       ∙ ap (λ (a : Answered). take count a.answer) (sym whole))
-      (front_written first.out holds on kept front one.answer [] sent cut.part wrote long cut.within cut.written)
+      (front_written first.out out_after on kept front one.answer [] sent cut.part wrote long cut.within cut.written)
 
   by : (machine ≡ one.session.machine)
       ⊎ IsInFlight n cap first.acts (after_all n cap first done).session one.session machine
@@ -152,16 +152,16 @@ stopped_in n cap first done line sent kept holds on machine count wrote long cut
     machine_is = way;
   }
 
-given_up_in : (n cap : ℕ) (first : Setting) (done : List (List ℕ)) (line kept : List ℕ) (holds on : Option (List ℕ))
-    (machine : Machine) → Appends first.out (append_known holds kept) (after_all n cap first done).answer
-    → Appends holds on kept
+given_up_in : (n cap : ℕ) (first : Setting) (done : List (List ℕ)) (line kept : List ℕ) (out_after on : Option (List ℕ))
+    (machine : Machine) → Appends first.out (append_known out_after kept) (after_all n cap first done).answer
+    → Appends out_after on kept
     → IsInFlight n cap first.acts (after_all n cap first done).session (next n cap first done line).session machine
     → IsAborted n cap first.acts first.machine first.out (done ++ line ∷ []) machine on
-given_up_in n cap first done line kept holds on machine wrote rest way = record {
+given_up_in n cap first done line kept out_after on machine wrote rest way = record {
   done = done;
   undone = line ∷ [];
   lines_are = refl;
-  written = all_written first.out holds on kept (after_all n cap first done).answer wrote rest;
+  written = all_written first.out out_after on kept (after_all n cap first done).answer wrote rest;
   machine_is = way;
 }
 

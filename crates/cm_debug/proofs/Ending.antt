@@ -34,14 +34,14 @@ all_told {n} {cap} {first} {taken} {a} none told' = record {
 
 -- what breaks off among the lines that are heard is an end
 off_ends : (n cap : ℕ) (first : Setting) (text : List ℕ) (rest : Option (List ℕ)) (machine : Machine)
-    (holds : Option (List ℕ)) (fault : SessionFault)
-    → AbortsAmong n cap first (processed_lines text) machine holds fault
-    → Ends n cap first.acts text rest first.machine first.out machine holds (Err fault)
-off_ends n cap first text rest machine holds (Write count) off = off
-off_ends n cap first text rest machine holds Memory off = off
-off_ends n cap first text rest machine holds NoThread off = off
-off_ends n cap first text rest machine holds Read off = absurd off
-off_ends n cap first text rest machine holds TooMuch off = absurd off
+    (out_after : Option (List ℕ)) (fault : SessionFault)
+    → AbortsAmong n cap first (processed_lines text) machine out_after fault
+    → Ends n cap first.acts text rest first.machine first.out machine out_after (Err fault)
+off_ends n cap first text rest machine out_after (Write count) off = off
+off_ends n cap first text rest machine out_after Memory off = off
+off_ends n cap first text rest machine out_after NoThread off = off
+off_ends n cap first text rest machine out_after Read off = absurd off
+off_ends n cap first text rest machine out_after TooMuch off = absurd off
 
 not_read : (n cap : ℕ) (first : Setting) (lines : List (List ℕ)) (now : Talk) (fault : SessionFault)
     → IsBroken n cap first lines now fault → IsErrOf {T = Unit {0}} (Err fault) Read → ⊥

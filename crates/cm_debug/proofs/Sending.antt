@@ -25,23 +25,23 @@ take_past front rest part =
     take-add (length front) part (front ++ rest) ∙ (λ i. first i ++ take part (second i))
 
 -- nothing is gathered
-pub with_none : (holds : Option (List ℕ)) (kept : List ℕ) → kept ≡ [] → append_known holds kept ≡ holds
+pub with_none : (out_after : Option (List ℕ)) (kept : List ℕ) → kept ≡ [] → append_known out_after kept ≡ out_after
 with_none None kept none = refl
 with_none (Some xs) kept none = ap Some (ap (λ (ys : List ℕ). xs ++ ys) none ∙ append-nil xs)
 
 -- what was gathered is written
-pub as_gathered : (holds on : Option (List ℕ)) (kept : List ℕ) → Appends holds on kept
-    → Appends (append_known holds kept) on []
+pub as_gathered : (out_after on : Option (List ℕ)) (kept : List ℕ) → Appends out_after on kept
+    → Appends (append_known out_after kept) on []
 as_gathered None on kept wrote = tt
 as_gathered (Some xs) None kept wrote = absurd wrote
 as_gathered (Some xs) (Some ys) kept wrote = wrote ∙ sym (append-nil (xs ++ kept))
 
 -- the front of the answers that went out, where the rest was gathered
-pub front_written : (held holds on : Option (List ℕ)) (kept first more rest : List ℕ) (sent part : ℕ)
-    → Appends held (append_known holds kept) first → sent + length kept ≡ length first
-    → part < length (kept ++ more) → Appends holds on (take part (kept ++ more))
-    → Appends held on (take (sent + part) (first ++ (more ++ rest)))
-front_written None holds on kept first more rest sent part wrote long within cut = tt
+pub front_written : (out_before out_after on : Option (List ℕ)) (kept first more rest : List ℕ) (sent part : ℕ)
+    → Appends out_before (append_known out_after kept) first → sent + length kept ≡ length first
+    → part < length (kept ++ more) → Appends out_after on (take part (kept ++ more))
+    → Appends out_before on (take (sent + part) (first ++ (more ++ rest)))
+front_written None out_after on kept first more rest sent part wrote long within cut = tt
 front_written (Some h) None on kept first more rest sent part wrote long within cut = absurd wrote
 front_written (Some h) (Some c) None kept first more rest sent part wrote long within cut = absurd cut
 front_written (Some h) (Some c) (Some o) kept first more rest sent part wrote long within cut =
@@ -58,23 +58,23 @@ front_written (Some h) (Some c) (Some o) kept first more rest sent part wrote lo
     ∙ take_past h (first ++ more) (sent + part) ∙ ap (λ (xs : List ℕ). h ++ xs) (sym front)
 
 -- all of them, where all that was gathered went out
-pub all_written : (held holds on : Option (List ℕ)) (kept first : List ℕ)
-    → Appends held (append_known holds kept) first → Appends holds on kept → Appends held on first
-all_written None holds on kept first wrote rest = tt
+pub all_written : (out_before out_after on : Option (List ℕ)) (kept first : List ℕ)
+    → Appends out_before (append_known out_after kept) first → Appends out_after on kept → Appends out_before on first
+all_written None out_after on kept first wrote rest = tt
 all_written (Some h) None on kept first wrote rest = absurd wrote
 all_written (Some h) (Some c) None kept first wrote rest = absurd rest
 all_written (Some h) (Some c) (Some o) kept first wrote rest = rest ∙ wrote
 
 -- what was gathered went out, and then a front of more
-pub cut_later : (held holds on : Option (List ℕ)) (kept gone more text : List ℕ) (sent before now part : ℕ)
-    → gone ≡ kept → text ≡ more → before ≡ sent → Appends held holds gone → now ≡ before + length gone
-    → part < length text → Appends holds on (take part text)
-    → IsShortWriteAfter sent (kept ++ more) held on (now + part)
-cut_later held holds on kept gone more text sent before now part same alike kept' wrote count within cut = record {
+pub cut_later : (out_before out_after on : Option (List ℕ)) (kept gone more text : List ℕ) (sent before now part : ℕ)
+    → gone ≡ kept → text ≡ more → before ≡ sent → Appends out_before out_after gone → now ≡ before + length gone
+    → part < length text → Appends out_after on (take part text)
+    → IsShortWriteAfter sent (kept ++ more) out_before on (now + part)
+cut_later out_before out_after on kept gone more text sent before now part same alike kept' wrote count within cut = record {
   part = length kept + part;
   count_is = omega (arith, count, kept', ap length same);
   within = omega (arith, within, ap length alike, length-append kept more);
-  written = subst (Appends held on)
+  written = subst (Appends out_before on)
       ((λ i. same i ++ take part (alike i)) ∙ sym (take_past kept more part))
-      (Appends-trans held holds on _ _ wrote cut);
+      (Appends-trans out_before out_after on _ _ wrote cut);
 }

@@ -166,11 +166,11 @@ stopped_after {n} {cap} {a} {b} {c} {bytes} {fault} here there =
     subst (λ (xs : List ℕ). HasStopped n cap a xs c fault) (append-nil bytes) (stopped_on here there)
 
 -- all that was gathered is written
-pub sent_on : (holds on : Option (List ℕ)) (kept now : List ℕ) → Appends holds on kept → now ≡ []
-    → Appends (append_known holds kept) (append_known on now) []
-sent_on holds on kept now wrote none =
-    subst (λ (known : Option (List ℕ)). Appends (append_known holds kept) known []) (sym (with_none on now none))
-    (as_gathered holds on kept wrote)
+pub sent_on : (out_after on : Option (List ℕ)) (kept now : List ℕ) → Appends out_after on kept → now ≡ []
+    → Appends (append_known out_after kept) (append_known on now) []
+sent_on out_after on kept now wrote none =
+    subst (λ (known : Option (List ℕ)). Appends (append_known out_after kept) known []) (sym (with_none on now none))
+    (as_gathered out_after on kept wrote)
 
 -- ---- a line that ends
 

@@ -45,14 +45,14 @@ pub record HasAnswered (one : Answered) (before after : Talk) : Type 0 where
 -- machine is that after the line, or on the way to it; else what was gathered is written, nothing of the answer, and the
 -- machine is on the way
 abbrev pub AbortsIn : ℕ → ℕ → Answered → Talk → Machine → Option (List ℕ) → SessionFault → Type 0
-AbortsIn n cap one before machine holds (Write count) =
-    IsShortWriteAfter before.sent (before.kept ++ one.answer) before.out holds count
+AbortsIn n cap one before machine out_after (Write count) =
+    IsShortWriteAfter before.sent (before.kept ++ one.answer) before.out out_after count
     × ((machine ≡ one.session.machine) ⊎ IsInFlight n cap before.acts before.session one.session machine)
-AbortsIn n cap one before machine holds Memory =
-    Appends before.out holds before.kept × IsInFlight n cap before.acts before.session one.session machine
-AbortsIn n cap one before machine holds NoThread =
-    Appends before.out holds before.kept × IsInFlight n cap before.acts before.session one.session machine
-AbortsIn n cap one before machine holds _ = ⊥
+AbortsIn n cap one before machine out_after Memory =
+    Appends before.out out_after before.kept × IsInFlight n cap before.acts before.session one.session machine
+AbortsIn n cap one before machine out_after NoThread =
+    Appends before.out out_after before.kept × IsInFlight n cap before.acts before.session one.session machine
+AbortsIn n cap one before machine out_after _ = ⊥
 
 -- it has broken off
 pub record HasAborted (n cap : ℕ) (one : Answered) (before after : Talk) (fault : SessionFault) : Type 0 where

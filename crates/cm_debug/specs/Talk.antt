@@ -73,13 +73,13 @@ pub record AreProcessed (n cap : ℕ) (first : Setting) (taken : List ℕ) (now 
 
 -- how it breaks off among lines
 abbrev pub AbortsAmong : ℕ → ℕ → Setting → List (List ℕ) → Machine → Option (List ℕ) → SessionFault → Type 0
-AbortsAmong n cap first lines machine holds (Write count) =
-    IsStopped n cap first.acts first.machine first.out lines machine holds count
-AbortsAmong n cap first lines machine holds Memory =
-    IsAborted n cap first.acts first.machine first.out lines machine holds
-AbortsAmong n cap first lines machine holds NoThread =
-    IsAborted n cap first.acts first.machine first.out lines machine holds
-AbortsAmong n cap first lines machine holds _ = ⊥
+AbortsAmong n cap first lines machine out_after (Write count) =
+    IsStopped n cap first.acts first.machine first.out lines machine out_after count
+AbortsAmong n cap first lines machine out_after Memory =
+    IsAborted n cap first.acts first.machine first.out lines machine out_after
+AbortsAmong n cap first lines machine out_after NoThread =
+    IsAborted n cap first.acts first.machine first.out lines machine out_after
+AbortsAmong n cap first lines machine out_after _ = ⊥
 
 -- it has broken off among these lines, and the runner lacked a thread if that is the fault
 pub record IsBroken (n cap : ℕ) (first : Setting) (lines : List (List ℕ)) (now : Talk) (fault : SessionFault)

@@ -65,36 +65,36 @@ unended_rest heard rest place len is above within free =
 -- ---- in the midst
 
 -- a line breaks off
-pub line_ends : (n cap : ℕ) (start : Machine) (held before after : Option (List ℕ)) (heard given rest line : List ℕ)
-    (place len : ℕ) (done : List (List ℕ)) (front : Front) (holds on : Option (List ℕ)) (sent : ℕ) (kept : List ℕ)
+pub line_ends : (n cap : ℕ) (start : Machine) (out_before before after : Option (List ℕ)) (heard given rest line : List ℕ)
+    (place len : ℕ) (done : List (List ℕ)) (front : Front) (out_after on : Option (List ℕ)) (sent : ℕ) (kept : List ℕ)
     (machine : Machine) (fault : SessionFault) → rest ≡ take (length heard - place) (drop place heard)
     → line ≡ take len rest → len < length rest → get_or rest len 0 ≡ 10 → IsUnended line → AreLinesOf given done
-    → Consumes before after (given ++ drop place heard) → IsTold n cap start held done front holds sent kept
-    → LineAborts n cap front line sent kept holds machine on fault → Ends n cap before after start held machine on (Err fault)
-line_ends n cap start held before after heard given rest line place len done front holds on sent kept machine fault is
+    → Consumes before after (given ++ drop place heard) → IsTold n cap start out_before done front out_after sent kept
+    → LineAborts n cap front line sent kept out_after machine on fault → Ends n cap before after start out_before machine on (Err fault)
+line_ends n cap start out_before before after heard given rest line place len done front out_after on sent kept machine fault is
     part inside ends free lines consumed told' breaks = record {
       taken = given ++ drop place heard;
       consumed = consumed;
-      over = line_stops n cap start held (given ++ drop place heard) done (lines_of (drop (place + (len + 1)) heard)) front
-          holds on sent kept line machine fault
+      over = line_stops n cap start out_before (given ++ drop place heard) done (lines_of (drop (place + (len + 1)) heard)) front
+          out_after on sent kept line machine fault
           (ap lines_of (a_line_on heard given rest line place len is part inside ends)
           ∙ (line_more given line done free lines).all (drop (place + (len + 1)) heard)) told' breaks;
     }
 
 -- a write is cut off between two lines
-pub send_ends : (n cap : ℕ) (start : Machine) (held before after : Option (List ℕ)) (given rest : List ℕ)
-    (done : List (List ℕ)) (front : Front) (holds on : Option (List ℕ)) (sent : ℕ) (kept : List ℕ) (count : ℕ)
-    → AreLinesOf given done → Consumes before after (given ++ rest) → IsTold n cap start held done front holds sent kept
-    → IsShortWriteAfter sent kept holds on count → Ends n cap before after start held front.machine on (Err (Write count))
-send_ends n cap start held before after given rest done front holds on sent kept count lines consumed told' cut = record {
+pub send_ends : (n cap : ℕ) (start : Machine) (out_before before after : Option (List ℕ)) (given rest : List ℕ)
+    (done : List (List ℕ)) (front : Front) (out_after on : Option (List ℕ)) (sent : ℕ) (kept : List ℕ) (count : ℕ)
+    → AreLinesOf given done → Consumes before after (given ++ rest) → IsTold n cap start out_before done front out_after sent kept
+    → IsShortWriteAfter sent kept out_after on count → Ends n cap before after start out_before front.machine on (Err (Write count))
+send_ends n cap start out_before before after given rest done front out_after on sent kept count lines consumed told' cut = record {
   taken = given ++ rest;
   consumed = consumed;
-  over = stopped n cap start held done (lines_of rest) (lines_of (given ++ rest)) front holds on sent kept count
+  over = stopped n cap start out_before done (lines_of rest) (lines_of (given ++ rest)) front out_after on sent kept count
       (lines.all rest) told' cut;
 }
 
-nothing_appended : (holds : Option (List ℕ)) (kept : List ℕ) → kept ≡ [] → Appends holds holds kept
-nothing_appended holds kept none = subst (Appends holds holds) (sym none) (Appends-nil holds)
+nothing_appended : (out_after : Option (List ℕ)) (kept : List ℕ) → kept ≡ [] → Appends out_after out_after kept
+nothing_appended out_after kept none = subst (Appends out_after out_after) (sym none) (Appends-nil out_after)
 
 -- the lines that ended before are short
 short_ended : (given rest : List ℕ) (done : List (List ℕ)) → IsUnended rest → AreLinesOf given done → AreShort done
@@ -102,44 +102,44 @@ short_ended : (given rest : List ℕ) (done : List (List ℕ)) → IsUnended res
 short_ended given rest done free lines short = subst AreShort (sym (all_ended given rest done free lines)) short
 
 -- they are answered
-ended_answered : (n cap : ℕ) (start : Machine) (held : Option (List ℕ)) (given rest : List ℕ) (done : List (List ℕ))
-    (front : Front) (holds : Option (List ℕ)) (sent : ℕ) (kept : List ℕ) → kept ≡ [] → IsUnended rest
-    → AreLinesOf given done → IsTold n cap start held done front holds sent kept
-    → IsAnswered n cap start held (ended_lines (given ++ rest)) front.machine holds
-ended_answered n cap start held given rest done front holds sent kept none free lines told' =
-    subst (λ (ls : List (List ℕ)). IsAnswered n cap start held ls front.machine holds)
-    (sym (all_ended given rest done free lines)) (answered_all n cap start held done front holds sent kept none told')
+ended_answered : (n cap : ℕ) (start : Machine) (out_before : Option (List ℕ)) (given rest : List ℕ) (done : List (List ℕ))
+    (front : Front) (out_after : Option (List ℕ)) (sent : ℕ) (kept : List ℕ) → kept ≡ [] → IsUnended rest
+    → AreLinesOf given done → IsTold n cap start out_before done front out_after sent kept
+    → IsAnswered n cap start out_before (ended_lines (given ++ rest)) front.machine out_after
+ended_answered n cap start out_before given rest done front out_after sent kept none free lines told' =
+    subst (λ (ls : List (List ℕ)). IsAnswered n cap start out_before ls front.machine out_after)
+    (sym (all_ended given rest done free lines)) (answered_all n cap start out_before done front out_after sent kept none told')
 
 -- no more is heard
-pub hearing_ends : (n cap : ℕ) (start : Machine) (held before mid after : Option (List ℕ)) (given rest : List ℕ)
-    (done : List (List ℕ)) (front : Front) (holds : Option (List ℕ)) (sent : ℕ) (kept : List ℕ)
+pub hearing_ends : (n cap : ℕ) (start : Machine) (out_before before mid after : Option (List ℕ)) (given rest : List ℕ)
+    (done : List (List ℕ)) (front : Front) (out_after : Option (List ℕ)) (sent : ℕ) (kept : List ℕ)
     (fault : SessionFault) → kept ≡ [] → IsUnended rest → AreLinesOf given done → Consumes before mid (given ++ rest)
-    → AreShort done → length rest ≤ LINE_LIMIT → IsTold n cap start held done front holds sent kept
-    → HearingStops mid after fault → Ends n cap before after start held front.machine holds (Err fault)
-hearing_ends n cap start held before mid after given rest done front holds sent kept Read none free lines consumed
+    → AreShort done → length rest ≤ LINE_LIMIT → IsTold n cap start out_before done front out_after sent kept
+    → HearingStops mid after fault → Ends n cap before after start out_before front.machine out_after (Err fault)
+hearing_ends n cap start out_before before mid after given rest done front out_after sent kept Read none free lines consumed
     short within told' stops = record {
       taken = given ++ rest;
       consumed = Consumes-kept before mid after (given ++ rest) consumed stops;
       over = (
         short_ended given rest done free lines short,
         omega (arith, within, ap length (left_open given rest done free lines)),
-        ended_answered n cap start held given rest done front holds sent kept none free lines told',
+        ended_answered n cap start out_before given rest done front out_after sent kept none free lines told',
       );
     }
-hearing_ends n cap start held before mid after given rest done front holds sent kept Memory none free lines consumed
+hearing_ends n cap start out_before before mid after given rest done front out_after sent kept Memory none free lines consumed
     short within told' stops = record {
       taken = (given ++ rest) ++ stops.bytes;
       consumed = Consumes-trans before mid after (given ++ rest) stops.bytes consumed stops.consumed;
-      over = broken_off n cap start held done (lines_of (rest ++ stops.bytes)) (lines_of ((given ++ rest) ++ stops.bytes))
-          front holds holds sent kept
+      over = broken_off n cap start out_before done (lines_of (rest ++ stops.bytes)) (lines_of ((given ++ rest) ++ stops.bytes))
+          front out_after out_after sent kept
           (ap lines_of (append_assoc given rest stops.bytes) ∙ lines.all (rest ++ stops.bytes)) told'
-          (nothing_appended holds kept none);
+          (nothing_appended out_after kept none);
     }
-hearing_ends n cap start held before mid after given rest done front holds sent kept TooMuch none free lines consumed
+hearing_ends n cap start out_before before mid after given rest done front out_after sent kept TooMuch none free lines consumed
     short within told' stops = absurd stops
-hearing_ends n cap start held before mid after given rest done front holds sent kept (Write cut) none free lines
+hearing_ends n cap start out_before before mid after given rest done front out_after sent kept (Write cut) none free lines
     consumed short within told' stops = absurd stops
-hearing_ends n cap start held before mid after given rest done front holds sent kept NoThread none free lines
+hearing_ends n cap start out_before before mid after given rest done front out_after sent kept NoThread none free lines
     consumed short within told' stops = absurd stops
 
 -- a line is too long, or all are too many
@@ -155,19 +155,19 @@ pub over_is : (len bytes taken all : ℕ) → len ≡ bytes → taken ≡ all �
 over_is len bytes taken all same so (inl long) = inl (omega (arith, long, same))
 over_is len bytes taken all same so (inr many) = inr (omega (arith, many, so))
 
-pub over_ends : (n cap : ℕ) (start : Machine) (held before after : Option (List ℕ)) (given rest : List ℕ)
-    (done : List (List ℕ)) (front : Front) (holds : Option (List ℕ)) (sent : ℕ) (kept : List ℕ) → kept ≡ []
+pub over_ends : (n cap : ℕ) (start : Machine) (out_before before after : Option (List ℕ)) (given rest : List ℕ)
+    (done : List (List ℕ)) (front : Front) (out_after : Option (List ℕ)) (sent : ℕ) (kept : List ℕ) → kept ≡ []
     → IsUnended rest → AreLinesOf given done → Consumes before after (given ++ rest) → AreShort done
-    → (LINE_LIMIT < length rest) ⊎ (ALL ≤ length (given ++ rest)) → IsTold n cap start held done front holds sent kept
-    → Ends n cap before after start held front.machine holds (Err TooMuch)
-over_ends n cap start held before after given rest done front holds sent kept none free lines consumed short over told' =
+    → (LINE_LIMIT < length rest) ⊎ (ALL ≤ length (given ++ rest)) → IsTold n cap start out_before done front out_after sent kept
+    → Ends n cap before after start out_before front.machine out_after (Err TooMuch)
+over_ends n cap start out_before before after given rest done front out_after sent kept none free lines consumed short over told' =
     record {
       taken = given ++ rest;
       consumed = consumed;
       over = (
         short_ended given rest done free lines short,
         too_many given rest done free lines over,
-        ended_answered n cap start held given rest done front holds sent kept none free lines told',
+        ended_answered n cap start out_before given rest done front out_after sent kept none free lines told',
       );
     }
 
@@ -199,19 +199,20 @@ heard_none before after rest heard count zero more =
 -- ---- the end of the bytes
 
 -- no line is open
-pub closed_ends : (n cap : ℕ) (start : Machine) (held before after : Option (List ℕ)) (given heard : List ℕ)
-    (done : List (List ℕ)) (front : Front) (holds : Option (List ℕ)) (sent : ℕ) (kept : List ℕ) → kept ≡ []
+pub closed_ends : (n cap : ℕ) (start : Machine) (out_before before after : Option (List ℕ)) (given heard : List ℕ)
+    (done : List (List ℕ)) (front : Front) (out_after : Option (List ℕ)) (sent : ℕ) (kept : List ℕ) → kept ≡ []
     → heard ≡ [] → AreLinesOf given done → Consumes before after (given ++ heard) → AreShort done
-    → IsTold n cap start held done front holds sent kept → Ends n cap before after start held front.machine holds (Ok tt)
-closed_ends n cap start held before after given heard done front holds sent kept none empty lines consumed short told' =
+    → IsTold n cap start out_before done front out_after sent kept
+    → Ends n cap before after start out_before front.machine out_after (Ok tt)
+closed_ends n cap start out_before before after given heard done front out_after sent kept none empty lines consumed short told' =
     record {
       taken = given ++ heard;
       consumed = consumed;
       over = (
         subst AreShort (sym (ap (λ (xs : List ℕ). lines_of (given ++ xs)) empty ∙ no_open given done lines)) short,
-        subst (λ (ls : List (List ℕ)). IsAnswered n cap start held ls front.machine holds)
+        subst (λ (ls : List (List ℕ)). IsAnswered n cap start out_before ls front.machine out_after)
             (sym (ap (λ (xs : List ℕ). lines_of (given ++ xs)) empty ∙ no_open given done lines))
-            (answered_all n cap start held done front holds sent kept none told'),
+            (answered_all n cap start out_before done front out_after sent kept none told'),
       );
     }
 
@@ -222,16 +223,16 @@ last_parts given heard done free some lines =
     last_line given heard done free some lines ∙ sym (append-nil (done ++ heard ∷ []))
 
 -- it breaks off
-pub last_ends : (n cap : ℕ) (start : Machine) (held before after : Option (List ℕ)) (given heard : List ℕ)
-    (done : List (List ℕ)) (front : Front) (holds on : Option (List ℕ)) (sent : ℕ) (kept : List ℕ) (machine : Machine)
+pub last_ends : (n cap : ℕ) (start : Machine) (out_before before after : Option (List ℕ)) (given heard : List ℕ)
+    (done : List (List ℕ)) (front : Front) (out_after on : Option (List ℕ)) (sent : ℕ) (kept : List ℕ) (machine : Machine)
     (fault : SessionFault) → IsUnended heard → 0 < length heard → AreLinesOf given done
-    → Consumes before after (given ++ heard) → IsTold n cap start held done front holds sent kept
-    → LineAborts n cap front heard sent kept holds machine on fault → Ends n cap before after start held machine on (Err fault)
-last_ends n cap start held before after given heard done front holds on sent kept machine fault free some lines consumed
+    → Consumes before after (given ++ heard) → IsTold n cap start out_before done front out_after sent kept
+    → LineAborts n cap front heard sent kept out_after machine on fault → Ends n cap before after start out_before machine on (Err fault)
+last_ends n cap start out_before before after given heard done front out_after on sent kept machine fault free some lines consumed
     told' breaks = record {
       taken = given ++ heard;
       consumed = consumed;
-      over = line_stops n cap start held (given ++ heard) done [] front holds on sent kept heard machine fault
+      over = line_stops n cap start out_before (given ++ heard) done [] front out_after on sent kept heard machine fault
           (last_parts given heard done free some lines) told' breaks;
     }
 
@@ -241,34 +242,34 @@ pub short_more : (line : List ℕ) (done : List (List ℕ)) → AreShort done �
 short_more line done short within = All-push (λ (l : List ℕ). length l ≤ LINE_LIMIT) done line short within
 
 -- it is answered, and the answer written
-pub answered_ends : (n cap : ℕ) (start : Machine) (held before after : Option (List ℕ)) (given heard : List ℕ)
-    (done : List (List ℕ)) (front : Front) (holds : Option (List ℕ)) (sent : ℕ) (kept : List ℕ) → kept ≡ []
+pub answered_ends : (n cap : ℕ) (start : Machine) (out_before before after : Option (List ℕ)) (given heard : List ℕ)
+    (done : List (List ℕ)) (front : Front) (out_after : Option (List ℕ)) (sent : ℕ) (kept : List ℕ) → kept ≡ []
     → IsUnended heard → 0 < length heard → AreLinesOf given done → Consumes before after (given ++ heard)
-    → AreShort done → length heard ≤ LINE_LIMIT → IsTold n cap start held (done ++ heard ∷ []) front holds sent kept
-    → Ends n cap before after start held front.machine holds (Ok tt)
-answered_ends n cap start held before after given heard done front holds sent kept none free some lines consumed short
+    → AreShort done → length heard ≤ LINE_LIMIT → IsTold n cap start out_before (done ++ heard ∷ []) front out_after sent kept
+    → Ends n cap before after start out_before front.machine out_after (Ok tt)
+answered_ends n cap start out_before before after given heard done front out_after sent kept none free some lines consumed short
     within told' = record {
       taken = given ++ heard;
       consumed = consumed;
       over = (
         subst AreShort (sym (last_line given heard done free some lines)) (short_more heard done short within),
-        subst (λ (ls : List (List ℕ)). IsAnswered n cap start held ls front.machine holds)
+        subst (λ (ls : List (List ℕ)). IsAnswered n cap start out_before ls front.machine out_after)
             (sym (last_line given heard done free some lines))
-            (answered_all n cap start held (done ++ heard ∷ []) front holds sent kept none told'),
+            (answered_all n cap start out_before (done ++ heard ∷ []) front out_after sent kept none told'),
       );
     }
 
 -- or not
-pub cut_ends : (n cap : ℕ) (start : Machine) (held before after : Option (List ℕ)) (given heard : List ℕ)
-    (done : List (List ℕ)) (front : Front) (holds on : Option (List ℕ)) (sent : ℕ) (kept : List ℕ) (count : ℕ)
+pub cut_ends : (n cap : ℕ) (start : Machine) (out_before before after : Option (List ℕ)) (given heard : List ℕ)
+    (done : List (List ℕ)) (front : Front) (out_after on : Option (List ℕ)) (sent : ℕ) (kept : List ℕ) (count : ℕ)
     → IsUnended heard → 0 < length heard → AreLinesOf given done → Consumes before after (given ++ heard)
-    → IsTold n cap start held (done ++ heard ∷ []) front holds sent kept → IsShortWriteAfter sent kept holds on count
-    → Ends n cap before after start held front.machine on (Err (Write count))
-cut_ends n cap start held before after given heard done front holds on sent kept count free some lines consumed told' cut =
+    → IsTold n cap start out_before (done ++ heard ∷ []) front out_after sent kept → IsShortWriteAfter sent kept out_after on count
+    → Ends n cap before after start out_before front.machine on (Err (Write count))
+cut_ends n cap start out_before before after given heard done front out_after on sent kept count free some lines consumed told' cut =
     record {
       taken = given ++ heard;
       consumed = consumed;
-      over = stopped n cap start held (done ++ heard ∷ []) [] (lines_of (given ++ heard)) front holds on sent kept count
+      over = stopped n cap start out_before (done ++ heard ∷ []) [] (lines_of (given ++ heard)) front out_after on sent kept count
           (last_parts given heard done free some lines) told' cut;
     }
 

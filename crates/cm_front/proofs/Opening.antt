@@ -11,29 +11,29 @@ use Rattle.cm_front.specs.declared.images.FrontFault.TheVariants.{Image, Room, E
 use Rattle.cm_front.specs.Images.{image_refusal, HasEnded, HasFailed, EndsImage, FailsImage}
 
 -- it is refused
-pub unopened_so : (image : List ℕ) (before held : Option (List ℕ)) (fault : OpenFault) (told : FrontFault)
-    → told ≡ image_refusal fault → IsUnopened image fault → FailsImage image before before held held told
-unopened_so image before held (unopened.Image fault) told same refused =
-    subst (FailsImage image before before held held) (sym same) (refused, (refl, refl))
-unopened_so image before held unopened.Room told same refused =
-    subst (FailsImage image before before held held) (sym same) (refused.own (λ other. absurd (cc)), (refl, refl))
+pub unopened_so : (image : List ℕ) (before out_before : Option (List ℕ)) (fault : OpenFault) (told : FrontFault)
+    → told ≡ image_refusal fault → IsUnopened image fault → FailsImage image before before out_before out_before told
+unopened_so image before out_before (unopened.Image fault) told same refused =
+    subst (FailsImage image before before out_before out_before) (sym same) (refused, (refl, refl))
+unopened_so image before out_before unopened.Room told same refused =
+    subst (FailsImage image before before out_before out_before) (sym same) (refused.own (λ other. absurd (cc)), (refl, refl))
 
 -- it is opened
-pub ended_so : (image : List ℕ) (start : SizedMachine) (before after held holds : Option (List ℕ))
+pub ended_so : (image : List ℕ) (start : SizedMachine) (before after out_before out_after : Option (List ℕ))
     (r : Result (Vec ℕ Global) FrontFault) → image_opened image ≡ Ok start
-    → IfOk r (λ text. HasEnded start before after held holds text.items)
-    → IfOk r (λ text. EndsImage image before after held holds text.items)
-ended_so image start before after held holds (Ok text) opens ended =
+    → IfOk r (λ text. HasEnded start before after out_before out_after text.items)
+    → IfOk r (λ text. EndsImage image before after out_before out_after text.items)
+ended_so image start before after out_before out_after (Ok text) opens ended =
     record { start = start; opens = opens; so = ended }
-ended_so image start before after held holds (Err fault) opens ended = tt
+ended_so image start before after out_before out_after (Err fault) opens ended = tt
 
-pub failed_so : (image : List ℕ) (start : SizedMachine) (before after held holds : Option (List ℕ))
+pub failed_so : (image : List ℕ) (start : SizedMachine) (before after out_before out_after : Option (List ℕ))
     (r : Result (Vec ℕ Global) FrontFault) → image_opened image ≡ Ok start
-    → IfErr r (HasFailed start before after held holds) → IfErr r (FailsImage image before after held holds)
-failed_so image start before after held holds (Ok text) opens failed = tt
-failed_so image start before after held holds (Err (Ended fault)) opens failed =
+    → IfErr r (HasFailed start before after out_before out_after) → IfErr r (FailsImage image before after out_before out_after)
+failed_so image start before after out_before out_after (Ok text) opens failed = tt
+failed_so image start before after out_before out_after (Err (Ended fault)) opens failed =
     record { start = start; opens = opens; so = failed }
-failed_so image start before after held holds (Err Memory) opens failed =
+failed_so image start before after out_before out_after (Err Memory) opens failed =
     record { start = start; opens = opens; so = failed }
-failed_so image start before after held holds (Err (Image fault)) opens failed = absurd failed
-failed_so image start before after held holds (Err Room) opens failed = absurd failed
+failed_so image start before after out_before out_after (Err (Image fault)) opens failed = absurd failed
+failed_so image start before after out_before out_after (Err Room) opens failed = absurd failed

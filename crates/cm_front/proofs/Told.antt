@@ -51,38 +51,39 @@ all-more n cap start lines line =
 -- ---- what is told
 
 -- these lines are done: a sink holds the answers, or would, had it what is kept too
-pub record IsTold (n cap : ℕ) (start : Machine) (held : Option (List ℕ)) (done : List (List ℕ)) (front : Front)
-    (holds : Option (List ℕ)) (sent : ℕ) (kept : List ℕ) : Type 0 where
-  pub written : Appends held (append_known holds kept) (front_answers n cap start done)
+pub record IsTold (n cap : ℕ) (start : Machine) (out_before : Option (List ℕ)) (done : List (List ℕ)) (front : Front)
+    (out_after : Option (List ℕ)) (sent : ℕ) (kept : List ℕ) : Type 0 where
+  pub written : Appends out_before (append_known out_after kept) (front_answers n cap start done)
   pub sent_is : sent + length kept ≡ length (front_answers n cap start done)
   pub front_is : front ≡ (all n cap start done).front
 
 -- before the first line
-pub nothing_told : (n cap : ℕ) (start : Machine) (held : Option (List ℕ)) (sent : ℕ) (kept : List ℕ) → sent ≡ 0
-    → kept ≡ [] → IsTold n cap start held [] (front_opening start) held sent kept
+pub nothing_told : (n cap : ℕ) (start : Machine) (out_before : Option (List ℕ)) (sent : ℕ) (kept : List ℕ) → sent ≡ 0
+    → kept ≡ [] → IsTold n cap start out_before [] (front_opening start) out_before sent kept
 unfolding front_after_lines
-nothing_told n cap start held sent kept zero none = record {
-  written = subst (λ (known : Option (List ℕ)). Appends held known []) (sym (with_none held kept none)) (Appends-nil held);
+nothing_told n cap start out_before sent kept zero none = record {
+  written =
+      subst (λ (known : Option (List ℕ)). Appends out_before known []) (sym (with_none out_before kept none)) (Appends-nil out_before);
   sent_is = omega (arith, zero, ap length none);
   front_is = refl;
 }
 
 -- one line more
-pub told_line : (n cap : ℕ) (start : Machine) (held : Option (List ℕ)) (done : List (List ℕ)) (front after : Front)
-    (holds on : Option (List ℕ)) (sent now : ℕ) (kept gathered line : List ℕ)
-    → IsTold n cap start held done front holds sent kept → after ≡ (front_after_line n cap front line).front
-    → Appends (append_known holds kept) (append_known on gathered) (front_after_line n cap front line).answer
+pub told_line : (n cap : ℕ) (start : Machine) (out_before : Option (List ℕ)) (done : List (List ℕ)) (front after : Front)
+    (out_after on : Option (List ℕ)) (sent now : ℕ) (kept gathered line : List ℕ)
+    → IsTold n cap start out_before done front out_after sent kept → after ≡ (front_after_line n cap front line).front
+    → Appends (append_known out_after kept) (append_known on gathered) (front_after_line n cap front line).answer
     → now + length gathered ≡ sent + length kept + length (front_after_line n cap front line).answer
-    → IsTold n cap start held (done ++ line ∷ []) after on now gathered
-told_line n cap start held done front after holds on sent now kept gathered line told' is wrote count =
+    → IsTold n cap start out_before (done ++ line ∷ []) after on now gathered
+told_line n cap start out_before done front after out_after on sent now kept gathered line told' is wrote count =
     let one : FrontAnswered = front_after_line n cap front line in
     let same : one ≡ front_after_line n cap (all n cap start done).front line =
     ap (λ (f : Front). front_after_line n cap f line) told'.front_is in
     let whole : all n cap start (done ++ line ∷ []) ≡ front_preceded_by (all n cap start done).answer one =
     all-more n cap start done line ∙ ap (front_preceded_by (all n cap start done).answer) (sym same) in
     record {
-      written = subst (Appends held (append_known on gathered)) (sym (ap (λ (a : FrontAnswered). a.answer) whole))
-          (Appends-trans held (append_known holds kept) (append_known on gathered) _ _ told'.written wrote);
+      written = subst (Appends out_before (append_known on gathered)) (sym (ap (λ (a : FrontAnswered). a.answer) whole))
+          (Appends-trans out_before (append_known out_after kept) (append_known on gathered) _ _ told'.written wrote);
       sent_is = count ∙ ap (λ (k : ℕ). k + length one.answer) told'.sent_is
           ∙ sym (length-append (all n cap start done).answer one.answer)
           ∙ sym (ap (λ (a : FrontAnswered). length a.answer) whole);
@@ -90,29 +91,29 @@ told_line n cap start held done front after holds on sent now kept gathered line
     }
 
 -- an answer that is only kept
-known_more : (holds : Option (List ℕ)) (kept answer : List ℕ)
-    → Appends (append_known holds kept) (append_known holds (kept ++ answer)) answer
+known_more : (out_after : Option (List ℕ)) (kept answer : List ℕ)
+    → Appends (append_known out_after kept) (append_known out_after (kept ++ answer)) answer
 known_more None kept answer = tt
 known_more (Some xs) kept answer = sym (append_assoc xs kept answer)
 
-pub told_kept : (n cap : ℕ) (start : Machine) (held : Option (List ℕ)) (done : List (List ℕ)) (front : Front)
-    (holds : Option (List ℕ)) (sent : ℕ) (kept line : List ℕ) → IsTold n cap start held done front holds sent kept
-    → IsTold n cap start held (done ++ line ∷ []) (front_after_line n cap front line).front holds sent
+pub told_kept : (n cap : ℕ) (start : Machine) (out_before : Option (List ℕ)) (done : List (List ℕ)) (front : Front)
+    (out_after : Option (List ℕ)) (sent : ℕ) (kept line : List ℕ) → IsTold n cap start out_before done front out_after sent kept
+    → IsTold n cap start out_before (done ++ line ∷ []) (front_after_line n cap front line).front out_after sent
     (kept ++ (front_after_line n cap front line).answer)
-told_kept n cap start held done front holds sent kept line told' =
-    told_line n cap start held done front (front_after_line n cap front line).front holds holds sent sent kept
+told_kept n cap start out_before done front out_after sent kept line told' =
+    told_line n cap start out_before done front (front_after_line n cap front line).front out_after out_after sent sent kept
     (kept ++ (front_after_line n cap front line).answer) line told' refl
-    (known_more holds kept (front_after_line n cap front line).answer)
+    (known_more out_after kept (front_after_line n cap front line).answer)
     (omega (arith, length-append kept (front_after_line n cap front line).answer))
 
 -- what was kept is written
-pub told_sent : (n cap : ℕ) (start : Machine) (held : Option (List ℕ)) (done : List (List ℕ)) (front : Front)
-    (holds on : Option (List ℕ)) (sent now : ℕ) (kept left : List ℕ) → Appends holds on kept → left ≡ []
-    → now ≡ sent + length kept → IsTold n cap start held done front holds sent kept
-    → IsTold n cap start held done front on now left
-told_sent n cap start held done front holds on sent now kept left wrote none count told' = record {
-  written = subst (λ (known : Option (List ℕ)). Appends held known (front_answers n cap start done))
-      (sym (with_none on left none)) (all_written held holds on kept (front_answers n cap start done) told'.written wrote);
+pub told_sent : (n cap : ℕ) (start : Machine) (out_before : Option (List ℕ)) (done : List (List ℕ)) (front : Front)
+    (out_after on : Option (List ℕ)) (sent now : ℕ) (kept left : List ℕ) → Appends out_after on kept → left ≡ []
+    → now ≡ sent + length kept → IsTold n cap start out_before done front out_after sent kept
+    → IsTold n cap start out_before done front on now left
+told_sent n cap start out_before done front out_after on sent now kept left wrote none count told' = record {
+  written = subst (λ (known : Option (List ℕ)). Appends out_before known (front_answers n cap start done))
+      (sym (with_none on left none)) (all_written out_before out_after on kept (front_answers n cap start done) told'.written wrote);
   sent_is = omega (arith, count, ap length none, told'.sent_is);
   front_is = told'.front_is;
 }
@@ -120,21 +121,21 @@ told_sent n cap start held done front holds on sent now kept left wrote none cou
 -- ---- how it ends
 
 -- all lines are answered, and nothing is kept
-pub answered_all : (n cap : ℕ) (start : Machine) (held : Option (List ℕ)) (done : List (List ℕ)) (front : Front)
-    (holds : Option (List ℕ)) (sent : ℕ) (kept : List ℕ) → kept ≡ []
-    → IsTold n cap start held done front holds sent kept → IsAnswered n cap start held done front.machine holds
-answered_all n cap start held done front holds sent kept none told' = record {
-  written = subst (λ (known : Option (List ℕ)). Appends held known (front_answers n cap start done))
-      (with_none holds kept none) told'.written;
+pub answered_all : (n cap : ℕ) (start : Machine) (out_before : Option (List ℕ)) (done : List (List ℕ)) (front : Front)
+    (out_after : Option (List ℕ)) (sent : ℕ) (kept : List ℕ) → kept ≡ []
+    → IsTold n cap start out_before done front out_after sent kept → IsAnswered n cap start out_before done front.machine out_after
+answered_all n cap start out_before done front out_after sent kept none told' = record {
+  written = subst (λ (known : Option (List ℕ)). Appends out_before known (front_answers n cap start done))
+      (with_none out_after kept none) told'.written;
   machine_is = ap (λ (f : Front). f.machine) told'.front_is;
 }
 
 -- a write was cut off
-pub stopped : (n cap : ℕ) (start : Machine) (held : Option (List ℕ)) (done undone lines : List (List ℕ)) (front : Front)
-    (holds on : Option (List ℕ)) (sent : ℕ) (kept : List ℕ) (count : ℕ) → lines ≡ done ++ undone
-    → IsTold n cap start held done front holds sent kept → IsShortWriteAfter sent kept holds on count
-    → IsStopped n cap start held lines front.machine on count
-stopped n cap start held done undone lines front holds on sent kept count parts told' cut =
+pub stopped : (n cap : ℕ) (start : Machine) (out_before : Option (List ℕ)) (done undone lines : List (List ℕ)) (front : Front)
+    (out_after on : Option (List ℕ)) (sent : ℕ) (kept : List ℕ) (count : ℕ) → lines ≡ done ++ undone
+    → IsTold n cap start out_before done front out_after sent kept → IsShortWriteAfter sent kept out_after on count
+    → IsStopped n cap start out_before lines front.machine on count
+stopped n cap start out_before done undone lines front out_after on sent kept count parts told' cut =
     let first : List ℕ = front_answers n cap start done in
     let none : kept ++ [] ≡ kept = append-nil kept in
     record {
@@ -142,64 +143,64 @@ stopped n cap start held done undone lines front holds on sent kept count parts 
       undone = undone;
       lines_are = parts;
       within = omega (arith, cut.count_is, cut.within, told'.sent_is);
-      written = subst (Appends held on) (λ i. take (sym cut.count_is i) (append-nil first i))
-          (front_written held holds on kept first [] [] sent cut.part told'.written told'.sent_is
+      written = subst (Appends out_before on) (λ i. take (sym cut.count_is i) (append-nil first i))
+          (front_written out_before out_after on kept first [] [] sent cut.part told'.written told'.sent_is
           (omega (arith, cut.within, ap length none))
-          (subst (λ (xs : List ℕ). Appends holds on (take cut.part xs)) (sym none) cut.written));
+          (subst (λ (xs : List ℕ). Appends out_after on (take cut.part xs)) (sym none) cut.written));
       machine_is = ap (λ (f : Front). f.machine) told'.front_is;
     }
 
 -- something was wanting, and what was kept is written
-pub broken_off : (n cap : ℕ) (start : Machine) (held : Option (List ℕ)) (done undone lines : List (List ℕ))
-    (front : Front) (holds on : Option (List ℕ)) (sent : ℕ) (kept : List ℕ) → lines ≡ done ++ undone
-    → IsTold n cap start held done front holds sent kept → Appends holds on kept
-    → IsFrontAborted n cap start held lines front.machine on
-broken_off n cap start held done undone lines front holds on sent kept parts told' wrote = record {
+pub broken_off : (n cap : ℕ) (start : Machine) (out_before : Option (List ℕ)) (done undone lines : List (List ℕ))
+    (front : Front) (out_after on : Option (List ℕ)) (sent : ℕ) (kept : List ℕ) → lines ≡ done ++ undone
+    → IsTold n cap start out_before done front out_after sent kept → Appends out_after on kept
+    → IsFrontAborted n cap start out_before lines front.machine on
+broken_off n cap start out_before done undone lines front out_after on sent kept parts told' wrote = record {
   done = done;
   undone = undone;
   lines_are = parts;
   answered = record {
-    written = all_written held holds on kept (front_answers n cap start done) told'.written wrote;
+    written = all_written out_before out_after on kept (front_answers n cap start done) told'.written wrote;
     machine_is = ap (λ (f : Front). f.machine) told'.front_is;
   };
 }
 
 -- a line broke off
-pub line_stops : (n cap : ℕ) (start : Machine) (held : Option (List ℕ)) (taken : List ℕ)
-    (done undone : List (List ℕ)) (front : Front) (holds on : Option (List ℕ)) (sent : ℕ) (kept line : List ℕ)
+pub line_stops : (n cap : ℕ) (start : Machine) (out_before : Option (List ℕ)) (taken : List ℕ)
+    (done undone : List (List ℕ)) (front : Front) (out_after on : Option (List ℕ)) (sent : ℕ) (kept line : List ℕ)
     (machine : Machine) (fault : SessionFault) → lines_of taken ≡ (done ++ line ∷ []) ++ undone
-    → IsTold n cap start held done front holds sent kept
-    → LineAborts n cap front line sent kept holds machine on fault
-    → EndsOver n cap taken start held machine on (Err fault)
-line_stops n cap start held taken done undone front holds on sent kept line machine (Write count) parts told'
+    → IsTold n cap start out_before done front out_after sent kept
+    → LineAborts n cap front line sent kept out_after machine on fault
+    → EndsOver n cap taken start out_before machine on (Err fault)
+line_stops n cap start out_before taken done undone front out_after on sent kept line machine (Write count) parts told'
     (inl before) =
-    subst (λ (m : Machine). IsStopped n cap start held (lines_of taken) m on count) (sym before.0)
-    (stopped n cap start held done (line ∷ undone) (lines_of taken) front holds on sent kept count
+    subst (λ (m : Machine). IsStopped n cap start out_before (lines_of taken) m on count) (sym before.0)
+    (stopped n cap start out_before done (line ∷ undone) (lines_of taken) front out_after on sent kept count
     (parts ∙ append_assoc done (line ∷ []) undone) told' before.1)
-line_stops n cap start held taken done undone front holds on sent kept line machine (Write count) parts told'
+line_stops n cap start out_before taken done undone front out_after on sent kept line machine (Write count) parts told'
     (inr after) =
-    subst (λ (m : Machine). IsStopped n cap start held (lines_of taken) m on count) (sym after.0)
-    (stopped n cap start held (done ++ line ∷ []) undone (lines_of taken) (front_after_line n cap front line).front holds on
+    subst (λ (m : Machine). IsStopped n cap start out_before (lines_of taken) m on count) (sym after.0)
+    (stopped n cap start out_before (done ++ line ∷ []) undone (lines_of taken) (front_after_line n cap front line).front out_after on
     sent (kept ++ (front_after_line n cap front line).answer) count parts
-    (told_kept n cap start held done front holds sent kept line told') after.1)
-line_stops n cap start held taken done undone front holds on sent kept line machine Memory parts told' before =
-    subst (λ (m : Machine). IsFrontAborted n cap start held (lines_of taken) m on) (sym before.0)
-    (broken_off n cap start held done (line ∷ undone) (lines_of taken) front holds on sent kept
+    (told_kept n cap start out_before done front out_after sent kept line told') after.1)
+line_stops n cap start out_before taken done undone front out_after on sent kept line machine Memory parts told' before =
+    subst (λ (m : Machine). IsFrontAborted n cap start out_before (lines_of taken) m on) (sym before.0)
+    (broken_off n cap start out_before done (line ∷ undone) (lines_of taken) front out_after on sent kept
     (parts ∙ append_assoc done (line ∷ []) undone) told' before.1)
-line_stops n cap start held taken done undone front holds on sent kept line machine NoThread parts told' before =
-    subst (λ (m : Machine). IsFrontAborted n cap start held (lines_of taken) m on) (sym before.0)
-    (broken_off n cap start held done (line ∷ undone) (lines_of taken) front holds on sent kept
+line_stops n cap start out_before taken done undone front out_after on sent kept line machine NoThread parts told' before =
+    subst (λ (m : Machine). IsFrontAborted n cap start out_before (lines_of taken) m on) (sym before.0)
+    (broken_off n cap start out_before done (line ∷ undone) (lines_of taken) front out_after on sent kept
     (parts ∙ append_assoc done (line ∷ []) undone) told' before.1)
-line_stops n cap start held taken done undone front holds on sent kept line machine Read parts told' none = absurd none
-line_stops n cap start held taken done undone front holds on sent kept line machine TooMuch parts told' none =
+line_stops n cap start out_before taken done undone front out_after on sent kept line machine Read parts told' none = absurd none
+line_stops n cap start out_before taken done undone front out_after on sent kept line machine TooMuch parts told' none =
     absurd none
 
 -- what is wanting before a line
-pub wanting : (n cap : ℕ) (front : Front) (line : List ℕ) (sent : ℕ) (kept : List ℕ) (holds on : Option (List ℕ))
-    (machine : Machine) (fault : SessionFault) → AbortsBetween sent kept holds on fault → machine ≡ front.machine
-    → LineAborts n cap front line sent kept holds machine on fault
-wanting n cap front line sent kept holds on machine (Write count) cut is = inl (is, cut)
-wanting n cap front line sent kept holds on machine Memory wrote is = (is, wrote)
-wanting n cap front line sent kept holds on machine NoThread wrote is = (is, wrote)
-wanting n cap front line sent kept holds on machine Read none is = absurd none
-wanting n cap front line sent kept holds on machine TooMuch none is = absurd none
+pub wanting : (n cap : ℕ) (front : Front) (line : List ℕ) (sent : ℕ) (kept : List ℕ) (out_after on : Option (List ℕ))
+    (machine : Machine) (fault : SessionFault) → AbortsBetween sent kept out_after on fault → machine ≡ front.machine
+    → LineAborts n cap front line sent kept out_after machine on fault
+wanting n cap front line sent kept out_after on machine (Write count) cut is = inl (is, cut)
+wanting n cap front line sent kept out_after on machine Memory wrote is = (is, wrote)
+wanting n cap front line sent kept out_after on machine NoThread wrote is = (is, wrote)
+wanting n cap front line sent kept out_after on machine Read none is = absurd none
+wanting n cap front line sent kept out_after on machine TooMuch none is = absurd none

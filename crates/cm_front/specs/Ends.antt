@@ -22,50 +22,50 @@ abbrev pub AreShort : List (List ℕ) → Type 0
 AreShort lines = All (λ line. length line ≤ LINE_LIMIT) lines
 
 -- these lines are all answered, and the machine is that after them
-pub record IsAnswered (n cap : ℕ) (start : Machine) (held : Option (List ℕ)) (lines : List (List ℕ))
-    (machine : Machine) (holds : Option (List ℕ)) : Type 0 where
-  pub written : Appends held holds (front_answers n cap start lines)
+pub record IsAnswered (n cap : ℕ) (start : Machine) (out_before : Option (List ℕ)) (lines : List (List ℕ))
+    (machine : Machine) (out_after : Option (List ℕ)) : Type 0 where
+  pub written : Appends out_before out_after (front_answers n cap start lines)
   pub machine_is : machine ≡ front_left n cap start lines
 
 -- some of these lines are done, and the machine is that after them; so many bytes of their answers are written, not all
-pub record IsStopped (n cap : ℕ) (start : Machine) (held : Option (List ℕ)) (lines : List (List ℕ))
-    (machine : Machine) (holds : Option (List ℕ)) (count : ℕ) : Type 0 where
+pub record IsStopped (n cap : ℕ) (start : Machine) (out_before : Option (List ℕ)) (lines : List (List ℕ))
+    (machine : Machine) (out_after : Option (List ℕ)) (count : ℕ) : Type 0 where
   pub done : List (List ℕ)
   pub undone : List (List ℕ)
   pub lines_are : lines ≡ done ++ undone
   pub within : count < length (front_answers n cap start done)
-  pub written : Appends held holds (take count (front_answers n cap start done))
+  pub written : Appends out_before out_after (take count (front_answers n cap start done))
   pub machine_is : machine ≡ front_left n cap start done
 
 -- some of these lines are done and their answers written, and nothing of the others
-pub record IsFrontAborted (n cap : ℕ) (start : Machine) (held : Option (List ℕ)) (lines : List (List ℕ))
-    (machine : Machine) (holds : Option (List ℕ)) : Type 0 where
+pub record IsFrontAborted (n cap : ℕ) (start : Machine) (out_before : Option (List ℕ)) (lines : List (List ℕ))
+    (machine : Machine) (out_after : Option (List ℕ)) : Type 0 where
   pub done : List (List ℕ)
   pub undone : List (List ℕ)
   pub lines_are : lines ≡ done ++ undone
-  pub answered : IsAnswered n cap start held done machine holds
+  pub answered : IsAnswered n cap start out_before done machine out_after
 
 -- how a front end ends that took this text
 abbrev pub EndsOver : ℕ → ℕ → List ℕ → Machine → Option (List ℕ) → Machine → Option (List ℕ)
     → Result (Unit {0}) SessionFault → Type 0
-EndsOver n cap taken start held machine holds (Ok done) =
-    AreShort (lines_of taken) × IsAnswered n cap start held (lines_of taken) machine holds
-EndsOver n cap taken start held machine holds (Err Read) =
+EndsOver n cap taken start out_before machine out_after (Ok done) =
+    AreShort (lines_of taken) × IsAnswered n cap start out_before (lines_of taken) machine out_after
+EndsOver n cap taken start out_before machine out_after (Err Read) =
     AreShort (ended_lines taken) × (length (open_line taken) ≤ LINE_LIMIT)
-    × IsAnswered n cap start held (ended_lines taken) machine holds
-EndsOver n cap taken start held machine holds (Err (Write count)) =
-    IsStopped n cap start held (lines_of taken) machine holds count
-EndsOver n cap taken start held machine holds (Err TooMuch) =
+    × IsAnswered n cap start out_before (ended_lines taken) machine out_after
+EndsOver n cap taken start out_before machine out_after (Err (Write count)) =
+    IsStopped n cap start out_before (lines_of taken) machine out_after count
+EndsOver n cap taken start out_before machine out_after (Err TooMuch) =
     AreShort (ended_lines taken) × ((LINE_LIMIT < length (open_line taken)) ⊎ (ALL ≤ length taken))
-    × IsAnswered n cap start held (ended_lines taken) machine holds
-EndsOver n cap taken start held machine holds (Err Memory) =
-    IsFrontAborted n cap start held (lines_of taken) machine holds
-EndsOver n cap taken start held machine holds (Err NoThread) =
-    IsFrontAborted n cap start held (lines_of taken) machine holds
+    × IsAnswered n cap start out_before (ended_lines taken) machine out_after
+EndsOver n cap taken start out_before machine out_after (Err Memory) =
+    IsFrontAborted n cap start out_before (lines_of taken) machine out_after
+EndsOver n cap taken start out_before machine out_after (Err NoThread) =
+    IsFrontAborted n cap start out_before (lines_of taken) machine out_after
 
 -- it took a text from its source, the known bytes of which began with it, and ended so
-pub record Ends (n cap : ℕ) (before after : Option (List ℕ)) (start : Machine) (held : Option (List ℕ))
-    (machine : Machine) (holds : Option (List ℕ)) (result : Result (Unit {0}) SessionFault) : Type 0 where
+pub record Ends (n cap : ℕ) (before after : Option (List ℕ)) (start : Machine) (out_before : Option (List ℕ))
+    (machine : Machine) (out_after : Option (List ℕ)) (result : Result (Unit {0}) SessionFault) : Type 0 where
   pub taken : List ℕ
   pub consumed : Consumes before after taken
-  pub over : EndsOver n cap taken start held machine holds result
+  pub over : EndsOver n cap taken start out_before machine out_after result

@@ -35,11 +35,11 @@ HearingStops before after NoThread = ⊥
 -- written
 abbrev pub LineAborts : ℕ → ℕ → Front → List ℕ → ℕ → List ℕ → Option (List ℕ) → Machine → Option (List ℕ)
     → SessionFault → Type 0
-LineAborts n cap front line sent kept held machine holds (Write count) =
-    ((machine ≡ front.machine) × IsShortWriteAfter sent kept held holds count)
+LineAborts n cap front line sent kept out_before machine out_after (Write count) =
+    ((machine ≡ front.machine) × IsShortWriteAfter sent kept out_before out_after count)
     ⊎ ((machine ≡ (front_after_line n cap front line).front.machine)
-    × IsShortWriteAfter sent (kept ++ (front_after_line n cap front line).answer) held holds count)
-LineAborts n cap front line sent kept held machine holds Memory = (machine ≡ front.machine) × Appends held holds kept
-LineAborts n cap front line sent kept held machine holds NoThread = (machine ≡ front.machine) × Appends held holds kept
-LineAborts n cap front line sent kept held machine holds Read = ⊥
-LineAborts n cap front line sent kept held machine holds TooMuch = ⊥
+    × IsShortWriteAfter sent (kept ++ (front_after_line n cap front line).answer) out_before out_after count)
+LineAborts n cap front line sent kept out_before machine out_after Memory = (machine ≡ front.machine) × Appends out_before out_after kept
+LineAborts n cap front line sent kept out_before machine out_after NoThread = (machine ≡ front.machine) × Appends out_before out_after kept
+LineAborts n cap front line sent kept out_before machine out_after Read = ⊥
+LineAborts n cap front line sent kept out_before machine out_after TooMuch = ⊥

@@ -7,18 +7,18 @@ use Rattle.std.specs.Io.KnownBytes.{Appends}
 use Rattle.cm_outside.specs.Report.{HasFront}
 
 -- only the first bytes of the first part
-pub front_of_first : (held holds : Option (List ℕ)) (first second : List ℕ) → HasFront held holds first
-    → HasFront held holds (first ++ second)
-front_of_first held holds first second front = record {
+pub front_of_first : (out_before out_after : Option (List ℕ)) (first second : List ℕ) → HasFront out_before out_after first
+    → HasFront out_before out_after (first ++ second)
+front_of_first out_before out_after first second front = record {
   count = front.count;
   short = omega (arith, length-append first second, front.short);
   written = let within : front.count ≤ length first = omega (arith, front.short) in rw take-append-le front.written;
 }
 
 -- the first part, and the first bytes of the second
-pub front_of_second : (held between holds : Option (List ℕ)) (first second : List ℕ) → Appends held between first
-    → HasFront between holds second → HasFront held holds (first ++ second)
-front_of_second held between holds first second whole front = record {
+pub front_of_second : (out_before between out_after : Option (List ℕ)) (first second : List ℕ) → Appends out_before between first
+    → HasFront between out_after second → HasFront out_before out_after (first ++ second)
+front_of_second out_before between out_after first second whole front = record {
   count = length first + front.count;
   short = omega (arith, length-append first second, front.short);
   written = rw (take-append-add first second front.count) (Appends-trans _ _ _ _ _ whole front.written);

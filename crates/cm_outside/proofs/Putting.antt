@@ -7,9 +7,9 @@ use Rattle.cm_outside.specs.declared.program_fault.ProgramFault.{ProgramFault}
 use Rattle.cm_outside.specs.OutputFiles.{SavesAfter, flush_end}
 
 -- the first of these bytes, so many
-pub front_out : (held holds : Option (List ℕ)) (bytes : List ℕ) (count : ℕ) → Appends held holds (take count bytes)
-    → GoesOutInPart held holds bytes
-front_out held holds bytes count went = record {
+pub front_out : (out_before out_after : Option (List ℕ)) (bytes : List ℕ) (count : ℕ) → Appends out_before out_after (take count bytes)
+    → GoesOutInPart out_before out_after bytes
+front_out out_before out_after bytes count went = record {
   left = drop count bytes;
   so = record { out = take count bytes; went = went; is = sym (take-append-drop count bytes) };
 }

@@ -73,17 +73,17 @@ pub record Puts {F P : Type 0} (path bytes : List ℕ) (result : Result (Unit {0
   pub then : FillsReady part bytes result more
 
 -- the deeds are that standard output goes out, and the program ends as that does
-pub record FlushesOut {F P : Type 0} (holds : Option (List ℕ)) (result : Result (Unit {0}) ProgramFault)
+pub record FlushesOut {F P : Type 0} (out_after : Option (List ℕ)) (result : Result (Unit {0}) ProgramFault)
     (trace : List (IoEvent F P)) : Type 0 where
   pub done : Result (Unit {0}) Failed
-  pub did : trace ≡ Flushed holds done ∷ []
+  pub did : trace ≡ Flushed out_after done ∷ []
   pub told : result ≡ flush_end done
 
 -- once the program's work ended so: standard output goes out where it has no fault, and nothing more is done
 abbrev pub Flushes : {F P : Type 0} → Option (List ℕ) → Result (Unit {0}) ProgramFault
     → Result (Unit {0}) ProgramFault → List (IoEvent F P) → Type 0
-Flushes holds (Ok done) result trace = FlushesOut holds result trace
-Flushes holds (Err fault) result trace = (trace ≡ []) × (result ≡ Err fault)
+Flushes out_after (Ok done) result trace = FlushesOut out_after result trace
+Flushes out_after (Err fault) result trace = (trace ≡ []) × (result ≡ Err fault)
 
 -- the deeds that take away the file that was made ready, if one was
 abbrev pub let_go : {F P : Type 0} → Option P → List (IoEvent F P)
@@ -104,25 +104,25 @@ SavesAfter (Ok done) part kept result trace = Saves part kept result trace
 SavesAfter (Err failed) part kept result trace = (trace ≡ let_go part) × (result ≡ Err Write)
 
 -- a session ended well: standard output goes out, and only then is the file filled
-pub record FinishesWell {F P : Type 0} (part : Option P) (holds : Option (List ℕ)) (kept : Option (List ℕ))
+pub record FinishesWell {F P : Type 0} (part : Option P) (out_after : Option (List ℕ)) (kept : Option (List ℕ))
     (result : Result (Unit {0}) ProgramFault) (trace : List (IoEvent F P)) : Type 0 where
   pub done : Result (Unit {0}) Failed
   pub more : List (IoEvent F P)
-  pub did : trace ≡ Flushed holds done ∷ more
+  pub did : trace ≡ Flushed out_after done ∷ more
   pub then : SavesAfter done part kept result more
 
 -- once a session ended so: after a fault the file that was made ready is taken away, and nothing more is done
 abbrev pub FinishesOutput : {F P : Type 0} → Option P → Option (List ℕ) → Result (Option (List ℕ)) ProgramFault
     → Result (Unit {0}) ProgramFault → List (IoEvent F P) → Type 0
-FinishesOutput part holds (Ok kept) result trace = FinishesWell part holds kept result trace
-FinishesOutput part holds (Err fault) result trace = (trace ≡ let_go part) × (result ≡ Err fault)
+FinishesOutput part out_after (Ok kept) result trace = FinishesWell part out_after kept result trace
+FinishesOutput part out_after (Err fault) result trace = (trace ≡ let_go part) × (result ≡ Err fault)
 
 -- a session ended well, and left this machine: its image is kept, if a file was made ready, and goes there
-pub record FinishesWithImage {F P : Type 0} (n cap : ℕ) (machine : Machine) (part : Option P) (holds : Option (List ℕ))
+pub record FinishesWithImage {F P : Type 0} (n cap : ℕ) (machine : Machine) (part : Option P) (out_after : Option (List ℕ))
     (result : Result (Unit {0}) ProgramFault) (trace : List (IoEvent F P)) : Type 0 where
   pub kept : Result (Option (List ℕ)) ProgramFault
   pub is : KeepsImage n cap machine (is_some part) kept
-  pub closes : FinishesOutput part holds kept result trace
+  pub closes : FinishesOutput part out_after kept result trace
 
 -- the deeds take away the file that was made ready, if one was, and the program ends with this fault
 abbrev pub Aborts : {F P : Type 0} → Option P → ProgramFault → Result (Unit {0}) ProgramFault → List (IoEvent F P)

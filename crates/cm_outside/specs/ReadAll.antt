@@ -3,13 +3,13 @@ use Rattle.std.specs.Prelude.{ℕ, ◌<◌, ◌≤◌, Option, List, length}
 use Rattle.std.specs.Io.KnownBytes.{Consumes}
 
 -- known bytes begin with at most so many, and lose them
-pub record ConsumesAtMost (most : ℕ) (held left : Option (List ℕ)) : Type 0 where
+pub record ConsumesAtMost (most : ℕ) (out_before left : Option (List ℕ)) : Type 0 where
   pub bytes : List ℕ
   pub few : length bytes ≤ most
-  pub consumed : Consumes held left bytes
+  pub consumed : Consumes out_before left bytes
 
 -- known bytes begin with more than so many, and lose them
-pub record ConsumesBeyond (most : ℕ) (held left : Option (List ℕ)) : Type 0 where
+pub record ConsumesBeyond (most : ℕ) (out_before left : Option (List ℕ)) : Type 0 where
   pub bytes : List ℕ
   pub many : most < length bytes
-  pub consumed : Consumes held left bytes
+  pub consumed : Consumes out_before left bytes

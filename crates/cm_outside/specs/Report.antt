@@ -35,7 +35,7 @@ status_of number =
     else (if number == 30 || number == 31 then 4 else 1))
 
 -- only the first bytes of a text were written
-pub record HasFront (held holds : Option (List ℕ)) (text : List ℕ) : Type 0 where
+pub record HasFront (out_before out_after : Option (List ℕ)) (text : List ℕ) : Type 0 where
   pub count : ℕ
   pub short : count < length text
-  pub written : Appends held holds (take count text)
+  pub written : Appends out_before out_after (take count text)

@@ -5,18 +5,18 @@ use Rattle.std.specs.Prelude.{◌≡◌, ℕ, Bool, false, Option, List}
 pub record Streams : Type 0 where
   pub lines : Option (List ℕ)
   pub rest : Option (List ℕ)
-  pub held : Option (List ℕ)
-  pub holds : Option (List ℕ)
+  pub out_before : Option (List ℕ)
+  pub out_after : Option (List ℕ)
   pub read_failed : Bool
   pub write_failed : Bool
 
 -- the same of their parts
 abbrev pub streams : Option (List ℕ) → Option (List ℕ) → Option (List ℕ) → Option (List ℕ) → Bool → Bool → Streams
-streams lines rest held holds read_failed write_failed = record {
+streams lines rest out_before out_after read_failed write_failed = record {
   lines = lines;
   rest = rest;
-  held = held;
-  holds = holds;
+  out_before = out_before;
+  out_after = out_after;
   read_failed = read_failed;
   write_failed = write_failed;
 }
@@ -27,4 +27,4 @@ IsUnread streams = (streams.rest ≡ streams.lines) × (streams.read_failed ≡ 
 
 -- and nothing written
 abbrev pub IsUntouched : Streams → Type 0
-IsUntouched streams = IsUnread streams × (streams.holds ≡ streams.held) × (streams.write_failed ≡ false)
+IsUntouched streams = IsUnread streams × (streams.out_after ≡ streams.out_before) × (streams.write_failed ≡ false)

@@ -14,7 +14,7 @@ pub data IoEvent (F P : Type 0) : Type 0 where
   -- a file was made ready that is to stand where the path says
   Readied : (path : List ℕ) (part : Result P PutFault) → IoEvent F P
   -- what standard output had taken so far went out
-  Flushed : (holds : Option (List ℕ)) (done : Result (Unit {0}) Failed) → IoEvent F P
+  Flushed : (out_after : Option (List ℕ)) (done : Result (Unit {0}) Failed) → IoEvent F P
   -- a file that was made ready was to get these bytes and its place
   Filled : (part : P) (bytes : List ℕ) (done : Result (Unit {0}) PutFault) → IoEvent F P
   -- a file that was made ready was taken away

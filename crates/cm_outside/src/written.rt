@@ -29,7 +29,7 @@ pub trait Written: Drop {
 
 /// Bytes that are held.
 impl Written for &[u8] {
-    ghost bytes = { λ held. held.now };
+    ghost bytes = { λ out_before. out_before.now };
 
     fn write<O: Sink>(self, sink: &mut O) -> Result<(), PutFault> {
         match write_all(sink, self) {

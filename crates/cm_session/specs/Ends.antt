@@ -39,10 +39,10 @@ abbrev pub session_after : ℕ → ℕ → List Act → Machine → List (List �
 session_after n cap acts start lines = (after_lines n cap acts (opening start (length acts)) lines).session
 
 -- these lines are all answered, and the machine is that after them
-pub record IsAnswered (n cap : ℕ) (acts : List Act) (start : Machine) (held : Option (List ℕ))
+pub record IsAnswered (n cap : ℕ) (acts : List Act) (start : Machine) (out_before : Option (List ℕ))
     (lines : List (List ℕ)) (machine : Machine)
-    (holds : Option (List ℕ)) : Type 0 where
-  pub written : Appends held holds (answers n cap start acts lines)
+    (out_after : Option (List ℕ)) : Type 0 where
+  pub written : Appends out_before out_after (answers n cap start acts lines)
   pub machine_is : machine ≡ left n cap start acts lines
 
 -- some of the acts are run that stand between two places of a session
@@ -63,11 +63,11 @@ IsBeforeOrAmid n cap acts before (line ∷ lines) machine =
 
 -- so many bytes of the answers to these lines are written; some lines are done, and perhaps some acts of the next;
 -- the first byte that is not written answers one of those that are done, or the next
-pub record IsStopped (n cap : ℕ) (acts : List Act) (start : Machine) (held : Option (List ℕ))
+pub record IsStopped (n cap : ℕ) (acts : List Act) (start : Machine) (out_before : Option (List ℕ))
     (lines : List (List ℕ)) (machine : Machine)
-    (holds : Option (List ℕ)) (count : ℕ) : Type 0 where
+    (out_after : Option (List ℕ)) (count : ℕ) : Type 0 where
   pub within : count < length (answers n cap start acts lines)
-  pub written : Appends held holds (take count (answers n cap start acts lines))
+  pub written : Appends out_before out_after (take count (answers n cap start acts lines))
   pub done : List (List ℕ)
   pub undone : List (List ℕ)
   pub lines_are : lines ≡ done ++ undone
@@ -77,21 +77,21 @@ pub record IsStopped (n cap : ℕ) (acts : List Act) (start : Machine) (held : O
 -- a source that has this text gave these bytes, not more than the most,
 -- and the lines that ended in them are all answered
 pub record IsAnsweredSoFar (n cap : ℕ) (acts : List Act) (text : List ℕ) (rest : Option (List ℕ)) (start : Machine)
-    (held : Option (List ℕ))
-    (machine : Machine) (holds : Option (List ℕ)) : Type 0 where
+    (out_before : Option (List ℕ))
+    (machine : Machine) (out_after : Option (List ℕ)) : Type 0 where
   pub taken : List ℕ
   pub consumed : Consumes (Some text) rest taken
   pub within : length taken ≤ COMMANDS_LIMIT
-  pub answered : IsAnswered n cap acts start held (ended_lines taken) machine holds
+  pub answered : IsAnswered n cap acts start out_before (ended_lines taken) machine out_after
 
 -- some of these lines are done and their answers written, no byte more; and perhaps some acts of the next are run
-pub record IsAborted (n cap : ℕ) (acts : List Act) (start : Machine) (held : Option (List ℕ))
+pub record IsAborted (n cap : ℕ) (acts : List Act) (start : Machine) (out_before : Option (List ℕ))
     (lines : List (List ℕ)) (machine : Machine)
-    (holds : Option (List ℕ)) : Type 0 where
+    (out_after : Option (List ℕ)) : Type 0 where
   pub done : List (List ℕ)
   pub undone : List (List ℕ)
   pub lines_are : lines ≡ done ++ undone
-  pub written : Appends held holds (answers n cap start acts done)
+  pub written : Appends out_before out_after (answers n cap start acts done)
   pub machine_is : IsBeforeOrAmid n cap acts (session_after n cap acts start done) undone machine
 
 -- the lines of a text that are answered: all of them, or those that end within the most bytes
@@ -101,27 +101,27 @@ processed_lines text = if nat_le (length text) COMMANDS_LIMIT then lines_of text
 -- how a session ends whose source has this text, and has that left
 abbrev pub Ends : ℕ → ℕ → List Act → List ℕ → Option (List ℕ) → Machine → Option (List ℕ) → Machine → Option (List ℕ)
     → Result (Unit {0}) SessionFault → Type 0
-Ends n cap acts text rest start held machine holds (Ok done) =
-    (length text ≤ COMMANDS_LIMIT) × IsAnswered n cap acts start held (lines_of text) machine holds
-Ends n cap acts text rest start held machine holds (Err Read) =
-    IsAnsweredSoFar n cap acts text rest start held machine holds
-Ends n cap acts text rest start held machine holds (Err (Write count)) =
-    IsStopped n cap acts start held (processed_lines text) machine holds count
-Ends n cap acts text rest start held machine holds (Err TooMuch) =
-    (COMMANDS_LIMIT < length text) × IsAnswered n cap acts start held (ended_lines (take COMMANDS_LIMIT text)) machine holds
-Ends n cap acts text rest start held machine holds (Err Memory) =
-    IsAborted n cap acts start held (processed_lines text) machine holds
-Ends n cap acts text rest start held machine holds (Err NoThread) =
-    IsAborted n cap acts start held (processed_lines text) machine holds
+Ends n cap acts text rest start out_before machine out_after (Ok done) =
+    (length text ≤ COMMANDS_LIMIT) × IsAnswered n cap acts start out_before (lines_of text) machine out_after
+Ends n cap acts text rest start out_before machine out_after (Err Read) =
+    IsAnsweredSoFar n cap acts text rest start out_before machine out_after
+Ends n cap acts text rest start out_before machine out_after (Err (Write count)) =
+    IsStopped n cap acts start out_before (processed_lines text) machine out_after count
+Ends n cap acts text rest start out_before machine out_after (Err TooMuch) =
+    (COMMANDS_LIMIT < length text) × IsAnswered n cap acts start out_before (ended_lines (take COMMANDS_LIMIT text)) machine out_after
+Ends n cap acts text rest start out_before machine out_after (Err Memory) =
+    IsAborted n cap acts start out_before (processed_lines text) machine out_after
+Ends n cap acts text rest start out_before machine out_after (Err NoThread) =
+    IsAborted n cap acts start out_before (processed_lines text) machine out_after
 
 -- a source, of which this was left in the end, gave some text, and it ended so as of that text and nothing more; after Ok
 -- nothing is left. This can be said of a source that does not tell its bytes
 pub record EndsForSome (n cap : ℕ) (acts : List Act) (source rest : Option (List ℕ)) (start : Machine)
-    (held : Option (List ℕ)) (machine : Machine) (holds : Option (List ℕ)) (result : Result (Unit {0}) SessionFault)
+    (out_before : Option (List ℕ)) (machine : Machine) (out_after : Option (List ℕ)) (result : Result (Unit {0}) SessionFault)
     : Type 0 where
   pub text : List ℕ
   pub read : Consumes source rest text
-  pub ends : Ends n cap acts text (Some []) start held machine holds result
+  pub ends : Ends n cap acts text (Some []) start out_before machine out_after result
   pub end : OnOk result (IsAtEnd rest)
 
 -- it ended by a write

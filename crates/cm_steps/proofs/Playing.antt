@@ -75,7 +75,7 @@ by_itself-none exchange (suc left) world is = ap (with_rest (by_itself exchange 
 -- ---- on the way
 
 -- so many steps were taken, and what is told of them has gone out but for the rest
-pub record IsPlaying (exchange : Exchange) (start world : World) (held holds : Option (List ℕ)) (rest : List ℕ)
+pub record IsPlaying (exchange : Exchange) (start world : World) (out_before out_after : Option (List ℕ)) (rest : List ℕ)
     (steps sent : ℕ) : Type 0 where
   pub done : List Step
   pub left : ℕ
@@ -86,17 +86,17 @@ pub record IsPlaying (exchange : Exchange) (start world : World) (held holds : O
   pub all : done ++ by_itself exchange left world ≡ own_steps exchange start
   pub left_is : left + length done ≡ step_count exchange
   pub steps_are : steps ≡ length done
-  pub written : Appends held holds gone
+  pub written : Appends out_before out_after gone
   pub sent_is : sent ≡ length gone
   pub text_is : gone ++ rest ≡ flat_map step_line done
   pub few : sent ≤ steps * 2 ^ 64
   pub most : step_count exchange ≤ 2 ^ 40
 
 -- at first
-pub plays_first : (exchange : Exchange) (start : World) (held : Option (List ℕ)) (rest : List ℕ) (before : List Step)
+pub plays_first : (exchange : Exchange) (start : World) (out_before : Option (List ℕ)) (rest : List ℕ) (before : List Step)
     → IsReached exchange before start → rest ≡ [] → step_count exchange ≤ 2 ^ 40
-    → IsPlaying exchange start start held held rest 0 0
-plays_first exchange start held rest before reached none most = record {
+    → IsPlaying exchange start start out_before out_before rest 0 0
+plays_first exchange start out_before rest before reached none most = record {
   done = [];
   left = step_count exchange;
   gone = [];
@@ -106,7 +106,7 @@ plays_first exchange start held rest before reached none most = record {
   all = refl;
   left_is = omega arith;
   steps_are = refl;
-  written = Appends-nil held;
+  written = Appends-nil out_before;
   sent_is = refl;
   text_is = none;
   few = omega arith;
@@ -135,8 +135,8 @@ own_text-is : (exchange : Exchange) (start : World) → own_text exchange start
 unfolding own_text
 own_text-is exchange start = refl
 
-module _ (exchange : Exchange) (is : HasItsKinds exchange) (start world : World) (held holds : Option (List ℕ))
-    (rest : List ℕ) (steps sent : ℕ) (mid : IsPlaying exchange start world held holds rest steps sent) where
+module _ (exchange : Exchange) (is : HasItsKinds exchange) (start world : World) (out_before out_after : Option (List ℕ))
+    (rest : List ℕ) (steps sent : ℕ) (mid : IsPlaying exchange start world out_before out_after rest steps sent) where
   pub steps_few : steps ≤ 2 ^ 40
   steps_few = let m = mid.most in omega (arith, m, mid.left_is, mid.steps_are)
 
@@ -157,8 +157,8 @@ module _ (exchange : Exchange) (is : HasItsKinds exchange) (start world : World)
     -- a step more
     pub plays_on : (new : World) (on : Option (List ℕ)) (kept : List ℕ) (now : ℕ) → is_possible exchange world step ≡ true
         → new ≡ world_after exchange world step → now < sent + 2 ^ 64
-        → HasSentFront (rest ++ step_line step) sent holds on kept now
-        → IsPlaying exchange start new held on kept (steps + 1) now
+        → HasSentFront (rest ++ step_line step) sent out_after on kept now
+        → IsPlaying exchange start new out_before on kept (steps + 1) now
     plays_on new on kept now possible goes few has = record {
       done = mid.done ++ step ∷ [];
       left = mid.left - 1;
@@ -172,7 +172,7 @@ module _ (exchange : Exchange) (is : HasItsKinds exchange) (start world : World)
           ∙ ap (λ (w : World). mid.done ++ step ∷ by_itself exchange (mid.left - 1) w) goes ∙ own;
       left_is = omega (arith, some, mid.left_is, length-append mid.done (step ∷ []));
       steps_are = omega (arith, mid.steps_are, length-append mid.done (step ∷ []));
-      written = Appends-trans held holds on mid.gone has.gone mid.written has.written;
+      written = Appends-trans out_before out_after on mid.gone has.gone mid.written has.written;
       sent_is = omega (arith, has.count_is, mid.sent_is, length-append mid.gone has.gone);
       text_is = append_assoc mid.gone has.gone kept ∙ ap (λ (xs : List ℕ). mid.gone ++ xs) (sym has.text_is)
           ∙ sym (append_assoc mid.gone rest (step_line step)) ∙ ap (λ (xs : List ℕ). xs ++ step_line step) mid.text_is
@@ -182,8 +182,8 @@ module _ (exchange : Exchange) (is : HasItsKinds exchange) (start world : World)
     }
 
     -- it breaks off
-    pub plays_cut : (on : Option (List ℕ)) (fault : WeaveFault) → TextAborts (rest ++ step_line step) sent holds on fault
-        → IsWrittenInPart (own_text exchange start) held on fault
+    pub plays_cut : (on : Option (List ℕ)) (fault : WeaveFault) → TextAborts (rest ++ step_line step) sent out_after on fault
+        → IsWrittenInPart (own_text exchange start) out_before on fault
     plays_cut on fault breaks =
         let others : List Step = by_itself exchange (mid.left - 1) (world_after exchange world step) in
         let tail : List ℕ = end_text (length (own_steps exchange start)) in
@@ -195,14 +195,14 @@ module _ (exchange : Exchange) (is : HasItsKinds exchange) (start world : World)
         own_text-is exchange start ∙ ap (λ (xs : List ℕ). xs ++ tail) (lines
         ∙ ap (λ (xs : List ℕ). xs ++ (step_line step ++ flat_map step_line others)) (sym mid.text_is))
         ∙ parts mid.gone rest (step_line step) (flat_map step_line others) tail in
-        cut_text (own_text exchange start) mid.gone (rest ++ step_line step) more held holds on sent fault mid.written
+        cut_text (own_text exchange start) mid.gone (rest ++ step_line step) more out_before out_after on sent fault mid.written
         mid.sent_is whole breaks where
           parts : (a b c d e : List ℕ) → ((a ++ b) ++ (c ++ d)) ++ e ≡ a ++ ((b ++ c) ++ (d ++ e))
           parts a b c d e = simp append_assoc
 
   -- there is no step
   pub has_played : IsFinished exchange world → next_step exchange world ≡ None
-      → HasPlayed exchange start world held holds rest steps sent
+      → HasPlayed exchange start world out_before out_after rest steps sent
   has_played finished next =
       let own : mid.done ≡ own_steps exchange start =
       sym (append-nil mid.done) ∙ ap (λ (xs : List Step). mid.done ++ xs) (sym (by_itself-none exchange mid.left world next))
@@ -218,7 +218,7 @@ module _ (exchange : Exchange) (is : HasItsKinds exchange) (start world : World)
 
   -- whatever is said of it
   pub has_played_out : (next : Option Step) → next ≡ next_step exchange world → IsNone next ↔ IsFinished exchange world
-      → ((step : Step) → next ≡ Some step → ⊥) → HasPlayed exchange start world held holds rest steps sent
+      → ((step : Step) → next ≡ Some step → ⊥) → HasPlayed exchange start world out_before out_after rest steps sent
   has_played_out None is finished other = has_played (finished.0 refl) (sym is)
   has_played_out (Some step) is finished other = absurd (other step refl)
 
@@ -234,27 +234,27 @@ few_in_run n cap woven way =
 
 -- ---- at the end
 
-module _ (exchange : Exchange) (start world : World) (held holds : Option (List ℕ)) (rest : List ℕ) (steps sent : ℕ)
-    (has : HasPlayed exchange start world held holds rest steps sent) where
+module _ (exchange : Exchange) (start world : World) (out_before out_after : Option (List ℕ)) (rest : List ℕ) (steps sent : ℕ)
+    (has : HasPlayed exchange start world out_before out_after rest steps sent) where
   whole : own_text exchange start ≡ has.gone ++ (rest ++ end_text steps)
   whole = own_text-is exchange start
       ∙ (λ i. sym has.text_is i ++ end_text (sym has.steps_are i)) ∙ append_assoc has.gone rest (end_text steps)
 
   -- all is told
   pub plays_told : (text : List ℕ) (on : Option (List ℕ)) (now : ℕ) → text ≡ rest ++ end_text steps
-      → HasSentFront text sent holds on [] now → Appends held on (own_text exchange start)
+      → HasSentFront text sent out_after on [] now → Appends out_before on (own_text exchange start)
   plays_told text on now is goes =
       let last : goes.gone ≡ rest ++ end_text steps = sym (append-nil goes.gone) ∙ sym goes.text_is ∙ is in
-      subst (Appends held on) (ap (λ (xs : List ℕ). has.gone ++ xs) last ∙ sym whole)
-      (Appends-trans held holds on has.gone goes.gone has.written goes.written)
+      subst (Appends out_before on) (ap (λ (xs : List ℕ). has.gone ++ xs) last ∙ sym whole)
+      (Appends-trans out_before out_after on has.gone goes.gone has.written goes.written)
 
   -- it is cut
   pub plays_cut_at_end : (text : List ℕ) (on : Option (List ℕ)) (fault : WeaveFault) → text ≡ rest ++ end_text steps
-      → TextAborts text sent holds on fault → IsWrittenInPart (own_text exchange start) held on fault
+      → TextAborts text sent out_after on fault → IsWrittenInPart (own_text exchange start) out_before on fault
   plays_cut_at_end text on fault is breaks =
-      cut_text (own_text exchange start) has.gone text [] held holds on sent fault has.written has.sent_is
+      cut_text (own_text exchange start) has.gone text [] out_before out_after on sent fault has.written has.sent_is
       (whole ∙ ap (λ (xs : List ℕ). has.gone ++ xs) (sym is ∙ sym (append-nil text))) breaks
 
   -- there is no memory for the end
-  pub plays_without_end : IsWrittenInPart (own_text exchange start) held holds Memory
-  plays_without_end = plays_cut_at_end (rest ++ end_text steps) holds Memory refl (Appends-nil holds)
+  pub plays_without_end : IsWrittenInPart (own_text exchange start) out_before out_after Memory
+  plays_without_end = plays_cut_at_end (rest ++ end_text steps) out_after Memory refl (Appends-nil out_after)

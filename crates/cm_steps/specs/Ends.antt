@@ -50,69 +50,69 @@ answer_text exchange start text = world_answers exchange start (processed_step_l
 -- ---- ends
 
 -- so many bytes of a text are written, not all
-pub record IsShortWrite (text : List ℕ) (held holds : Option (List ℕ)) (count : ℕ) : Type 0 where
+pub record IsShortWrite (text : List ℕ) (out_before out_after : Option (List ℕ)) (count : ℕ) : Type 0 where
   pub within : count < length text
-  pub written : Appends held holds (take count text)
+  pub written : Appends out_before out_after (take count text)
 
 -- some bytes of a text are written
-pub record IsPartWritten (text : List ℕ) (held holds : Option (List ℕ)) : Type 0 where
+pub record IsPartWritten (text : List ℕ) (out_before out_after : Option (List ℕ)) : Type 0 where
   pub count : ℕ
   pub within : count ≤ length text
-  pub written : Appends held holds (take count text)
+  pub written : Appends out_before out_after (take count text)
 
 -- a source that has this text gave these bytes, not more than the most, and the answers to the lines that ended in them
 -- are written
 pub record IsAnsweredSoFar (exchange : Exchange) (text : List ℕ) (rest : Option (List ℕ)) (start : World)
-    (held holds : Option (List ℕ)) : Type 0 where
+    (out_before out_after : Option (List ℕ)) : Type 0 where
   pub taken : List ℕ
   pub consumed : Consumes (Some text) rest taken
   pub within : length taken ≤ STEPS_LIMIT
-  pub written : Appends held holds (world_answers exchange start (ended_lines taken))
+  pub written : Appends out_before out_after (world_answers exchange start (ended_lines taken))
 
 -- all lines of a text are answered, and the last line told
-pub record IsAnsweredToEnd (exchange : Exchange) (text : List ℕ) (start : World) (last : List ℕ) (held holds : Option (List ℕ))
+pub record IsAnsweredToEnd (exchange : Exchange) (text : List ℕ) (start : World) (last : List ℕ) (out_before out_after : Option (List ℕ))
     : Type 0 where
   pub within : length text ≤ STEPS_LIMIT
-  pub written : Appends held holds (world_answers exchange start (lines_of text) ++ last)
+  pub written : Appends out_before out_after (world_answers exchange start (lines_of text) ++ last)
 
 -- a text is written in part: it was cut by a write, or for want of memory
 abbrev pub IsWrittenInPart : List ℕ → Option (List ℕ) → Option (List ℕ) → WeaveFault → Type 0
-IsWrittenInPart text held holds (Write count) = IsShortWrite text held holds count
-IsWrittenInPart text held holds Memory = IsPartWritten text held holds
-IsWrittenInPart text held holds Read = ⊥
-IsWrittenInPart text held holds TooMuch = ⊥
-IsWrittenInPart text held holds Unfinished = ⊥
+IsWrittenInPart text out_before out_after (Write count) = IsShortWrite text out_before out_after count
+IsWrittenInPart text out_before out_after Memory = IsPartWritten text out_before out_after
+IsWrittenInPart text out_before out_after Read = ⊥
+IsWrittenInPart text out_before out_after TooMuch = ⊥
+IsWrittenInPart text out_before out_after Unfinished = ⊥
 
 -- how a session ends finished whose source has this text
-pub record EndsFinished (exchange : Exchange) (text : List ℕ) (start : World) (held holds : Option (List ℕ))
+pub record EndsFinished (exchange : Exchange) (text : List ℕ) (start : World) (out_before out_after : Option (List ℕ))
     : Type 0 where
   pub finished : IsFinished exchange (world_left exchange start (lines_of text))
-  pub told : IsAnsweredToEnd exchange text start finished_line held holds
+  pub told : IsAnsweredToEnd exchange text start finished_line out_before out_after
 
 -- how it ends by a fault, where that is left of the source
 abbrev pub EndsBy : Exchange → List ℕ → Option (List ℕ) → World → Option (List ℕ) → Option (List ℕ) → WeaveFault
     → Type 0
-EndsBy exchange text rest start held holds Read = IsAnsweredSoFar exchange text rest start held holds
-EndsBy exchange text rest start held holds (Write count) =
-    IsWrittenInPart (answer_text exchange start text) held holds (Write count)
-EndsBy exchange text rest start held holds TooMuch =
-    (STEPS_LIMIT < length text) × Appends held holds (world_answers exchange start (ended_lines (take STEPS_LIMIT text)))
-EndsBy exchange text rest start held holds Memory =
-    IsWrittenInPart (answer_text exchange start text) held holds Memory
-EndsBy exchange text rest start held holds Unfinished =
+EndsBy exchange text rest start out_before out_after Read = IsAnsweredSoFar exchange text rest start out_before out_after
+EndsBy exchange text rest start out_before out_after (Write count) =
+    IsWrittenInPart (answer_text exchange start text) out_before out_after (Write count)
+EndsBy exchange text rest start out_before out_after TooMuch =
+    (STEPS_LIMIT < length text) × Appends out_before out_after (world_answers exchange start (ended_lines (take STEPS_LIMIT text)))
+EndsBy exchange text rest start out_before out_after Memory =
+    IsWrittenInPart (answer_text exchange start text) out_before out_after Memory
+EndsBy exchange text rest start out_before out_after Unfinished =
     (IsFinished exchange (world_left exchange start (lines_of text)) → ⊥)
-    × IsAnsweredToEnd exchange text start unfinished_line held holds
+    × IsAnsweredToEnd exchange text start unfinished_line out_before out_after
 
 -- it ends finished so for some text: this can be said of a source that does not tell its bytes
-pub record EndsFinishedForSome (exchange : Exchange) (start : World) (held holds : Option (List ℕ)) : Type 0 where
+pub record EndsFinishedForSome (exchange : Exchange) (start : World) (out_before out_after : Option (List ℕ)) : Type 0 where
   pub text : List ℕ
-  pub ends : EndsFinished exchange text start held holds
+  pub ends : EndsFinished exchange text start out_before out_after
 
 -- and so by a fault, where all of that text was read
-pub record EndsByForSome (exchange : Exchange) (start : World) (held holds : Option (List ℕ)) (fault : WeaveFault)
+pub record EndsByForSome (exchange : Exchange) (start : World) (out_before out_after : Option (List ℕ)) (fault : WeaveFault)
     : Type 0 where
   pub text : List ℕ
-  pub ends : EndsBy exchange text (Some []) start held holds fault
+  pub ends : EndsBy exchange text (Some []) start out_before out_after fault
 
 -- it ended by a write
 abbrev pub is_weave_write : {M : Type 0} → Result M WeaveFault → Bool

@@ -54,57 +54,57 @@ at_start world = record { world = world; line = []; answers = [] }
 
 -- these bytes were heard, and their answers written behind so many bytes
 pub record HasHeard (exchange : Exchange) (old new : World) (line kept piece : List ℕ) (sent : ℕ)
-    (held holds : Option (List ℕ)) (now : ℕ) : Type 0 where
+    (out_before out_after : Option (List ℕ)) (now : ℕ) : Type 0 where
   pub world_is : new ≡ (processed exchange (record { world = old; line = line; answers = [] }) piece).world
   pub line_is : kept ≡ (processed exchange (record { world = old; line = line; answers = [] }) piece).line
-  pub written : Appends held holds (processed exchange (record { world = old; line = line; answers = [] }) piece).answers
+  pub written : Appends out_before out_after (processed exchange (record { world = old; line = line; answers = [] }) piece).answers
   pub count_is : now
       ≡ sent + length (processed exchange (record { world = old; line = line; answers = [] }) piece).answers
 
 -- ---- text as it goes
 
 -- of a text a front went out, behind so many bytes, and the rest is kept
-pub record HasSentFront (text : List ℕ) (sent : ℕ) (held holds : Option (List ℕ)) (rest : List ℕ) (now : ℕ) : Type 0 where
+pub record HasSentFront (text : List ℕ) (sent : ℕ) (out_before out_after : Option (List ℕ)) (rest : List ℕ) (now : ℕ) : Type 0 where
   pub gone : List ℕ
-  pub written : Appends held holds gone
+  pub written : Appends out_before out_after gone
   pub text_is : text ≡ gone ++ rest
   pub count_is : now ≡ sent + length gone
 
 -- of a text a front went out, behind so many bytes, and no more
-pub record IsShortWriteBehind (text : List ℕ) (sent : ℕ) (held holds : Option (List ℕ)) (count : ℕ) : Type 0 where
+pub record IsShortWriteBehind (text : List ℕ) (sent : ℕ) (out_before out_after : Option (List ℕ)) (count : ℕ) : Type 0 where
   pub part : ℕ
   pub count_is : count ≡ sent + part
   pub within : part < length text
-  pub written : Appends held holds (take part text)
+  pub written : Appends out_before out_after (take part text)
 
 -- how a text breaks off: cut by a write, or nothing of it went out
 abbrev pub TextAborts : List ℕ → ℕ → Option (List ℕ) → Option (List ℕ) → WeaveFault → Type 0
-TextAborts text sent held holds (Write count) = IsShortWriteBehind text sent held holds count
-TextAborts text sent held holds Memory = Appends held holds []
-TextAborts text sent held holds Read = ⊥
-TextAborts text sent held holds TooMuch = ⊥
-TextAborts text sent held holds Unfinished = ⊥
+TextAborts text sent out_before out_after (Write count) = IsShortWriteBehind text sent out_before out_after count
+TextAborts text sent out_before out_after Memory = Appends out_before out_after []
+TextAborts text sent out_before out_after Read = ⊥
+TextAborts text sent out_before out_after TooMuch = ⊥
+TextAborts text sent out_before out_after Unfinished = ⊥
 
 -- all lines of a text are answered by so many bytes, and the world is that after them
-pub record IsHeard (exchange : Exchange) (text : List ℕ) (start : World) (held : Option (List ℕ)) (world : World)
-    (holds : Option (List ℕ)) (sent : ℕ) : Type 0 where
+pub record IsHeard (exchange : Exchange) (text : List ℕ) (start : World) (out_before : Option (List ℕ)) (world : World)
+    (out_after : Option (List ℕ)) (sent : ℕ) : Type 0 where
   pub within : length text ≤ STEPS_LIMIT
   pub world_is : world ≡ world_left exchange start (lines_of text)
-  pub written : Appends held holds (world_answers exchange start (lines_of text))
+  pub written : Appends out_before out_after (world_answers exchange start (lines_of text))
   pub sent_is : sent ≡ length (world_answers exchange start (lines_of text))
 
 -- so it is of some text
-pub record IsHeardForSome (exchange : Exchange) (start : World) (held : Option (List ℕ)) (world : World)
-    (holds : Option (List ℕ)) (sent : ℕ) : Type 0 where
+pub record IsHeardForSome (exchange : Exchange) (start : World) (out_before : Option (List ℕ)) (world : World)
+    (out_after : Option (List ℕ)) (sent : ℕ) : Type 0 where
   pub text : List ℕ
-  pub is : IsHeard exchange text start held world holds sent
+  pub is : IsHeard exchange text start out_before world out_after sent
 
 -- a world took all its own steps and is finished: so many, of which so many bytes went out, and the rest is kept
-pub record HasPlayed (exchange : Exchange) (start world : World) (held holds : Option (List ℕ)) (rest : List ℕ)
+pub record HasPlayed (exchange : Exchange) (start world : World) (out_before out_after : Option (List ℕ)) (rest : List ℕ)
     (steps sent : ℕ) : Type 0 where
   pub finished : IsFinished exchange world
   pub gone : List ℕ
-  pub written : Appends held holds gone
+  pub written : Appends out_before out_after gone
   pub text_is : gone ++ rest ≡ flat_map step_line (own_steps exchange start)
   pub sent_is : sent ≡ length gone
   pub steps_are : steps ≡ length (own_steps exchange start)

@@ -58,11 +58,11 @@ same_none {A} {B} {E} {P} {a} {b} {g} h =
 -- how an exchange ended that heard a file of steps, whatever machine it left
 pub hears_so : {F M : Type 0} (reads : Reads F) (exchange : Exchange) (first : World) (file after : F) (out : Outgoing)
     (r : Result M WeaveFault)
-    → (IsOk r → IfSome (reads.left file) (λ text. EndsFinished exchange text first out.held out.holds))
+    → (IsOk r → IfSome (reads.left file) (λ text. EndsFinished exchange text first out.out_before out.out_after))
     → IfErr r (λ fault. IfSome (reads.left file)
-    (λ text. EndsBy exchange text (reads.left after) first out.held out.holds fault))
-    → MatchResult r (λ _. EndsFinishedForSome exchange first out.held out.holds)
-    (EndsByForSome exchange first out.held out.holds)
+    (λ text. EndsBy exchange text (reads.left after) first out.out_before out.out_after fault))
+    → MatchResult r (λ _. EndsFinishedForSome exchange first out.out_before out.out_after)
+    (EndsByForSome exchange first out.out_before out.out_after)
     → (reads.has_failed after ≡ true) ↔ IsErrOf r weave.Read → HearsSteps reads exchange first file out (ended_of r)
 hears_so reads exchange first file after out (Ok machine) finished err heard read =
     record { after = after; ends = finished refl; heard = heard; read = same_none read }
@@ -71,7 +71,7 @@ hears_so reads exchange first file after out (Err fault) finished err heard read
 
 -- and one that went by itself
 pub tells_so : {M : Type 0} (exchange : Exchange) (first : World) (out : Outgoing) (r : Result M WeaveFault)
-    → (IsOk r → Appends out.held out.holds (own_text exchange first))
-    → IfErr r (IsWrittenInPart (own_text exchange first) out.held out.holds) → EndsByItself exchange first out (ended_of r)
+    → (IsOk r → Appends out.out_before out.out_after (own_text exchange first))
+    → IfErr r (IsWrittenInPart (own_text exchange first) out.out_before out.out_after) → EndsByItself exchange first out (ended_of r)
 tells_so exchange first out (Ok machine) whole err = whole refl
 tells_so exchange first out (Err fault) whole err = err

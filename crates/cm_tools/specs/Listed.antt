@@ -28,47 +28,47 @@ HasNoListing text Memory = HasProgram text
 HasNoListing text _ = ⊥
 
 -- the whole listing was written
-pub record IsListed (text : List ℕ) (held holds : Option (List ℕ)) : Type 0 where
+pub record IsListed (text : List ℕ) (out_before out_after : Option (List ℕ)) : Type 0 where
   pub within : length text ≤ PROGRAM_LIMIT
   pub bytes : List ℕ
   pub is : IsListingOf text bytes
-  pub written : Appends held holds bytes
+  pub written : Appends out_before out_after bytes
 
 -- only the first bytes of the listing were written
-pub record IsListedInPart (text : List ℕ) (held holds : Option (List ℕ)) : Type 0 where
+pub record IsListedInPart (text : List ℕ) (out_before out_after : Option (List ℕ)) : Type 0 where
   pub within : length text ≤ PROGRAM_LIMIT
   pub bytes : List ℕ
   pub is : IsListingOf text bytes
-  pub front : HasFront held holds bytes
+  pub front : HasFront out_before out_after bytes
 
 -- the text is refused, and nothing was written
-pub record IsNotListed (text : List ℕ) (held holds : Option (List ℕ)) (fault : AsmFault) : Type 0 where
+pub record IsNotListed (text : List ℕ) (out_before out_after : Option (List ℕ)) (fault : AsmFault) : Type 0 where
   pub within : length text ≤ PROGRAM_LIMIT
   pub is : IsFaultOf text fault
-  pub nothing : Keeps held holds
+  pub nothing : Keeps out_before out_after
 
 -- the text is too long, and nothing was written
-pub record IsTooLongToList (text : List ℕ) (held holds : Option (List ℕ)) : Type 0 where
+pub record IsTooLongToList (text : List ℕ) (out_before out_after : Option (List ℕ)) : Type 0 where
   pub beyond : PROGRAM_LIMIT < length text
-  pub nothing : Keeps held holds
+  pub nothing : Keeps out_before out_after
 
 -- how the listing of a source that has this text ends
 abbrev pub EndsListing : List ℕ → Option (List ℕ) → Option (List ℕ) → Result (Unit {0}) ProgramFault → Type 0
-EndsListing text held holds (Ok done) = IsListed text held holds
-EndsListing text held holds (Err (Text fault)) = IsNotListed text held holds fault
-EndsListing text held holds (Err Read) = Keeps held holds
-EndsListing text held holds (Err Write) = IsListedInPart text held holds
-EndsListing text held holds (Err TooMuch) = IsTooLongToList text held holds
-EndsListing text held holds (Err Memory) = Keeps held holds
-EndsListing text held holds _ = ⊥
+EndsListing text out_before out_after (Ok done) = IsListed text out_before out_after
+EndsListing text out_before out_after (Err (Text fault)) = IsNotListed text out_before out_after fault
+EndsListing text out_before out_after (Err Read) = Keeps out_before out_after
+EndsListing text out_before out_after (Err Write) = IsListedInPart text out_before out_after
+EndsListing text out_before out_after (Err TooMuch) = IsTooLongToList text out_before out_after
+EndsListing text out_before out_after (Err Memory) = Keeps out_before out_after
+EndsListing text out_before out_after _ = ⊥
 
 -- a source, of which that is left in the end, gave some text, and it ended so as of that text and nothing more: this can
 -- be said of a source that does not tell its bytes
-pub record EndsListingForSome (source rest held holds : Option (List ℕ)) (result : Result (Unit {0}) ProgramFault)
+pub record EndsListingForSome (source rest out_before out_after : Option (List ℕ)) (result : Result (Unit {0}) ProgramFault)
     : Type 0 where
   pub text : List ℕ
   pub read : Consumes source rest text
-  pub ends : EndsListing text held holds result
+  pub ends : EndsListing text out_before out_after result
 
 -- it ended by a write
 abbrev pub is_listing_write : Result (Unit {0}) ProgramFault → Bool

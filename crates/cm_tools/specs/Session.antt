@@ -30,46 +30,46 @@ abbrev pub answer_of : List ℕ → Result (List ℕ) AsmFault
 answer_of text = answer_to (nanos_of text)
 
 -- the whole answer was written
-pub record IsAnswered (text : List ℕ) (held holds : Option (List ℕ)) : Type 0 where
+pub record IsAnswered (text : List ℕ) (out_before out_after : Option (List ℕ)) : Type 0 where
   pub within : length text ≤ CHIP_LIMIT
   pub answer : List ℕ
   pub is : answer_of text ≡ Ok answer
-  pub written : Appends held holds answer
+  pub written : Appends out_before out_after answer
 
 -- only the first bytes of the answer were written
-pub record IsWrittenShort (text : List ℕ) (held holds : Option (List ℕ)) (count : ℕ) : Type 0 where
+pub record IsWrittenShort (text : List ℕ) (out_before out_after : Option (List ℕ)) (count : ℕ) : Type 0 where
   pub within : length text ≤ CHIP_LIMIT
   pub answer : List ℕ
   pub is : answer_of text ≡ Ok answer
   pub short : count < length answer
-  pub written : Appends held holds (take count answer)
+  pub written : Appends out_before out_after (take count answer)
 
 -- the text is refused, and nothing was written
-pub record IsTextRefused (text : List ℕ) (held holds : Option (List ℕ)) (fault : AsmFault) : Type 0 where
+pub record IsTextRefused (text : List ℕ) (out_before out_after : Option (List ℕ)) (fault : AsmFault) : Type 0 where
   pub within : length text ≤ CHIP_LIMIT
   pub is : IsChipFaultOf text fault
-  pub nothing : Keeps held holds
+  pub nothing : Keeps out_before out_after
 
 -- the text is too long, and nothing was written
-pub record IsTooLong (text : List ℕ) (held holds : Option (List ℕ)) : Type 0 where
+pub record IsTooLong (text : List ℕ) (out_before out_after : Option (List ℕ)) : Type 0 where
   pub beyond : CHIP_LIMIT < length text
-  pub nothing : Keeps held holds
+  pub nothing : Keeps out_before out_after
 
 -- how a session ends whose source has this text
 abbrev pub ChipSessionEnds : List ℕ → Option (List ℕ) → Option (List ℕ) → Result (Unit {0}) ChipFault → Type 0
-ChipSessionEnds text held holds (Ok done) = IsAnswered text held holds
-ChipSessionEnds text held holds (Err (Text fault)) = IsTextRefused text held holds fault
-ChipSessionEnds text held holds (Err Read) = Keeps held holds
-ChipSessionEnds text held holds (Err (Write count)) = IsWrittenShort text held holds count
-ChipSessionEnds text held holds (Err TooMuch) = IsTooLong text held holds
-ChipSessionEnds text held holds (Err Memory) = Keeps held holds
+ChipSessionEnds text out_before out_after (Ok done) = IsAnswered text out_before out_after
+ChipSessionEnds text out_before out_after (Err (Text fault)) = IsTextRefused text out_before out_after fault
+ChipSessionEnds text out_before out_after (Err Read) = Keeps out_before out_after
+ChipSessionEnds text out_before out_after (Err (Write count)) = IsWrittenShort text out_before out_after count
+ChipSessionEnds text out_before out_after (Err TooMuch) = IsTooLong text out_before out_after
+ChipSessionEnds text out_before out_after (Err Memory) = Keeps out_before out_after
 
 -- a source, of which that is left in the end, gave some text, and it ended so as of that text and nothing more: this can
 -- be said of a source that does not tell its bytes
-pub record EndsForSome (source rest held holds : Option (List ℕ)) (result : Result (Unit {0}) ChipFault) : Type 0 where
+pub record EndsForSome (source rest out_before out_after : Option (List ℕ)) (result : Result (Unit {0}) ChipFault) : Type 0 where
   pub text : List ℕ
   pub read : Consumes source rest text
-  pub ends : ChipSessionEnds text held holds result
+  pub ends : ChipSessionEnds text out_before out_after result
 
 -- the session ended by a write
 abbrev pub is_chip_write : Result (Unit {0}) ChipFault → Bool

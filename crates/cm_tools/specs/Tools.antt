@@ -31,44 +31,44 @@ chip_end (Err fault) = Err (of_chip fault)
 pub record IsChipTrace {F P : Type 0} (streams : Streams) (result : Result (Unit {0}) ProgramFault)
     (trace : List (IoEvent F P)) : Type 0 where
   pub ended : Result (Unit {0}) ChipFault
-  pub ends : IfSome streams.lines (λ text. ChipSessionEnds text streams.held streams.holds ended)
-  pub heard : EndsForSome streams.lines streams.rest streams.held streams.holds ended
+  pub ends : IfSome streams.lines (λ text. ChipSessionEnds text streams.out_before streams.out_after ended)
+  pub heard : EndsForSome streams.lines streams.rest streams.out_before streams.out_after ended
   pub end : IsTrue (has_heard_all ended) → IsAtEnd streams.rest
   pub read : (streams.read_failed ≡ true) ↔ IsErrOf ended chip.Read
   pub read_within : IsErrOf ended chip.Read → ConsumesAtMost CHIP_LIMIT streams.lines streams.rest
   pub memory_within : IsErrOf ended chip.Memory → ConsumesAtMost CHIP_LIMIT streams.lines streams.rest
   pub write : streams.write_failed ≡ is_chip_write ended
-  pub then : Flushes streams.holds (chip_end ended) result trace
+  pub then : Flushes streams.out_after (chip_end ended) result trace
 
 -- a program's file is open: its listing is written, and standard output goes out
-pub record ListsOut {F P : Type 0} (reads : Reads F) (file : F) (held holds : Option (List ℕ)) (failed : Bool)
+pub record ListsOut {F P : Type 0} (reads : Reads F) (file : F) (out_before out_after : Option (List ℕ)) (failed : Bool)
     (result : Result (Unit {0}) ProgramFault) (trace : List (IoEvent F P)) : Type 0 where
   pub after : F
   pub ended : Result (Unit {0}) ProgramFault
-  pub ends : IfSome (reads.left file) (λ text. EndsListing text held holds ended)
-  pub heard : EndsListingForSome (reads.left file) (reads.left after) held holds ended
+  pub ends : IfSome (reads.left file) (λ text. EndsListing text out_before out_after ended)
+  pub heard : EndsListingForSome (reads.left file) (reads.left after) out_before out_after ended
   pub end : IsTrue (has_read_all ended) → IsAtEnd (reads.left after)
   pub read : (reads.has_failed after ≡ true) ↔ IsErrOf ended Read
   pub read_within : IsErrOf ended Read → ConsumesAtMost PROGRAM_LIMIT (reads.left file) (reads.left after)
   pub memory_within : IsErrOf ended Memory → ConsumesAtMost PROGRAM_LIMIT (reads.left file) (reads.left after)
   pub write : failed ≡ is_listing_write ended
-  pub then : Flushes holds ended result trace
+  pub then : Flushes out_after ended result trace
 
 -- the same of a file that was to be opened
 abbrev pub Lists : {F P : Type 0} → Reads F → Result F Failed → Option (List ℕ) → Option (List ℕ) → Bool
     → Result (Unit {0}) ProgramFault → List (IoEvent F P) → Type 0
-Lists reads (Ok file) held holds failed result trace = ListsOut reads file held holds failed result trace
-Lists reads (Err none) held holds failed result trace =
-    (trace ≡ []) × (result ≡ Err Read) × (holds ≡ held) × (failed ≡ false)
+Lists reads (Ok file) out_before out_after failed result trace = ListsOut reads file out_before out_after failed result trace
+Lists reads (Err none) out_before out_after failed result trace =
+    (trace ≡ []) × (result ≡ Err Read) × (out_after ≡ out_before) × (failed ≡ false)
 
 -- `list`: a program's file is opened, and its listing goes to a sink, which held this and holds that, and has failed or
 -- not
-pub record IsListTrace {F P : Type 0} (reads : Reads F) (path : List ℕ) (held holds : Option (List ℕ)) (failed : Bool)
+pub record IsListTrace {F P : Type 0} (reads : Reads F) (path : List ℕ) (out_before out_after : Option (List ℕ)) (failed : Bool)
     (result : Result (Unit {0}) ProgramFault) (trace : List (IoEvent F P)) : Type 0 where
   pub file : Result F Failed
   pub more : List (IoEvent F P)
   pub did : trace ≡ Opened path file ∷ more
-  pub then : Lists reads file held holds failed result more
+  pub then : Lists reads file out_before out_after failed result more
 
 -- the image of a blank machine, or why there is none
 pub record IsBlankImage (n cap : ℕ) (made : Result (Vec ℕ Global) ProgramFault) : Type 0 where

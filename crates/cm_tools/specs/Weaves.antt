@@ -21,7 +21,7 @@ use Rattle.cm_tools.specs.Weaving.{Outgoing, IsWoven}
 
 -- nothing was written
 abbrev pub IsSilent : Outgoing → Type 0
-IsSilent out = (out.holds ≡ out.held) × (out.failed ≡ false)
+IsSilent out = (out.out_after ≡ out.out_before) × (out.failed ≡ false)
 
 -- the deeds open the file of steps, if one is named
 abbrev pub OpensSteps : {F P : Type 0} → Option (List ℕ) → Option F → List (IoEvent F P) → Type 0
@@ -86,7 +86,7 @@ pub record Exchanges {F P : Type 0} (reads : Reads F) (line : WeaveLine) (n cap 
   pub opens : OpensEnds line file part first
   pub ran : Result (Option (List ℕ)) ProgramFault
   pub is : IsWoven reads n cap woven file (is_some part) out ran
-  pub closes : FinishesOutput part out.holds ran result second
+  pub closes : FinishesOutput part out.out_after ran result second
 
 -- what is done with a world
 abbrev pub WeavesWorld : {F P : Type 0} → Reads F → WeaveLine → ℕ → ℕ → Woven → Outgoing

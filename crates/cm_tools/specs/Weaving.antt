@@ -17,13 +17,13 @@ use Rattle.cm_outside.specs.OutputFiles.{KeepsImage}
 
 -- what standard output held and holds, and whether it has failed
 pub record Outgoing : Type 0 where
-  pub held : Option (List ℕ)
-  pub holds : Option (List ℕ)
+  pub out_before : Option (List ℕ)
+  pub out_after : Option (List ℕ)
   pub failed : Bool
 
 -- the same of its parts
 abbrev pub outgoing_of : Option (List ℕ) → Option (List ℕ) → Bool → Outgoing
-outgoing_of held holds failed = record { held = held; holds = holds; failed = failed }
+outgoing_of out_before out_after failed = record { out_before = out_before; out_after = out_after; failed = failed }
 
 -- how an exchange ended, whatever machine it left
 abbrev pub ended_of : {M : Type 0} → Result M WeaveFault → Result (Unit {0}) WeaveFault
@@ -32,18 +32,18 @@ ended_of (Err fault) = Err fault
 
 -- an exchange ends so by the lines of this text
 abbrev pub EndsBySteps : Exchange → World → List ℕ → Option (List ℕ) → Outgoing → Result (Unit {0}) WeaveFault → Type 0
-EndsBySteps exchange world text rest out (Ok done) = EndsFinished exchange text world out.held out.holds
-EndsBySteps exchange world text rest out (Err fault) = EndsBy exchange text rest world out.held out.holds fault
+EndsBySteps exchange world text rest out (Ok done) = EndsFinished exchange text world out.out_before out.out_after
+EndsBySteps exchange world text rest out (Err fault) = EndsBy exchange text rest world out.out_before out.out_after fault
 
 -- and so by the lines of some text: this can be said of a file that does not tell its bytes
 abbrev pub EndsBySome : Exchange → World → Outgoing → Result (Unit {0}) WeaveFault → Type 0
-EndsBySome exchange world out (Ok done) = EndsFinishedForSome exchange world out.held out.holds
-EndsBySome exchange world out (Err fault) = EndsByForSome exchange world out.held out.holds fault
+EndsBySome exchange world out (Ok done) = EndsFinishedForSome exchange world out.out_before out.out_after
+EndsBySome exchange world out (Err fault) = EndsByForSome exchange world out.out_before out.out_after fault
 
 -- and so by itself
 abbrev pub EndsByItself : Exchange → World → Outgoing → Result (Unit {0}) WeaveFault → Type 0
-EndsByItself exchange world out (Ok done) = Appends out.held out.holds (own_text exchange world)
-EndsByItself exchange world out (Err fault) = IsWrittenInPart (own_text exchange world) out.held out.holds fault
+EndsByItself exchange world out (Ok done) = Appends out.out_before out.out_after (own_text exchange world)
+EndsByItself exchange world out (Err fault) = IsWrittenInPart (own_text exchange world) out.out_before out.out_after fault
 
 -- a file of steps is heard, and the exchange ends so
 pub record HearsSteps {F : Type 0} (reads : Reads F) (exchange : Exchange) (world : World) (file : F) (out : Outgoing)
