@@ -1,4 +1,0 @@
-use Rattle.cm_wrong_texts.proofs.figures.write_picture.Goals as goal
-
-pub returns : goal.returns
-returns c = search
