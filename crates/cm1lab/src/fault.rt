@@ -1,12 +1,12 @@
 //! Why the program ends with a status other than 0, and what it tells then.
 
-use cm_fresh::FreshFault;
-use cm_front::{FrontFault, ImageFault, SessionFault};
-use cm_lab::{LabFault, NumbersFault};
-use cm_lab_line::CommandFault;
-use cm_load::LoadFault;
-use cm_plot::PlotFault;
-use cm_source::{AsmKind, SourceFault, SourceKind};
+use lab_args::CommandFault;
+use lab_data::{LabFault, NumbersFault};
+use lab_fresh::FreshFault;
+use lab_front::{FrontFault, ImageFault, SessionFault};
+use lab_load::LoadFault;
+use lab_plot::PlotFault;
+use lab_source::{AsmKind, SourceFault, SourceKind};
 use std::alloc::Global;
 use std::io;
 use thiserror::Error;

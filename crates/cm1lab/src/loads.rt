@@ -2,9 +2,9 @@
 
 use crate::fault::Fault;
 use crate::progress::seconds_since;
-use cm_fresh::{FreshFault, WireEnd, cut_wires};
-use cm_lab_line::Loads;
-use cm_load::{LoadFault, Spreads, Trial, spread_table, table};
+use lab_args::Loads;
+use lab_fresh::{FreshFault, WireEnd, cut_wires};
+use lab_load::{LoadFault, Spreads, Trial, spread_table, table};
 use std::alloc::Global;
 use std::rt::Clock;
 use std::time::Instant;

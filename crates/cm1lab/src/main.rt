@@ -1,7 +1,7 @@
 //! The laboratory: data and pictures of all processors, out of a machine's image and into it, studies of its router, a
 //! front end, the programs of sources, blank machines, loads, and pictures of tables and routes. This is its files, its
-//! standard input and output; its words are in cm_lab_line, what it does in cm_lab, cm_front, cm_source, cm_fresh,
-//! cm_load and cm_way.
+//! standard input and output; its words are in lab_args, what it does in lab_data, lab_front, lab_source, lab_fresh,
+//! lab_load and lab_route_plot.
 #![tactic(auto)]
 
 mod fault;
@@ -14,14 +14,14 @@ use crate::files::{read_file, write_file};
 use crate::loads::{cuts_of, measure_all};
 use crate::progress::Progress;
 use cm_bits::{Std, write_all};
-use cm_fresh::{FreshFault, fresh};
-use cm_front::front_image;
 use cm_host::Host;
-use cm_lab::{LabFault, RouteFault, perform_watched};
-use cm_lab_line::{Asked, Blank, Command, CommandFault, Given, HELP, Loads, VERSION, read_words};
 use cm_outside::{LineFault, System, TakeFault, take};
-use cm_source::expand;
-use cm_way::plot;
+use lab_args::{Asked, Blank, Command, CommandFault, Given, HELP, Loads, VERSION, read_words};
+use lab_data::{LabFault, RouteFault, perform_watched};
+use lab_fresh::{FreshFault, fresh};
+use lab_front::front_image;
+use lab_route_plot::plot;
+use lab_source::expand;
 use std::alloc::Global;
 use std::io;
 use std::io::Write;
@@ -258,7 +258,7 @@ fn read_input<R: Input>(rt: &R, alloc: Global) -> Result<Vec<u8>, Fault> {
     }
 }
 
-/// What cm_lab makes of the image and of what is given.
+/// What lab_data makes of the image and of what is given.
 fn performed<R: Eprint + Clock>(
     rt: &R,
     alloc: Global,

@@ -1,6 +1,6 @@
 //! What is told on standard error of work that takes longer than a second.
 
-use cm_lab::Watch;
+use lab_data::Watch;
 use std::rt::Clock;
 use std::time::Instant;
 

@@ -4,8 +4,8 @@
 use crate::growths::BLANK;
 use cm_bits::doubles::{Bytes, Room};
 use cm_bits::{Field, write_all};
-use cm_lab::{LabFault, NumbersFault, Order, Task, perform};
 use cm_outside::{TakeFault, take};
+use lab_data::{LabFault, NumbersFault, Order, Task, perform};
 use std::alloc::Global;
 use std::test::Fail;
 

@@ -2,7 +2,7 @@
 
 use crate::growths::BLANK;
 use cm_bits::doubles::{Bytes, Room};
-use cm_front::{FrontFault, SessionFault, front_image};
+use lab_front::{FrontFault, SessionFault, front_image};
 use std::alloc::Global;
 use std::test::Fail;
 

@@ -3,14 +3,14 @@
 
 use cm_bits::doubles::{Bytes, Room};
 use cm_bits::{Field, NoMemory};
-use cm_fresh::{FreshFault, WireEnd, cut_wires, fresh};
-use cm_front::{FrontFault, ImageFault, SessionFault, front_image};
-use cm_lab::{
+use lab_data::{
     Form, Format, LabFault, Look, NumbersFault, Order, Palette, Shown, Table, Task, perform,
     read_numbers, write_numbers,
 };
-use cm_load::{Figures, LoadFault, Pattern, Spreads, Trial, spread_table, table};
-use cm_source::{AsmKind, SourceKind, expand};
+use lab_fresh::{FreshFault, WireEnd, cut_wires, fresh};
+use lab_front::{FrontFault, ImageFault, SessionFault, front_image};
+use lab_load::{Figures, LoadFault, Pattern, Spreads, Trial, spread_table, table};
+use lab_source::{AsmKind, SourceKind, expand};
 use std::alloc::Global;
 use test_generators::{Call, first_not_so};
 

@@ -1,6 +1,6 @@
 //! Pictures byte by byte, in each form; texts of pictures at their limits, and each fault of one.
 
-use cm_lab::{Form, Format, Picture, PictureFault, read_picture, write_in};
+use lab_data::{Form, Format, Picture, PictureFault, read_picture, write_in};
 use std::alloc::Global;
 use std::test::Fail;
 

@@ -1,7 +1,7 @@
 //! Pictures of tables and routes: what stands in them.
 
-use cm_plot::PlotFault;
-use cm_way::plot;
+use lab_plot::PlotFault;
+use lab_route_plot::plot;
 use std::alloc::Global;
 use test_generators::{Call, first_not_so};
 

@@ -1,7 +1,7 @@
 //! Pictures as PNG beside the bytes that a program in another language made, by the checksums of its library: of one
 //! bit with and without a rest of eight, of one byte in proportion and as they are, of two bytes.
 
-use cm_lab::{Format, Picture, write_in};
+use lab_data::{Format, Picture, write_in};
 use std::alloc::Global;
 use std::test::Fail;
 

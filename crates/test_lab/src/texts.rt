@@ -2,7 +2,7 @@
 
 ghost use Rattle.std.specs.Prelude.{◌≤◌, ◌<◌};
 
-use cm_lab::{NumbersFault, read_numbers, write_numbers};
+use lab_data::{NumbersFault, read_numbers, write_numbers};
 use std::alloc::Global;
 use std::test::Fail;
 

@@ -2,7 +2,7 @@
 
 use crate::growths::{BLANK, plain};
 use cm_bits::Proc;
-use cm_lab::{Format, Shown, Table, Tag, Task, Watch, perform_watched};
+use lab_data::{Format, Shown, Table, Tag, Task, Watch, perform_watched};
 use std::alloc::Global;
 use std::test::Fail;
 

@@ -1,13 +1,13 @@
-//! Calls of cm_fresh.
+//! Calls of lab_fresh.
 
 ghost use Rattle.std.specs.Prelude.{◌≡◌, ◌≢◌, ◌+◌, Ok, Err, IfOk, IfErr, length};
-ghost use Rattle.cm_fresh.specs.Drawn.{cut_wires_of};
-ghost use Rattle.cm_fresh.specs.Fresh.{fresh_of};
+ghost use Rattle.lab_fresh.specs.Drawn.{cut_wires_of};
+ghost use Rattle.lab_fresh.specs.Fresh.{fresh_of};
 
-use cm_fresh::{FreshFault, WireEnd};
+use lab_fresh::{FreshFault, WireEnd};
 use std::alloc::Global;
 
-/// What `cm_fresh::fresh` promises, word for word.
+/// What `lab_fresh::fresh` promises, word for word.
 pub fn fresh(
     alloc: Global,
     n: u16,
@@ -18,10 +18,10 @@ pub fn fresh(
     ensures value { IfOk result (λ text. fresh_of n room cuts.now rule ≡ Ok text.items) }
     ensures refused { IfErr result (λ fault. fault ≢ FreshFault.Memory → fresh_of n room cuts.now rule ≡ Err fault) }
 {
-    cm_fresh::fresh(alloc, n, room, cuts, rule)
+    lab_fresh::fresh(alloc, n, room, cuts, rule)
 }
 
-/// What `cm_fresh::cut_wires` promises, word for word.
+/// What `lab_fresh::cut_wires` promises, word for word.
 pub fn cut_wires(
     alloc: Global,
     n: u16,
@@ -34,5 +34,5 @@ pub fn cut_wires(
         → cut_wires_of n named.now count seed ≡ Err fault) }
     ensures count { IfOk result (λ ends. length ends.items ≡ length named.now + count) }
 {
-    cm_fresh::cut_wires(alloc, n, named, count, seed)
+    lab_fresh::cut_wires(alloc, n, named, count, seed)
 }

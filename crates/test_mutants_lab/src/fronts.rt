@@ -1,20 +1,20 @@
-//! Calls of cm_front.
+//! Calls of lab_front.
 
 ghost use Rattle.std.specs.Prelude.{◌≡◌, ◌↔◌, false, true, IsErrOf, OnErr, OnOk};
 ghost use Rattle.std.specs.Io.KnownBytes.{IsAtEnd};
 ghost use Rattle.cm_array.specs.Faults.{CountsLacks, one_more_lacked};
 ghost use Rattle.cm_session.specs.Ends.{is_write};
 ghost use Rattle.cm_debug.specs.Telling.{is_thread};
-ghost use Rattle.cm_front.specs.Front.{front_of, front_after_line};
-ghost use Rattle.cm_front.specs.Ends.{Ends};
+ghost use Rattle.lab_front.specs.Front.{front_of, front_after_line};
+ghost use Rattle.lab_front.specs.Ends.{Ends};
 
 use cm_array::{Machine, Runner};
 use cm_bits::{Sink, Source};
 use cm_debug::OutOf;
-use cm_front::{FrontEnd, SessionFault};
+use lab_front::{FrontEnd, SessionFault};
 use std::alloc::Global;
 
-/// What `cm_front::front` promises, word for word.
+/// What `lab_front::front` promises, word for word.
 pub fn front<const N: usize, const CAP: usize, R: Runner<N, CAP>, I: Source, O: Sink>(
     alloc: Global,
     machine: &mut Machine<N, CAP>,
@@ -35,10 +35,10 @@ pub fn front<const N: usize, const CAP: usize, R: Runner<N, CAP>, I: Source, O: 
         → R.threads_lacked runner.new ≡ one_more_lacked (R.threads_lacked runner.old) }
     ensures memory { IsErrOf result SessionFault.Memory → R.threads_lacked runner.new ≡ R.threads_lacked runner.old }
 {
-    cm_front::front(alloc, machine, commands, out, runner)
+    lab_front::front(alloc, machine, commands, out, runner)
 }
 
-/// What `tell` of `cm_front::FrontEnd` promises, word for word.
+/// What `tell` of `lab_front::FrontEnd` promises, word for word.
 pub fn tell<const N: usize, const CAP: usize, R: Runner<N, CAP>>(
     front: &mut FrontEnd,
     alloc: Global,

@@ -1,18 +1,18 @@
-//! Calls of cm_load.
+//! Calls of lab_load.
 
 ghost use Rattle.std.specs.Prelude.{◌≡◌, ◌≢◌, ◌∷◌, [], ◌≤◌, None, Some, MatchOption, IfOk, IfErr};
 ghost use Rattle.cm_model.specs.Keeping.{AreSizes};
 ghost use Rattle.std.specs.List.{find};
-ghost use Rattle.cm_fresh.specs.Fresh.{is_stray};
-ghost use Rattle.cm_load.specs.Tables.{loads_table};
-ghost use Rattle.cm_load.specs.Trials.{trial_fault, AreFiguresOf};
+ghost use Rattle.lab_fresh.specs.Fresh.{is_stray};
+ghost use Rattle.lab_load.specs.Tables.{loads_table};
+ghost use Rattle.lab_load.specs.Trials.{trial_fault, AreFiguresOf};
 
 use cm_bits::NoMemory;
-use cm_fresh::WireEnd;
-use cm_load::{Figures, LoadFault, Trial};
+use lab_fresh::WireEnd;
+use lab_load::{Figures, LoadFault, Trial};
 use std::alloc::Global;
 
-/// What `fault` of `cm_load::Trial` promises, word for word.
+/// What `fault` of `lab_load::Trial` promises, word for word.
 pub fn fault(trial: &Trial, cuts: &[WireEnd], rates: &[u16]) -> Option<LoadFault>
     ensures value { result ≡ trial_fault trial.now cuts.now rates.now }
     ensures sizes { MatchOption result (AreSizes trial.now.n trial.now.room) (λ fault. Unit {0}) }
@@ -24,7 +24,7 @@ pub fn fault(trial: &Trial, cuts: &[WireEnd], rates: &[u16]) -> Option<LoadFault
     trial.fault(cuts, rates)
 }
 
-/// What `figures` of `cm_load::Trial` promises, word for word.
+/// What `figures` of `lab_load::Trial` promises, word for word.
 pub fn figures(
     trial: &Trial,
     alloc: Global,
@@ -39,9 +39,9 @@ pub fn figures(
     trial.figures(alloc, cuts, rate)
 }
 
-/// What `cm_load::table` promises, word for word.
+/// What `lab_load::table` promises, word for word.
 pub fn table(alloc: Global, loads: &[Figures]) -> Result<Vec<u8>, NoMemory>
     ensures value { IfOk result (λ text. text.items ≡ loads_table loads.now) }
 {
-    cm_load::table(alloc, loads)
+    lab_load::table(alloc, loads)
 }

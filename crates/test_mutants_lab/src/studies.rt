@@ -1,15 +1,15 @@
-//! Calls of cm_study.
+//! Calls of lab_study.
 
 ghost use Rattle.std.specs.Prelude.{◌≡◌, ◌≢◌, Ok, Err, IfOk, IfErr};
-ghost use Rattle.cm_study.specs.Routes.{route_of};
-ghost use Rattle.cm_study.specs.Study.{study_table};
+ghost use Rattle.lab_study.specs.Routes.{route_of};
+ghost use Rattle.lab_study.specs.Study.{study_table};
 
 use cm_array::Machine;
 use cm_model::{Act, Tag};
-use cm_study::{RouteFault, StudyFault, Table, Watch};
+use lab_study::{RouteFault, StudyFault, Table, Watch};
 use std::alloc::Global;
 
-/// What `cm_study::study` promises, word for word.
+/// What `lab_study::study` promises, word for word.
 pub fn study<const N: usize, const CAP: usize, W: Watch>(
     alloc: Global,
     machine: &mut Machine<N, CAP>,
@@ -21,10 +21,10 @@ pub fn study<const N: usize, const CAP: usize, W: Watch>(
     ensures refused { IfErr result (λ fault. fault ≢ StudyFault.Memory
         → study_table N CAP table machine.old.machine acts.now ≡ Err fault) }
 {
-    cm_study::study(alloc, machine, acts, table, watch)
+    lab_study::study(alloc, machine, acts, table, watch)
 }
 
-/// What `cm_study::route` promises, word for word.
+/// What `lab_study::route` promises, word for word.
 pub fn route<const N: usize, const CAP: usize, W: Watch>(
     alloc: Global,
     machine: &mut Machine<N, CAP>,
@@ -36,5 +36,5 @@ pub fn route<const N: usize, const CAP: usize, W: Watch>(
     ensures refused { IfErr result (λ fault. fault ≢ RouteFault.Memory
         → route_of N CAP tag machine.old.machine acts.now ≡ Err fault) }
 {
-    cm_study::route(alloc, machine, acts, tag, watch)
+    lab_study::route(alloc, machine, acts, tag, watch)
 }

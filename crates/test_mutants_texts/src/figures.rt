@@ -1,17 +1,17 @@
-//! Calls of cm_figures.
+//! Calls of lab_figures.
 
 ghost use Rattle.std.specs.Prelude.{◌≡◌, ◌≢◌, ◌*◌, ◌<◌, ◌≤◌, Ok, Err, IfOk, IfErr, length};
 ghost use Rattle.std.specs.List.{All};
-ghost use Rattle.cm_figures.specs.Numbers.{numbers_in};
-ghost use Rattle.cm_figures.specs.PictureReading.{picture_in};
-ghost use Rattle.cm_figures.specs.Pictures.{picture_seen, picture_text};
-ghost use Rattle.cm_figures.specs.Png.{png_of};
+ghost use Rattle.lab_figures.specs.Numbers.{numbers_in};
+ghost use Rattle.lab_figures.specs.PictureReading.{picture_in};
+ghost use Rattle.lab_figures.specs.Pictures.{picture_seen, picture_text};
+ghost use Rattle.lab_figures.specs.Png.{png_of};
 
 use cm_bits::NoMemory;
-use cm_figures::{Form, NumbersFault, Picture, PictureFault};
+use lab_figures::{Form, NumbersFault, Picture, PictureFault};
 use std::alloc::Global;
 
-/// What `cm_figures::read_numbers` promises, word for word.
+/// What `lab_figures::read_numbers` promises, word for word.
 pub fn read_numbers(
     alloc: Global,
     text: &[u8],
@@ -23,10 +23,10 @@ pub fn read_numbers(
     ensures count { IfOk result (λ numbers. length numbers.items ≡ count) }
     ensures refused { IfErr result (λ fault. fault ≢ NumbersFault.Memory → numbers_in len count text.now ≡ Err fault) }
 {
-    cm_figures::read_numbers(alloc, text, len, count)
+    lab_figures::read_numbers(alloc, text, len, count)
 }
 
-/// What `cm_figures::read_picture` promises, word for word.
+/// What `lab_figures::read_picture` promises, word for word.
 pub fn read_picture(
     alloc: Global,
     text: &[u8],
@@ -40,24 +40,24 @@ pub fn read_picture(
     ensures refused { IfErr result (λ fault. fault ≢ PictureFault.Memory
         → picture_in width height text.now ≡ Err fault) }
 {
-    cm_figures::read_picture(alloc, text, width, height)
+    lab_figures::read_picture(alloc, text, width, height)
 }
 
-/// What `cm_figures::write_picture` promises, word for word.
+/// What `lab_figures::write_picture` promises, word for word.
 pub fn write_picture(alloc: Global, picture: &Picture, form: Form) -> Result<Vec<u8>, NoMemory>
     requires some { 0 < picture.now.width }
     requires dots { length picture.now.dots.items ≡ picture.now.height * picture.now.width }
     ensures value { IfOk result (λ text. text.items ≡ picture_text form (picture_seen picture.now)) }
 {
-    cm_figures::write_picture(alloc, picture, form)
+    lab_figures::write_picture(alloc, picture, form)
 }
 
-/// What `cm_figures::write_png` promises, word for word.
+/// What `lab_figures::write_png` promises, word for word.
 pub fn write_png(alloc: Global, picture: &Picture) -> Result<Vec<u8>, NoMemory>
     requires dots { length picture.now.dots.items ≡ picture.now.height * picture.now.width }
     ensures value { IfOk result (λ text. text.items ≡ png_of (picture_seen picture.now)) }
 {
-    match cm_figures::write_png(alloc, picture) {
+    match lab_figures::write_png(alloc, picture) {
         Ok(text) => Ok(text),
         Err(fault) => Err(fault),
     }

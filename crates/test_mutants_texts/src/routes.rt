@@ -1,15 +1,15 @@
-//! A call of cm_way.
+//! A call of lab_route_plot.
 
 ghost use Rattle.std.specs.Prelude.{◌≡◌, ◌≢◌, Ok, Err, IfOk, IfErr};
-ghost use Rattle.cm_way.specs.Drawing.{route_or_table_picture};
+ghost use Rattle.lab_route_plot.specs.Drawing.{route_or_table_picture};
 
-use cm_plot::PlotFault;
+use lab_plot::PlotFault;
 use std::alloc::Global;
 
-/// What `cm_way::plot` promises, word for word.
+/// What `lab_route_plot::plot` promises, word for word.
 pub fn plot_route(alloc: Global, text: &[u8]) -> Result<Vec<u8>, PlotFault>
     ensures value { IfOk result (λ picture. route_or_table_picture text.now ≡ Ok picture.items) }
     ensures refused { IfErr result (λ fault. fault ≢ PlotFault.Memory → route_or_table_picture text.now ≡ Err fault) }
 {
-    cm_way::plot(alloc, text)
+    lab_route_plot::plot(alloc, text)
 }

@@ -1,7 +1,0 @@
-use Rattle.std.proofs.Common.{◌≡◌, take}
-use Rattle.cm_figures.specs.Looks.{greatest_dot}
-use Rattle.cm_figures.proofs.looks.greatest_dot.Given as goal
-
--- the greatest of so many dots
-abbrev pub invariant-loop-dot : goal.invariant-loop-dot
-invariant-loop-dot l = l.most ≡ greatest_dot (take l.dot-index l.dots)

@@ -1,8 +1,0 @@
-use Rattle.std.proofs.Common.{◌≡◌, ◌++◌, drop}
-use Rattle.cm_figures.specs.Numbers.{numbers_text}
-use Rattle.cm_figures.proofs.numbers.write_numbers.Given as goal
-
--- so many numbers are written, and the others are left
-abbrev pub invariant-loop-index : goal.invariant-loop-index
-invariant-loop-index l = numbers_text l.width 0 l.numbers
-    ≡ l.text.items ++ numbers_text l.width l.index (drop l.index l.numbers)

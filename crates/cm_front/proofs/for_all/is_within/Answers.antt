@@ -1,5 +1,0 @@
-use Rattle.cm_figures.proofs.Texts.{is_within}
-use Rattle.cm_front.proofs.for_all.is_within.Goals as goal
-
-pub returns : goal.returns
-returns c = record { value = is_within c.args.number c.args.len }

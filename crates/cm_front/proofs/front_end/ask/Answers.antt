@@ -1,7 +1,0 @@
-use Rattle.cm_front.proofs.Saying.{still}
-use Rattle.cm_front.proofs.front_end.ask.Goals as goal
-
-pub returns-clause-err : goal.returns-clause-err
-returns-clause-err g c =
-    still g.row.N g.row.CAP _ _ _ c.answer.new.machine.machine
-    c.in_ok-debugger.ensures.acts c.clock.ensures.whole c.in-Err.ensures.goes.machine

@@ -1,5 +1,0 @@
-use Rattle.cm_front.proofs.Alike.{fronts_answer_as_sessions}
-use Rattle.cm_front.proofs.laws.fronts_answer_as_sessions.Goals as goal
-
-pub returns : goal.returns
-returns c = fronts_answer_as_sessions

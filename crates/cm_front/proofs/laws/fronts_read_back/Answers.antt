@@ -1,5 +1,0 @@
-use Rattle.cm_front.proofs.ReadingBack.{fronts_read_back}
-use Rattle.cm_front.proofs.laws.fronts_read_back.Goals as goal
-
-pub returns : goal.returns
-returns c = fronts_read_back

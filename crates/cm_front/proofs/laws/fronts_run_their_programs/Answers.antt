@@ -1,5 +1,0 @@
-use Rattle.cm_front.proofs.Running.{fronts_run_their_programs}
-use Rattle.cm_front.proofs.laws.fronts_run_their_programs.Goals as goal
-
-pub returns : goal.returns
-returns c = fronts_run_their_programs

@@ -1,5 +1,0 @@
-use Rattle.cm_lab.proofs.ReadingBack.{numbers_read_back}
-use Rattle.cm_lab.proofs.data_laws.numbers_read_back.Goals as goal
-
-pub returns : goal.returns
-returns c = numbers_read_back

@@ -1,5 +1,0 @@
-use Rattle.cm_lab.proofs.DotPlaces.{dots_are_places}
-use Rattle.cm_lab.proofs.picture_laws.dots_are_places.Goals as goal
-
-pub returns : goal.returns
-returns c = dots_are_places

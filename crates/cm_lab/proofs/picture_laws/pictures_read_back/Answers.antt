@@ -1,5 +1,0 @@
-use Rattle.cm_lab.proofs.DotPlaces.{pictures_read_back}
-use Rattle.cm_lab.proofs.picture_laws.pictures_read_back.Goals as goal
-
-pub returns : goal.returns
-returns c = pictures_read_back

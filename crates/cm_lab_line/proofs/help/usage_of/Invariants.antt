@@ -1,8 +1,0 @@
-use Rattle.std.proofs.Common.{◌≡◌, [], map}
-use Rattle.std.specs.Prelude.{fold, string_bytes}
-use Rattle.cm_lab_line.specs.Usage.{with_usage}
-use Rattle.cm_lab_line.proofs.help.usage_of.Given as goal
-
--- the words of so many lines
-abbrev pub invariant-loop-line : goal.invariant-loop-line
-invariant-loop-line l = string_bytes l.usage ≡ fold (with_usage l.command) [] (map (λ line. line.now) l.yielded)

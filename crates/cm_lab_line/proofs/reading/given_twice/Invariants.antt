@@ -1,8 +1,0 @@
-use Rattle.std.proofs.Common.{◌≡◌, take, drop}
-use Rattle.cm_lab_line.specs.Words.{texts}
-use Rattle.cm_lab_line.specs.Commands.{given_twice, repeated}
-use Rattle.cm_lab_line.proofs.reading.given_twice.Given as goal
-
-abbrev pub invariant-loop-place : goal.invariant-loop-place
-invariant-loop-place l =
-    repeated (texts (take l.place l.words)) (texts (drop l.place l.words)) ≡ given_twice (texts l.fn.words)

@@ -1,7 +1,0 @@
-use Rattle.std.proofs.Common.{◌∙◌, inr, sym}
-use Rattle.cm_lab_line.proofs.HelpLemmas.{help_explains}
-use Rattle.cm_lab_line.proofs.reading.why_not.Goals as goal
-
-pub returns-then-stands_in : goal.returns-then-stands_in
-returns-then-stands_in c =
-    inr (help_explains c.args.words.now c.in-len2-up.len_at_least (sym c.stands_in.ensures ∙ c.if-stands_in.true))

@@ -1,5 +1,0 @@
-use Rattle.cm_meaning.proofs.Standing.{expansions_do_phrases}
-use Rattle.cm_meaning.proofs.laws.expansions_do_phrases.Goals as goal
-
-pub returns : goal.returns
-returns c = expansions_do_phrases

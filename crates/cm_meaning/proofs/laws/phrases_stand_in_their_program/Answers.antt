@@ -1,5 +1,0 @@
-use Rattle.cm_meaning.proofs.Standing.{phrases_stand_in_their_program}
-use Rattle.cm_meaning.proofs.laws.phrases_stand_in_their_program.Goals as goal
-
-pub returns : goal.returns
-returns c = phrases_stand_in_their_program

@@ -1,5 +1,0 @@
-use Rattle.cm_meaning.proofs.Standing.{sources_macros_stand}
-use Rattle.cm_meaning.proofs.laws.sources_macros_stand.Goals as goal
-
-pub returns : goal.returns
-returns c = sources_macros_stand

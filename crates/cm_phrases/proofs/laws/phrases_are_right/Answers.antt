@@ -1,5 +1,0 @@
-use Rattle.cm_phrases.proofs.AllPhrases.{phrases_are_right}
-use Rattle.cm_phrases.proofs.laws.phrases_are_right.Goals as goal
-
-pub returns : goal.returns
-returns c = phrases_are_right

@@ -1,7 +1,0 @@
-use Rattle.std.proofs.Common.{◌≡◌, take}
-use Rattle.cm_plot.specs.Axes.{leftmost}
-use Rattle.cm_plot.proofs.axes.leftmost.Given as goal
-
--- the least of so many points
-abbrev pub invariant-loop-point : goal.invariant-loop-point
-invariant-loop-point l = l.least ≡ leftmost l.x (take l.point-index l.points)

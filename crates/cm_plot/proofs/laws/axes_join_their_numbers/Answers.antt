@@ -1,5 +1,0 @@
-use Rattle.cm_plot.proofs.Standing.{joined}
-use Rattle.cm_plot.proofs.laws.axes_join_their_numbers.Goals as goal
-
-pub returns : goal.returns
-returns c = joined

@@ -1,6 +1,0 @@
-use Rattle.std.proofs.Common.{◌≡◌, ◌++◌}
-use Rattle.cm_source.specs.Layout.{times}
-use Rattle.cm_source.proofs.layout.push_times.Given as goal
-
-abbrev pub invariant-loop-round : goal.invariant-loop-round
-invariant-loop-round l = l.order.items ≡ l.initial.order.items ++ times l._round l.places

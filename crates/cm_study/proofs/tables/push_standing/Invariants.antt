@@ -1,9 +1,0 @@
-use Rattle.std.proofs.Common.{◌≡◌, ◌++◌, flat_map}
-use Rattle.std.specs.List.{range_with_len}
-use Rattle.cm_study.specs.Tables.{standing_text_at}
-use Rattle.cm_study.proofs.tables.push_standing.Given as goal
-
--- the lines of so many chips
-abbrev pub invariant-loop-chip : goal.invariant-loop-chip
-invariant-loop-chip g l = l.text.items ≡ l.initial.text.items
-    ++ flat_map (standing_text_at l.ways l.machine.machine) (range_with_len 0 l.chip)

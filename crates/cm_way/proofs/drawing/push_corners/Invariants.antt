@@ -1,9 +1,0 @@
-use Rattle.std.proofs.Common.{◌≡◌, ◌++◌, take}
-use Rattle.std.specs.List.{flat_map}
-use Rattle.cm_way.specs.Rows.{plan_seen}
-use Rattle.cm_way.specs.Drawing.{leg_corner}
-use Rattle.cm_way.proofs.drawing.push_corners.Given as goal
-
--- so many legs
-abbrev pub invariant-loop-leg : goal.invariant-loop-leg
-invariant-loop-leg l = l.text.items ≡ l.initial.text.items ++ flat_map (leg_corner (plan_seen l.grid)) (take l.leg-index l.legs)

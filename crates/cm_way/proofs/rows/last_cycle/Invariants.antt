@@ -1,7 +1,0 @@
-use Rattle.std.proofs.Common.{◌≡◌, take}
-use Rattle.cm_way.specs.Rows.{last_cycle}
-use Rattle.cm_way.proofs.rows.last_cycle.Given as goal
-
--- the last of so many legs
-abbrev pub invariant-loop-leg : goal.invariant-loop-leg
-invariant-loop-leg l = l.last ≡ last_cycle (take l.leg-index l.legs)

@@ -1,7 +1,0 @@
-use Rattle.std.proofs.Common.{◌≡◌, take}
-use Rattle.cm_way.specs.Rows.{most_dims}
-use Rattle.cm_way.proofs.rows.most_dims.Given as goal
-
--- the dimensions of so many legs
-abbrev pub invariant-loop-leg : goal.invariant-loop-leg
-invariant-loop-leg l = l.most ≡ most_dims (take l.leg-index l.legs)

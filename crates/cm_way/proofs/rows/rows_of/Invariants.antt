@@ -1,7 +1,0 @@
-use Rattle.std.proofs.Common.{◌≡◌, take}
-use Rattle.cm_way.specs.Rows.{route_rows}
-use Rattle.cm_way.proofs.rows.rows_of.Given as goal
-
--- the rows of so many legs
-abbrev pub invariant-loop-leg : goal.invariant-loop-leg
-invariant-loop-leg l = l.rows.items ≡ route_rows (take l.leg-index l.legs)

@@ -1,0 +1,149 @@
+//! The words of `load`.
+
+ghost use Rattle.std.specs.Prelude.{◌≡◌, IfOk, IfErr, Ok};
+ghost use Rattle.lab_args.specs.Words.{texts};
+ghost use Rattle.lab_args.specs.Refusals.{Reports};
+ghost use Rattle.lab_args.specs.Requests.{loads_asked};
+ghost use Rattle.lab_args.specs.Loads.{load, with_choice, load_with_cut, with_option, with_options};
+
+use crate::blanks::wire_named;
+use crate::fault::CommandFault;
+use crate::operands::{Operand, cycle_count, long_number, number, pattern};
+use crate::rates::read_rates;
+use lab_fresh::WireEnd;
+use lab_load::{Pattern, Trial};
+use std::alloc::Global;
+
+/// Loads of one pattern on one machine, at these rates.
+#[derive(Drop)]
+pub struct Loads {
+    pub trial: Trial,
+    pub cuts: Vec<WireEnd>,
+    /// So many wires more are drawn, by the trial's seed.
+    pub drawn: u16,
+    /// Hundredths of a message that a chip offers in a petit cycle.
+    pub rates: Vec<u16>,
+}
+
+/// Reads the words behind `load`.
+pub(crate) fn read_loads(
+    alloc: Global,
+    n: &str,
+    room: &str,
+    rates: &str,
+    cycles: &str,
+    options: &[&str],
+) -> Result<Loads, CommandFault>
+    ensures value { IfOk result
+        (λ loads. load n.now room.now rates.now cycles.now (texts options.now) ≡ Ok (loads_asked loads)) }
+    ensures refused { IfErr result (Reports (load n.now room.now rates.now cycles.now (texts options.now))) }
+{
+    let n = number(alloc, Operand::N, n)?;
+    let room = number(alloc, Operand::Cap, room)?;
+    let rates = read_rates(alloc, rates)?;
+    let cycles = cycle_count(alloc, Operand::Cycles, cycles)?;
+    let trial = Trial {
+        n,
+        room,
+        rule: 0,
+        pattern: Pattern::Uniform,
+        until: cycles,
+        seed: 1,
+        cycles,
+        skip: 0,
+        seeds: 1,
+    };
+    let plain = Loads {
+        trial,
+        cuts: Vec::new(alloc),
+        drawn: 0,
+        rates,
+    };
+    with_options(alloc, plain, options)
+}
+
+/// Takes what the options say, each with the word behind it, or the two.
+fn with_options(alloc: Global, loads: Loads, options: &[&str]) -> Result<Loads, CommandFault>
+    ensures value { IfOk result
+        (λ found. with_options (loads_asked loads) (texts options.now) ≡ Ok (loads_asked found)) }
+    ensures refused { IfErr result (Reports (with_options (loads_asked loads) (texts options.now))) }
+{
+    match options {
+        [] => Ok(loads),
+        [_] => Err(CommandFault::Words),
+        [option, word, after @ ..] => {
+            if *option == "--cut" {
+                let Some((dim, after)) = after.split_first() else {
+                    return Err(CommandFault::Words);
+                };
+                let cut = with_cut(alloc, loads, word, dim)?;
+                with_options(alloc, cut, after)
+            } else {
+                let changed = with_choice(alloc, loads, option, word)?;
+                with_options(alloc, changed, after)
+            }
+        }
+    }
+}
+
+/// Takes what an option says that has one word behind it.
+fn with_choice(alloc: Global, loads: Loads, option: &str, word: &str) -> Result<Loads, CommandFault>
+    ensures value { IfOk result
+        (λ changed. with_choice (loads_asked loads) option.now word.now ≡ Ok (loads_asked changed)) }
+    ensures refused { IfErr result (Reports (with_choice (loads_asked loads) option.now word.now)) }
+{
+    if option == "--cut-random" {
+        let drawn = number(alloc, Operand::Count, word)?;
+        return Ok(Loads { drawn, ..loads });
+    }
+    let trial = with_option(alloc, loads.trial, option, word)?;
+    Ok(Loads { trial, ..loads })
+}
+
+/// The loads of a machine with this wire cut too.
+fn with_cut(alloc: Global, loads: Loads, chip: &str, dim: &str) -> Result<Loads, CommandFault>
+    ensures value { IfOk result
+        (λ cut. load_with_cut (loads_asked loads) chip.now dim.now ≡ Ok (loads_asked cut)) }
+    ensures refused { IfErr result (Reports (load_with_cut (loads_asked loads) chip.now dim.now)) }
+{
+    let mut cut = loads;
+    let wire = wire_named(alloc, chip, dim)?;
+    if cut.cuts.push(wire).is_err() {
+        return Err(CommandFault::Memory);
+    }
+    Ok(cut)
+}
+
+/// Takes what an option says.
+fn with_option(alloc: Global, trial: Trial, option: &str, word: &str) -> Result<Trial, CommandFault>
+    ensures value { IfOk result (λ changed. with_option trial option.now word.now ≡ Ok changed) }
+    ensures refused { IfErr result (Reports (with_option trial option.now word.now)) }
+{
+    match option {
+        "--rule" => {
+            let rule = number(alloc, Operand::Rule, word)?;
+            Ok(Trial { rule, ..trial })
+        }
+        "--pattern" => {
+            let pattern = pattern(alloc, word)?;
+            Ok(Trial { pattern, ..trial })
+        }
+        "--until" => {
+            let until = cycle_count(alloc, Operand::Until, word)?;
+            Ok(Trial { until, ..trial })
+        }
+        "--skip" => {
+            let skip = cycle_count(alloc, Operand::Skip, word)?;
+            Ok(Trial { skip, ..trial })
+        }
+        "--seeds" => {
+            let seeds = number(alloc, Operand::Seeds, word)?;
+            Ok(Trial { seeds, ..trial })
+        }
+        "--seed" => {
+            let seed = long_number(alloc, Operand::Seed, word)?;
+            Ok(Trial { seed, ..trial })
+        }
+        _ => Err(CommandFault::Words),
+    }
+}

@@ -1,0 +1,12 @@
+use Rattle.std.proofs.Common.{◌≡◌}
+use Rattle.cm_model.specs.Keeping.{IsMachine}
+use Rattle.lab_data.proofs.Putting.{with_chips, chips_filled}
+use Rattle.lab_data.proofs.data.put.Given as goal
+
+-- so many chips have their numbers
+abbrev pub invariant-loop-chip : goal.invariant-loop-chip
+invariant-loop-chip g l = record {
+  value : l.machine ≡ with_chips l.fn.machine
+      (chips_filled g.row.N l.order l.field.at l.field.len l.numbers l.fn.machine.machine.chips l.chip);
+  whole : IsMachine g.row.N g.row.CAP l.machine.machine;
+}

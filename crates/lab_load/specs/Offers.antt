@@ -1,0 +1,34 @@
+-- What is offered to the routers of a machine: who offers a message in which petit cycle, and to whom. Ours.
+use Rattle.std.specs.Prelude.{ℕ, ◌+◌, ◌-◌, ◌*◌, ◌/◌, ◌%◌, ◌^◌, ◌&&◌, Bool, nat_lt}
+use Rattle.std.specs.Int.{w32, reverse_bits}
+use Rattle.lab_load.specs.declared.offers.Pattern.{Pattern}
+use Rattle.lab_load.specs.declared.offers.Pattern.TheVariants.{Uniform, Transpose, Reversal, HotSpot}
+use Rattle.lab_load.specs.declared.offers.Load.{Load}
+use Rattle.lab_fresh.specs.Draws.{draw_of}
+
+-- how many processors a cube of n dimensions has
+abbrev pub places : ℕ → ℕ
+places n = 16 * 2 ^ n
+
+-- the number of the draw by which a place offers in petit cycle t; the next one tells to whom
+abbrev pub draw_number : ℕ → ℕ → ℕ
+draw_number t place = 2 * (t * 65536 + place)
+
+-- the processor of this place offers a message in petit cycle t
+unfoldable pub offers : Load → ℕ → ℕ → Bool
+offers load t place = nat_lt t load.until && nat_lt (draw_of load.seed (draw_number t place) % 1600) load.rate
+
+-- the place that a message of this place goes to, where this was drawn for it: of a number of n + 4 bits
+abbrev pub aimed : Pattern → ℕ → ℕ → ℕ → ℕ
+aimed Uniform n drawn place = drawn
+-- its lower half becomes the upper one
+aimed Transpose n drawn place = place / 2 ^ ((n + 4) / 2) + place * 2 ^ (n + 4 - (n + 4) / 2)
+-- its bits in reverse: those of 32 bits, less the lowest
+aimed Reversal n drawn place = reverse_bits w32 place / 2 ^ (28 - n)
+-- the processor of the same number on chip 0
+aimed HotSpot n drawn place = place % 16
+
+-- the place that a message goes to which this place offers in petit cycle t
+unfoldable pub target_of : Load → ℕ → ℕ → ℕ
+target_of load t place =
+    aimed load.pattern load.dims (draw_of load.seed (draw_number t place + 1)) place % places load.dims

@@ -1,0 +1,65 @@
+-- Loads as they are asked for, and which there are. Ours.
+use Rattle.std.specs.Prelude.{ℕ, ◌==◌, ◌||◌, List, Option, Some, None, nat_le, nat_lt, if◌then◌else◌}
+use Rattle.std.specs.List.{find}
+use Rattle.cm_model.specs.Wiring.{Routing}
+use Rattle.cm_image_format.specs.Cuts.{rule_of}
+use Rattle.lab_fresh.specs.declared.blanks.WireEnd.{WireEnd}
+use Rattle.lab_fresh.specs.Fresh.{is_stray, fresh_routing}
+use Rattle.lab_load.specs.declared.offers.Load.{Load}
+use Rattle.lab_load.specs.declared.figures.Figures.{Figures}
+use Rattle.lab_load.specs.declared.trials.Trial.{Trial}
+use Rattle.lab_load.specs.declared.trials.LoadFault.{LoadFault}
+use Rattle.lab_load.specs.declared.trials.LoadFault.TheVariants.{Dimension, Room, Wire, Rate, Cycles, Skip, Seeds, Rule}
+use Rattle.lab_load.specs.Loaded.{loaded_for}
+use Rattle.lab_load.specs.Figures.{AreFigures}
+
+-- the fault of an end that the cube has not, if there is one
+abbrev pub end_fault : ℕ → Option WireEnd → Option LoadFault
+end_fault n None = None
+end_fault n (Some end) = Some (Wire n end.chip end.dim)
+
+-- the fault of a rate that is too high, if there is one
+abbrev pub rate_fault : Option ℕ → Option LoadFault
+rate_fault None = None
+rate_fault (Some rate) = Some (Rate rate)
+
+-- the earlier fault
+abbrev pub or_load_fault : Option LoadFault → Option LoadFault → Option LoadFault
+or_load_fault None later = later
+or_load_fault (Some fault) later = Some fault
+
+abbrev pub cycles_fault : Trial → Option LoadFault
+cycles_fault trial =
+    if trial.cycles == 0 || nat_lt 1000000 trial.cycles then Some (Cycles trial.cycles)
+    else if nat_le trial.cycles trial.skip then Some (Skip trial.skip trial.cycles)
+    else if trial.seeds == 0 || nat_lt 1000 trial.seeds then Some (Seeds trial.seeds)
+    else if nat_lt 1 trial.rule then Some (Rule trial.rule) else None
+
+-- the first fault: of the dimension, the room, the ends of cut wires and the rates in their order, the petit cycles,
+-- those that are left out, the seeds, the rule
+abbrev pub trial_fault : Trial → List WireEnd → List ℕ → Option LoadFault
+trial_fault trial cuts rates =
+    if nat_lt 12 trial.n then Some (Dimension trial.n)
+    else if trial.room == 0 || nat_lt 15 trial.room then Some (Room trial.room)
+    else or_load_fault (end_fault trial.n (find (is_stray trial.n) cuts))
+    (or_load_fault (rate_fault (find (nat_lt 1600) rates)) (cycles_fault trial))
+
+-- the load of a trial at a rate
+abbrev pub load_of : Trial → ℕ → Load
+load_of trial rate = record {
+  dims = trial.n;
+  pattern = trial.pattern;
+  rate = rate;
+  until = trial.until;
+  seed = trial.seed;
+}
+
+-- how the machine of a trial routes, of which the wires with these ends are cut
+abbrev pub trial_routing : Trial → List WireEnd → Routing
+trial_routing trial cuts = fresh_routing cuts (rule_of trial.rule)
+
+-- what a trial answers at a rate: the numbers of its load on a blank machine
+abbrev pub AreFiguresOf : Trial → List WireEnd → ℕ → Figures → Type 0
+AreFiguresOf trial cuts rate figures =
+    AreFigures (load_of trial rate) trial.skip trial.cycles
+    (loaded_for trial.room (load_of trial rate) (trial_routing trial cuts) trial.skip trial.cycles) figures

@@ -1,0 +1,112 @@
+//! A machine under a load, petit cycle after petit cycle.
+
+ghost use Rattle.std.specs.Prelude.{◌≡◌, ◌+◌, ◌-◌, ◌*◌, ◌<◌, ◌≤◌, ◌^◌, [], OnOk, length};
+ghost use Rattle.cm_router.specs.Routes.{routing_of};
+ghost use Rattle.cm_petit.specs.Routers.{AreRouters};
+ghost use Rattle.lab_load.specs.Offers.{places};
+ghost use Rattle.lab_load.specs.Loaded.{after_one, after_cycles};
+ghost use Rattle.lab_load.specs.Kept.{loaded_of};
+
+use crate::asking::ask_all;
+use crate::logs::{empty_logs, fetch_all};
+use crate::offers::Load;
+use crate::sources::Source;
+use crate::telling::{push_latencies, taken_in};
+use cm_bits::NoMemory;
+use cm_crossing::{RouterEngine, Shape};
+use cm_element::Run;
+use cm_message::Event;
+use cm_petit::cycle;
+use cm_router::Routing;
+
+/// What was told so far.
+#[derive(Debug, Drop)]
+pub(crate) struct Told {
+    /// The most offers that waited at one processor, behind the one that it asked for.
+    pub(crate) deepest: u32,
+    /// Messages that were taken in.
+    pub(crate) taken: u128,
+    /// Of each message that was delivered, how many petit cycles it took.
+    pub(crate) latencies: Vec<u32>,
+}
+
+impl Told {
+    /// Nothing was told so far.
+    pub(crate) fn forget(&mut self)
+        ensures deepest { self.new.deepest ≡ 0 }
+        ensures taken { self.new.taken ≡ 0 }
+        ensures latencies { self.new.latencies.items ≡ [] }
+    {
+        self.deepest = 0;
+        self.taken = 0;
+        self.latencies.clear();
+    }
+}
+
+/// A machine goes on under a load, from this count of petit cycles to that one.
+pub(crate) fn go_through(
+    sizes: Shape,
+    routing: &Routing,
+    load: &Load,
+    from: u32,
+    to: u32,
+    run: &mut Run,
+    crossing: &mut RouterEngine,
+    logs: &mut [Vec<Event>],
+    sources: &mut [Source],
+    told: &mut Told,
+) -> Result<(), NoMemory>
+    requires load { load.now.dims ≡ sizes.dims }
+    requires cube { routing.now.cuts.dims ≡ sizes.dims }
+    requires routers { AreRouters (2 ^ sizes.dims) sizes.room run.old crossing.old.buffers logs.old }
+    requires sources { length sources.old ≡ places load.now.dims }
+    requires order { from ≤ to }
+    requires few { to ≤ 1000000 }
+    requires taken { told.old.taken ≡ 0 }
+    ensures ok { OnOk result (loaded_of (routing_of routing.now) run.new crossing.new.buffers logs.new to sources.new
+        told.new
+        ≡ after_cycles sizes.room load.now (loaded_of (routing_of routing.now) run.old crossing.old.buffers logs.old
+        from sources.old told.old) (to - from)) }
+    ensures routers { OnOk result (AreRouters (2 ^ sizes.dims) sizes.room run.new crossing.new.buffers logs.new) }
+    ensures sources { length sources.new ≡ length sources.old }
+{
+    for t in from..to {
+        go_on(sizes, routing, load, t, run, crossing, logs, sources, told)?;
+    }
+    Ok(())
+}
+
+/// Petit cycle t.
+fn go_on(
+    sizes: Shape,
+    routing: &Routing,
+    load: &Load,
+    t: u32,
+    run: &mut Run,
+    crossing: &mut RouterEngine,
+    logs: &mut [Vec<Event>],
+    sources: &mut [Source],
+    told: &mut Told,
+) -> Result<(), NoMemory>
+    requires load { load.now.dims ≡ sizes.dims }
+    requires cube { routing.now.cuts.dims ≡ sizes.dims }
+    requires routers { AreRouters (2 ^ sizes.dims) sizes.room run.old crossing.old.buffers logs.old }
+    requires sources { length sources.old ≡ places load.now.dims }
+    requires early { t < 1000000 }
+    requires taken { told.old.taken ≤ t * 2 ^ 76 }
+    ensures ok { OnOk result (loaded_of (routing_of routing.now) run.new crossing.new.buffers logs.new (t + 1)
+        sources.new told.new
+        ≡ after_one sizes.room load.now (loaded_of (routing_of routing.now) run.old crossing.old.buffers logs.old t
+        sources.old told.old)) }
+    ensures routers { OnOk result (AreRouters (2 ^ sizes.dims) sizes.room run.new crossing.new.buffers logs.new) }
+    ensures taken { OnOk result (told.new.taken ≤ (t + 1) * 2 ^ 76) }
+{
+    empty_logs(logs, 4 + usize::from(sizes.room))?;
+    ask_all(load, t, run, sources, &mut told.deepest);
+    let mut clock = u64::from(t);
+    cycle(sizes, routing, run, crossing, logs, &mut clock);
+    told.taken += taken_in(logs);
+    push_latencies(&mut told.latencies, t, logs)?;
+    fetch_all(run, 1 << sizes.dims);
+    Ok(())
+}

@@ -1,0 +1,57 @@
+//! Laws over the definitions: values that are known from elsewhere, so that a wrong rule is not proved.
+
+ghost use Rattle.std.specs.Prelude.{◌≡◌, ◌%◌, [], ◌∷◌, codes, None, Some};
+ghost use Rattle.lab_load.specs.declared.offers.Pattern.TheVariants as pattern;
+ghost use Rattle.lab_load.specs.Offers.{aimed};
+ghost use Rattle.lab_load.specs.Figures.{greatest_latency, mean_of, most_of, throughput_of};
+ghost use Rattle.lab_load.specs.declared.spreads.Column.TheVariants.{Throughput};
+ghost use Rattle.lab_load.specs.Spreads.{quantile_of, half_squared, figures_with};
+ghost use Rattle.lab_load.specs.Tables.{load_line, spread_line};
+
+/// On four chips a place has six bits, on eight seven: of these places messages go to those, whatever is drawn.
+pub fn patterns_aim_so()
+    ensures halves { aimed pattern.Transpose 2 0 0b000_110 % 64 ≡ 0b110_000 }
+    ensures long_half { aimed pattern.Transpose 3 0 0b0001_011 % 128 ≡ 0b011_0001 }
+    ensures turned { aimed pattern.Reversal 2 0 0b000110 ≡ 0b011000 }
+    ensures hot { aimed pattern.HotSpot 2 0 0b10_1101 ≡ 0b1101 }
+{}
+
+/// Of three messages, and of none: how long they took; and the line of a load.
+pub fn loads_are_told_so()
+    ensures mean { mean_of (1 ∷ 2 ∷ 2 ∷ []) ≡ 166 }
+    ensures most { most_of 9 (1 ∷ 2 ∷ 2 ∷ []) ≡ Some 2 }
+    ensures greatest { greatest_latency (1 ∷ 5 ∷ 2 ∷ []) ≡ 5 }
+    ensures throughput { throughput_of 51010 102400 ≡ 498 }
+    ensures no_mean { mean_of [] ≡ 0 }
+    ensures no_most { most_of 9 [] ≡ Some 0 }
+    ensures slower { most_of 1 (1 ∷ 2 ∷ 2 ∷ []) ≡ None }
+    ensures line { load_line (record {
+      rate = 50;
+      offered = 51084;
+      taken = 51083;
+      delivered = 51010;
+      throughput = 498;
+      mean = 140;
+      most = Some 2;
+      greatest = 5;
+      deepest = 0;
+    }) ≡ codes "0.50,51084,51083,51010,0.498,1.40,2,5,0\n" }
+{}
+
+/// Quantiles; the square of the half width of two loads, that of 12.707 times half their difference; and the line of
+/// the loads of a rate.
+pub fn spreads_are_told_so()
+    ensures first_quantile { quantile_of 2 ≡ 12707 }
+    ensures fifth_quantile { quantile_of 6 ≡ 2571 }
+    ensures last_quantile { quantile_of 31 ≡ 2043 }
+    ensures later_quantile { quantile_of 1000 ≡ 2043 }
+    ensures of_two { half_squared Throughput (figures_with 3733 ∷ figures_with 4000 ∷ []) ≡ 2877720 }
+    ensures of_like_ones { half_squared Throughput (figures_with 3733 ∷ figures_with 3733 ∷ []) ≡ 0 }
+    ensures line { spread_line (record {
+      rate = 425;
+      throughput = record { mean = 3866; half = 1696 };
+      mean = record { mean = 210; half = 412 };
+      most = record { mean = 950; half = 3176 };
+      greatest = record { mean = 1200; half = 3812 };
+    }) ≡ codes "4.25,3.866,1.696,2.10,4.12,9.50,31.76,12.00,38.12\n" }
+{}
