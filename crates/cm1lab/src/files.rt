@@ -2,7 +2,7 @@
 
 use crate::fault::{Fault, FileFault};
 use cm_host::{open, put_file};
-use cm_outside::{PutFault, TakeFault, take};
+use cm_system::{PutFault, TakeFault, take};
 use std::alloc::Global;
 use std::rt::Files;
 

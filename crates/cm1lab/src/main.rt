@@ -15,7 +15,7 @@ use crate::loads::{cuts_of, measure_all};
 use crate::progress::Progress;
 use cm_bits::{Std, write_all};
 use cm_host::Host;
-use cm_outside::{LineFault, System, TakeFault, take};
+use cm_system::{LineFault, System, TakeFault, take};
 use lab_args::{Asked, Blank, Command, CommandFault, Given, HELP, Loads, VERSION, read_words};
 use lab_data::{LabFault, RouteFault, perform_watched};
 use lab_fresh::{FreshFault, fresh};

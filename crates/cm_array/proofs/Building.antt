@@ -20,7 +20,7 @@ use Rattle.cm_model.proofs.Unlogged.{standing-all, none_injected, HasTagsOnce-st
 use Rattle.cm_model.proofs.Blanks.{IsMachine-blank_at}
 use Rattle.cm_element.specs.Near.{with_near}
 use Rattle.cm_router.specs.Routes.{routing_of}
-use Rattle.cm_crossing.specs.Standing.{InFlight}
+use Rattle.cm_router_engine.specs.Standing.{InFlight}
 use Rattle.cm_array.specs.declared.chip_state.ChipState.{ChipState}
 use Rattle.cm_array.specs.Parts.{machine_of, AreParts}
 use Rattle.cm_array.specs.Pokes.{machine_with_message}

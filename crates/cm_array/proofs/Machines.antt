@@ -26,7 +26,7 @@ use Rattle.cm_model.specs.Keeping.{AreSizes, HasTagsOnce, IsMachine}
 use Rattle.cm_model.proofs.Blanks.{IsMachine-blank_at}
 use Rattle.cm_model.proofs.Keeping.{IsMachine-after_act, IsMachine-run_of}
 use Rattle.cm_model.proofs.Runs.{run_of-nil, run_of-cons}
-use Rattle.cm_crossing.specs.Standing.{InFlight}
+use Rattle.cm_router_engine.specs.Standing.{InFlight}
 use Rattle.cm_router.specs.declared.routing.Routing.{Routing}
 use Rattle.cm_router.specs.Routes.{routing_of}
 use Rattle.cm_router.specs.Logs.{Log}

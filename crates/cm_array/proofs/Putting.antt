@@ -13,7 +13,7 @@ use Rattle.std.specs.Prelude.{IsTrue}
 use Rattle.cm_model.specs.Machine.{Machine}
 use Rattle.cm_model.specs.Keeping.{AreSizes, IsMachine}
 use Rattle.cm_blocks.specs.Parts.{Part}
-use Rattle.cm_crossing.specs.Standing.{InFlight}
+use Rattle.cm_router_engine.specs.Standing.{InFlight}
 use Rattle.cm_router.specs.Routes.{routing_of}
 use Rattle.cm_router.specs.Logs.{Log}
 use Rattle.cm_router.specs.Rows.{with_row}

@@ -14,12 +14,12 @@ ghost use Rattle.cm_array.specs.Parts.{machine_of, AreParts, AreUnderWay, LacksL
 
 use crate::stepping::step;
 use cm_bits::{NoMemory, Plane};
-use cm_crossing::{RouterEngine, Shape};
 use cm_element::Run;
 use cm_message::Event;
 use cm_model::Act;
 use cm_petit::{cycle_into_row, is_at_rest};
 use cm_router::Routing;
+use cm_router_engine::{RouterEngine, Shape};
 use std::alloc::Global;
 
 /// What a machine keeps, and the working room of instructions and petit cycles, so that these take no

@@ -9,8 +9,8 @@ ghost use Rattle.cm_petit.specs.Routers.{events_of};
 ghost use Rattle.cm_array.specs.Finding.{TellOf, TellNone, IsLoggedIn};
 
 use cm_bits::Place;
-use cm_crossing::RouterEngine;
 use cm_message::{Event, Message, Tag};
+use cm_router_engine::RouterEngine;
 
 /// The first chip in whose router a message of the tag stands.
 pub(crate) fn router_of(crossing: &RouterEngine, tag: &Tag) -> Option<u16>

@@ -14,11 +14,11 @@ ghost use Rattle.cm_router.specs.Routes.{routing_of};
 ghost use Rattle.cm_array.specs.Cuts.{part_view, IsPartView, IsLaid};
 
 use crate::chip_state::ChipState;
-use cm_crossing::{RouterEngine, Shape};
 use cm_element::{ChipView, Run};
 use cm_message::{Event, Message};
 use cm_petit::{leave, take_in};
 use cm_router::Routing;
+use cm_router_engine::{RouterEngine, Shape};
 use std::marker::Model;
 use std::mem;
 

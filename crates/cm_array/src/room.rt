@@ -6,9 +6,9 @@ ghost use Rattle.cm_array.specs.Rooms.{IsRoomFor};
 use crate::chip_state::{ChipState, blank_logs, blank_planes};
 use crate::part::Part;
 use cm_bits::{NoMemory, Plane};
-use cm_crossing::RouterEngine;
 use cm_element::Run;
 use cm_message::Event;
+use cm_router_engine::RouterEngine;
 use std::alloc::Global;
 
 /// Room for what a part keeps of some chips. What stands in it counts for nothing.

@@ -7,8 +7,8 @@ ghost use Rattle.cm_model.specs.Unlogged.{has_tag_twice};
 ghost use Rattle.cm_array.specs.Tags.{tag_key, HasEqualNeighbours, AreNeighboursApart};
 
 use cm_bits::NoMemory;
-use cm_crossing::RouterEngine;
 use cm_message::Message;
+use cm_router_engine::RouterEngine;
 use std::alloc::Global;
 
 /// A tag as it is sorted: its birth, chip and processor.

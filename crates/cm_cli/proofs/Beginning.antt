@@ -4,12 +4,12 @@ use Rattle.std.proofs.Common.{inl, inr, append-nil}
 use Rattle.std.specs.Prelude.{IfOk, IfErr, OnOk, option_map, string_bytes}
 use Rattle.cm_sizes.specs.declared.any_machine.AnyMachine.{AnyMachine}
 use Rattle.cm_sizes.specs.Sizes.{SizedMachine, sized}
-use Rattle.cm_outside.specs.declared.input_files.Taken.{Taken}
-use Rattle.cm_outside.specs.declared.program_fault.ProgramFault.{ProgramFault}
-use Rattle.cm_outside.specs.Trace.{IoEvent, HasTrace}
-use Rattle.cm_outside.specs.InputFiles.{Reads}
-use Rattle.cm_outside.specs.OutputFiles.{Readies}
-use Rattle.cm_outside.proofs.Leading.{did_both}
+use Rattle.cm_system.specs.declared.input_files.Taken.{Taken}
+use Rattle.cm_system.specs.declared.program_fault.ProgramFault.{ProgramFault}
+use Rattle.cm_system.specs.Trace.{IoEvent, HasTrace}
+use Rattle.cm_system.specs.InputFiles.{Reads}
+use Rattle.cm_system.specs.OutputFiles.{Readies}
+use Rattle.cm_system.proofs.Leading.{did_both}
 use Rattle.cm_cli.specs.declared.files.RunLine.{RunLine}
 use Rattle.cm_cli.specs.declared.files.PreparedFiles.{PreparedFiles}
 use Rattle.cm_cli.specs.Sharing.{sharing_fault}

@@ -4,12 +4,12 @@ use Rattle.std.specs.Prelude.{IsErrOf}
 use Rattle.cm_model.specs.declared.act.Act.{Act}
 use Rattle.cm_session.specs.declared.fault.SessionFault.{SessionFault}
 use Rattle.cm_session.specs.declared.fault.SessionFault.TheVariants as session
-use Rattle.cm_outside.specs.declared.program_fault.ProgramFault.{ProgramFault}
-use Rattle.cm_outside.specs.declared.program_fault.ProgramFault.TheVariants.{Memory, NoThread}
-use Rattle.cm_outside.specs.ProgramFault.{of_session}
+use Rattle.cm_system.specs.declared.program_fault.ProgramFault.{ProgramFault}
+use Rattle.cm_system.specs.declared.program_fault.ProgramFault.TheVariants.{Memory, NoThread}
+use Rattle.cm_system.specs.ProgramFault.{of_session}
 use Rattle.cm_sizes.specs.Sizes.{SizedMachine}
-use Rattle.cm_outside.specs.OutputFiles.{KeepsImage}
-use Rattle.cm_outside.specs.Streams.{Streams}
+use Rattle.cm_system.specs.OutputFiles.{KeepsImage}
+use Rattle.cm_system.specs.Streams.{Streams}
 use Rattle.cm_cli.specs.Runs.{IsSession}
 use Rattle.cm_cli.specs.Dispatch.{Goes}
 use Rattle.cm_cli.proofs.Sessions.{ended_well, broken_off}

@@ -6,13 +6,13 @@ use Rattle.cm_model.specs.Machine.{Machine}
 use Rattle.cm_session.specs.declared.fault.SessionFault.{SessionFault}
 use Rattle.cm_session.specs.declared.fault.SessionFault.TheVariants as session
 use Rattle.cm_session.specs.Ends.{Ends, EndsForSome, is_write}
-use Rattle.cm_outside.specs.declared.program_fault.ProgramFault.{ProgramFault}
-use Rattle.cm_outside.specs.declared.program_fault.ProgramFault.TheVariants.{Read, Write, Memory, NoThread}
-use Rattle.cm_outside.specs.ProgramFault.{of_session}
+use Rattle.cm_system.specs.declared.program_fault.ProgramFault.{ProgramFault}
+use Rattle.cm_system.specs.declared.program_fault.ProgramFault.TheVariants.{Read, Write, Memory, NoThread}
+use Rattle.cm_system.specs.ProgramFault.{of_session}
 use Rattle.cm_sizes.specs.Sizes.{SizedMachine}
-use Rattle.cm_outside.specs.OutputFiles.{KeepsImage}
+use Rattle.cm_system.specs.OutputFiles.{KeepsImage}
 use Rattle.cm_cli.specs.Run.{IsReportedAs}
-use Rattle.cm_outside.specs.Streams.{Streams}
+use Rattle.cm_system.specs.Streams.{Streams}
 use Rattle.cm_cli.specs.Runs.{IsSession}
 
 -- what follows where there is a value

@@ -4,9 +4,9 @@ use Rattle.cm_model.specs.declared.act.Act.{Act}
 use Rattle.cm_session.specs.declared.fault.SessionFault.{SessionFault}
 use Rattle.cm_session.specs.declared.fault.SessionFault.TheVariants as session
 use Rattle.cm_session.specs.Ends.{Ends, EndsForSome, is_write}
-use Rattle.cm_outside.specs.declared.program_fault.ProgramFault.TheVariants.{Read}
+use Rattle.cm_system.specs.declared.program_fault.ProgramFault.TheVariants.{Read}
 use Rattle.cm_sizes.specs.Sizes.{SizedMachine}
-use Rattle.cm_outside.specs.Streams.{Streams}
+use Rattle.cm_system.specs.Streams.{Streams}
 
 -- it began on the one machine, ended so, and left the other, which has the same sizes
 pub record Goes (from to : SizedMachine) (acts : List Act) (streams : Streams) (result : Result (Unit {0}) SessionFault)

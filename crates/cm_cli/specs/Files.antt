@@ -3,11 +3,11 @@ use Rattle.std.specs.Prelude.{◌≡◌, ◌⊎◌, ℕ, Option, Some, None, Lis
 use Rattle.cm_language.specs.Program.{ProgramText}
 use Rattle.cm_sizes.specs.Sizes.{SizedMachine}
 use Rattle.cm_cli.specs.declared.files.RunLine.{RunLine}
-use Rattle.cm_outside.specs.declared.program_fault.ProgramFault.{ProgramFault}
+use Rattle.cm_system.specs.declared.program_fault.ProgramFault.{ProgramFault}
 use Rattle.cm_cli.specs.Sharing.{sharing_fault}
-use Rattle.cm_outside.specs.Trace.{IoEvent}
-use Rattle.cm_outside.specs.InputFiles.{Reads, TakesBoth, RefusesBoth}
-use Rattle.cm_outside.specs.OutputFiles.{Readies, IsUnready}
+use Rattle.cm_system.specs.Trace.{IoEvent}
+use Rattle.cm_system.specs.InputFiles.{Reads, TakesBoth, RefusesBoth}
+use Rattle.cm_system.specs.OutputFiles.{Readies, IsUnready}
 
 -- the deeds take the files of the image and of the text
 abbrev pub TakesFiles : {F P : Type 0} → Reads F → RunLine → SizedMachine → ProgramText → List (IoEvent F P) → Type 0

@@ -1,11 +1,11 @@
 -- What the program does for a command line. Ours.
 use Rattle.std.specs.Prelude.{Result, List, string_bytes}
-use Rattle.cm_line.specs.declared.line.Line.{Line}
-use Rattle.cm_line.specs.declared.line.Line.TheVariants as line
-use Rattle.cm_outside.specs.declared.program_fault.ProgramFault.{ProgramFault}
-use Rattle.cm_outside.specs.Trace.{IoEvent}
-use Rattle.cm_outside.specs.InputFiles.{Reads}
-use Rattle.cm_outside.specs.Streams.{Streams, IsUnread, IsUntouched}
+use Rattle.cm_args.specs.declared.line.Line.{Line}
+use Rattle.cm_args.specs.declared.line.Line.TheVariants as line
+use Rattle.cm_system.specs.declared.program_fault.ProgramFault.{ProgramFault}
+use Rattle.cm_system.specs.Trace.{IoEvent}
+use Rattle.cm_system.specs.InputFiles.{Reads}
+use Rattle.cm_system.specs.Streams.{Streams, IsUnread, IsUntouched}
 use Rattle.cm_tools.specs.Tools.{IsChipTrace, IsFreshTrace, IsListTrace}
 use Rattle.cm_cli.specs.Runs.{IsRunTrace}
 use Rattle.cm_tools.specs.Weaving.{outgoing_of}

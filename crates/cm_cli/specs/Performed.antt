@@ -3,16 +3,16 @@ use Rattle.std.specs.Prelude.{◌≡◌, ◌⊎◌, ℕ, Bool, true, false, Opti
 use Rattle.std.specs.Prelude.{◌++◌, map, string_bytes}
 use Rattle.std.specs.declared.alloc.Global.{Global}
 use Rattle.std.specs.Io.KnownBytes.{Appends}
-use Rattle.cm_line.specs.declared.fault.LineFault.{LineFault}
-use Rattle.cm_line.specs.declared.fault.LineFault.TheVariants.{BadLine}
-use Rattle.cm_line.specs.declared.line.Line.{Line}
-use Rattle.cm_line.specs.Lines.{AsksFor, IsBadLine}
-use Rattle.cm_outside.specs.declared.program_fault.ProgramFault.{ProgramFault}
-use Rattle.cm_outside.specs.ProgramFault.{of_line, reported_number, fault_line}
-use Rattle.cm_outside.specs.Report.{HasFront, report_line, status_of}
-use Rattle.cm_outside.specs.Trace.{IoEvent, Asked}
-use Rattle.cm_outside.specs.InputFiles.{Reads}
-use Rattle.cm_outside.specs.Streams.{Streams, IsUntouched}
+use Rattle.cm_args.specs.declared.fault.LineFault.{LineFault}
+use Rattle.cm_args.specs.declared.fault.LineFault.TheVariants.{BadLine}
+use Rattle.cm_args.specs.declared.line.Line.{Line}
+use Rattle.cm_args.specs.Lines.{AsksFor, IsBadLine}
+use Rattle.cm_system.specs.declared.program_fault.ProgramFault.{ProgramFault}
+use Rattle.cm_system.specs.ProgramFault.{of_line, reported_number, fault_line}
+use Rattle.cm_system.specs.Report.{HasFront, report_line, status_of}
+use Rattle.cm_system.specs.Trace.{IoEvent, Asked}
+use Rattle.cm_system.specs.InputFiles.{Reads}
+use Rattle.cm_system.specs.Streams.{Streams, IsUntouched}
 use Rattle.cm_cli.specs.Lines.{IsLineTrace}
 
 -- words that were asked for

@@ -5,10 +5,10 @@ use Rattle.cm_model.specs.declared.act.Act.{Act}
 use Rattle.cm_model.specs.Machine.{Machine}
 use Rattle.cm_session.specs.declared.fault.SessionFault.{SessionFault}
 use Rattle.cm_session.specs.Ends.{Ends}
-use Rattle.cm_outside.specs.declared.program_fault.ProgramFault.{ProgramFault}
-use Rattle.cm_outside.specs.declared.program_fault.ProgramFault.TheVariants.{Memory}
-use Rattle.cm_outside.specs.OutputFiles.{IsImageKept}
-use Rattle.cm_outside.specs.ProgramFault.{of_session}
+use Rattle.cm_system.specs.declared.program_fault.ProgramFault.{ProgramFault}
+use Rattle.cm_system.specs.declared.program_fault.ProgramFault.TheVariants.{Memory}
+use Rattle.cm_system.specs.OutputFiles.{IsImageKept}
+use Rattle.cm_system.specs.ProgramFault.{of_session}
 use Rattle.cm_sizes.specs.Sizes.{SizedMachine}
 
 -- all commands were answered, and this image is kept of the machine that they left

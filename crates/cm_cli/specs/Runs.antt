@@ -5,14 +5,14 @@ use Rattle.std.specs.Option.{is_some}
 use Rattle.cm_model.specs.declared.act.Act.{Act}
 use Rattle.cm_language.specs.Program.{ProgramText}
 use Rattle.cm_cli.specs.declared.files.RunLine.{RunLine}
-use Rattle.cm_outside.specs.declared.program_fault.ProgramFault.{ProgramFault}
-use Rattle.cm_outside.specs.declared.program_fault.ProgramFault.TheVariants.{Read, Write, NoThread}
+use Rattle.cm_system.specs.declared.program_fault.ProgramFault.{ProgramFault}
+use Rattle.cm_system.specs.declared.program_fault.ProgramFault.TheVariants.{Read, Write, NoThread}
 use Rattle.cm_sizes.specs.Sizes.{SizedMachine}
 use Rattle.cm_cli.specs.Run.{HasLeft, HasLeftForSome, HasAbortedSession, HasAbortedForSome}
-use Rattle.cm_outside.specs.Trace.{IoEvent}
-use Rattle.cm_outside.specs.InputFiles.{Reads}
-use Rattle.cm_outside.specs.OutputFiles.{FinishesOutput}
-use Rattle.cm_outside.specs.Streams.{Streams, IsUntouched}
+use Rattle.cm_system.specs.Trace.{IoEvent}
+use Rattle.cm_system.specs.InputFiles.{Reads}
+use Rattle.cm_system.specs.OutputFiles.{FinishesOutput}
+use Rattle.cm_system.specs.Streams.{Streams, IsUntouched}
 use Rattle.cm_cli.specs.Files.{BeginsFiles, RefusesFiles}
 
 -- how a session ends that begins here, with these acts

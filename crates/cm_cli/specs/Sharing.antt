@@ -5,8 +5,8 @@ use Rattle.cm_workers.specs.declared.forked.ForkFault.{ForkFault}
 use Rattle.cm_workers.specs.declared.forked.ForkFault.TheVariants as fork
 use Rattle.cm_workers.specs.Forks.{fork_fault}
 use Rattle.cm_cli.specs.declared.sharing.Sharing.{Sharing}
-use Rattle.cm_outside.specs.declared.program_fault.ProgramFault.{ProgramFault}
-use Rattle.cm_outside.specs.declared.program_fault.ProgramFault.TheVariants.{Split, Workers}
+use Rattle.cm_system.specs.declared.program_fault.ProgramFault.{ProgramFault}
+use Rattle.cm_system.specs.declared.program_fault.ProgramFault.TheVariants.{Split, Workers}
 
 -- what refuses a runner of many threads, as a fault of the program
 abbrev pub of_fork : ForkFault → ProgramFault

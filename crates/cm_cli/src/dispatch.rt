@@ -4,7 +4,7 @@ ghost use Rattle.std.specs.Prelude.{◌≡◌, false, None, IsErrOf};
 ghost use Rattle.std.specs.Thread.{IsSync};
 ghost use Rattle.cm_sizes.specs.Sizes.{SizedMachine, sized};
 ghost use Rattle.cm_cli.specs.Sharing.{sharing_fault};
-ghost use Rattle.cm_outside.specs.Streams.{streams};
+ghost use Rattle.cm_system.specs.Streams.{streams};
 ghost use Rattle.cm_cli.specs.Dispatch.{Goes};
 
 use crate::sharing::Sharing;

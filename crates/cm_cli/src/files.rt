@@ -3,19 +3,19 @@
 ghost use Rattle.std.specs.Prelude.{◌≡◌, ◌≤◌, false, None, IfOk, IfErr, IsErrOf, OnOk, option_map, string_bytes};
 ghost use Rattle.cm_sizes.specs.Sizes.{SizedMachine, sized};
 ghost use Rattle.cm_cli.specs.Sharing.{sharing_fault};
-ghost use Rattle.cm_outside.specs.Trace.{HasTrace};
-ghost use Rattle.cm_outside.specs.InputFiles.{reads_by};
-ghost use Rattle.cm_outside.specs.OutputFiles.{FinishesWithImage, Readies};
+ghost use Rattle.cm_system.specs.Trace.{HasTrace};
+ghost use Rattle.cm_system.specs.InputFiles.{reads_by};
+ghost use Rattle.cm_system.specs.OutputFiles.{FinishesWithImage, Readies};
 ghost use Rattle.cm_cli.specs.Files.{BeginsFiles, RefusesFiles, RefusesTaken};
-ghost use Rattle.cm_outside.specs.Streams.{streams};
+ghost use Rattle.cm_system.specs.Streams.{streams};
 ghost use Rattle.cm_cli.specs.Runs.{IsRunTrace, RunsFrom};
 
 use crate::dispatch::SessionRunner;
 use crate::sharing::Sharing;
 use cm_asm::Program;
 use cm_bits::{Sink, Source};
-use cm_outside::{ProgramFault, System, Taken, abort_files, finish_files, make_ready, take_both};
 use cm_sizes::{AnyMachine, on_machine};
+use cm_system::{ProgramFault, System, Taken, abort_files, finish_files, make_ready, take_both};
 use std::alloc::Global;
 
 /// What is asked to be run: the files of an image and of a program, how the session is shared out, and the file, if one

@@ -1,19 +1,19 @@
 //! The whole program: from its words to the line on standard error and the status.
 
 ghost use Rattle.std.specs.Prelude.{◌≡◌, false, map, string_bytes, IfOk, IfErr, IsErrOf};
-ghost use Rattle.cm_line.specs.Lines.{AsksFor, IsBadLine};
-ghost use Rattle.cm_outside.specs.Trace.{HasTrace};
-ghost use Rattle.cm_outside.specs.InputFiles.{reads_by};
-ghost use Rattle.cm_outside.specs.Streams.{streams};
+ghost use Rattle.cm_args.specs.Lines.{AsksFor, IsBadLine};
+ghost use Rattle.cm_system.specs.Trace.{HasTrace};
+ghost use Rattle.cm_system.specs.InputFiles.{reads_by};
+ghost use Rattle.cm_system.specs.Streams.{streams};
 ghost use Rattle.cm_cli.specs.Lines.{IsLineTrace};
 ghost use Rattle.cm_cli.specs.Performed.{AsksLine, AsksNoLine, IsWordsTrace, Performs, ReportsFault, asked_words};
 
 use crate::dispatch::{Alone, Several};
 use crate::files::{RunLine, run_files};
 use crate::sharing::Sharing;
+use cm_args::{Line, LineFault, command};
 use cm_bits::{Sink, Source};
-use cm_line::{Line, LineFault, command};
-use cm_outside::{ProgramFault, System, report};
+use cm_system::{ProgramFault, System, report};
 use cm_tools::{WeaveLine, chip_line, fresh_line, list_line, weave_files};
 use cm_workers::Passage;
 use std::alloc::Global;

@@ -3,7 +3,7 @@
 ghost use Rattle.std.specs.Prelude.{◌≡◌, ◌≤◌, Some, None, IfErr, IsErrOf, OnOk};
 ghost use Rattle.cm_cli.specs.Sharing.{sharing_fault};
 
-use cm_outside::ProgramFault;
+use cm_system::ProgramFault;
 
 /// Into how many blocks a machine is cut, and among how many workers they are dealt out.
 #[derive(Clone, Copy, Debug, PartialEq, Eq)]

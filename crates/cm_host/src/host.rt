@@ -5,7 +5,7 @@ ghost use Rattle.cm_bits.specs.Ends.{std_has_failed};
 
 use crate::pending::{PendingFile, make_ready};
 use cm_bits::{Failed, Sink, Std};
-use cm_outside::{LineFault, PutFault, System, Written};
+use cm_system::{LineFault, PutFault, System, Written};
 use std::alloc::Global;
 use std::io::{ErrorKind, Write};
 use std::rt::{Env, Files};

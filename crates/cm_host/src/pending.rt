@@ -1,7 +1,7 @@
 //! Files that are put where the user wants them: each is made ready, and then filled or let go.
 
 use cm_bits::Std;
-use cm_outside::{PutFault, Written};
+use cm_system::{PutFault, Written};
 use std::alloc::Global;
 use std::fs::{File, OpenFile, Permissions};
 use std::io::ErrorKind;

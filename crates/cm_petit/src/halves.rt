@@ -11,9 +11,9 @@ ghost use Rattle.cm_router.specs.Routes.{routing_of};
 ghost use Rattle.cm_router.specs.Logs.{Log};
 ghost use Rattle.cm_petit.specs.Routers.{part_from_logs};
 
-use cm_crossing::{RouterEngine, Shape};
 use cm_message::Message;
 use cm_router::Routing;
+use cm_router_engine::{RouterEngine, Shape};
 
 /// Messages of a run of 2^`span` chips cross a dimension that these span. The run begins at chip `first` of the
 /// machine, a multiple of their number.

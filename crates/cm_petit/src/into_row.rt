@@ -13,10 +13,10 @@ ghost use Rattle.cm_router.specs.Logs.{log_room};
 ghost use Rattle.cm_router.specs.Rows.{with_row};
 ghost use Rattle.cm_petit.specs.Routers.{machine_from, part_from, HaveBuffers};
 
-use cm_crossing::{RouterEngine, Shape};
 use cm_element::Run;
 use cm_message::Event;
 use cm_router::{Deliveries, Routing, is_idle, pass_over};
+use cm_router_engine::{RouterEngine, Shape};
 
 /// One petit cycle, as `cycle` is one, whose events all go into one row. Behind logs by chip the row stands for more
 /// events of each.

@@ -16,10 +16,10 @@ ghost use Rattle.cm_router.specs.Logs.{log_rooms_of, HaveLogRoom, LoseAtMost};
 ghost use Rattle.cm_petit.specs.Routers.{machine_from_logs, part_from_logs};
 ghost use Rattle.cm_petit.specs.Nodes.{AreNodes, node_at, exchanged};
 
-use cm_crossing::Shape;
 use cm_element::Run;
 use cm_message::{Event, Message, Rule};
 use cm_router::{Node, Routing};
+use cm_router_engine::Shape;
 
 /// One petit cycle where each chip's messages stand in a node of its own: what `cycle` does where they stand in a
 /// `Crossing`. The counter stands at `clock`; that it is one more then is for the caller to keep.

@@ -11,10 +11,10 @@ ghost use Rattle.cm_router.specs.Routes.{routing_of};
 ghost use Rattle.cm_router.specs.Logs.{log_rooms_of, HaveLogRoom, LoseAtMost};
 ghost use Rattle.cm_petit.specs.Routers.{machine_from_logs, part_from_logs, AreRouters};
 
-use cm_crossing::{RouterEngine, Shape};
 use cm_element::Run;
 use cm_message::Event;
 use cm_router::{Deliveries, Routing, is_idle, pass_over};
+use cm_router_engine::{RouterEngine, Shape};
 
 /// One petit cycle: every router takes messages in, they cross each dimension, from the lowest on,
 /// and those that have arrived go to their processors (a dimension at a time: Hillis 1985; the order:

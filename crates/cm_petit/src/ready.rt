@@ -14,10 +14,10 @@ ghost use Rattle.cm_router.specs.Logs.{log_rooms_of, HaveLogRoom};
 ghost use Rattle.cm_petit.specs.Routers.{machine_from, AreRouters, HaveBuffers};
 ghost use Rattle.cm_petit.specs.Nodes.{AreNodes};
 
-use cm_crossing::{RouterEngine, Shape};
 use cm_element::Run;
 use cm_message::{Event, Message};
 use cm_router::{Node, is_idle, pass_over};
+use cm_router_engine::{RouterEngine, Shape};
 
 /// Whether there are as many buffers and logs as chips, with no more messages at a chip than there is room for.
 pub fn are_routers(sizes: Shape, run: &Run, crossing: &RouterEngine, logs: &[Vec<Event>]) -> bool

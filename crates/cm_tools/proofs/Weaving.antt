@@ -11,13 +11,13 @@ use Rattle.cm_weave.specs.First.{IsFirst}
 use Rattle.cm_exchange.specs.Lanes.{Exchange}
 use Rattle.cm_exchange.specs.Worlds.{World}
 use Rattle.cm_weave.specs.Woven.{Woven}
-use Rattle.cm_steps.specs.declared.fault.WeaveFault.{WeaveFault}
-use Rattle.cm_steps.specs.declared.fault.WeaveFault.TheVariants as weave
-use Rattle.cm_steps.specs.Alone.{own_text}
-use Rattle.cm_steps.specs.Ends.{EndsBy, EndsByForSome, EndsFinished, EndsFinishedForSome, IsWrittenInPart}
-use Rattle.cm_outside.specs.declared.program_fault.ProgramFault.{ProgramFault}
-use Rattle.cm_outside.specs.ProgramFault.{of_world}
-use Rattle.cm_outside.specs.InputFiles.{Reads}
+use Rattle.cm_weave_text.specs.declared.fault.WeaveFault.{WeaveFault}
+use Rattle.cm_weave_text.specs.declared.fault.WeaveFault.TheVariants as weave
+use Rattle.cm_weave_text.specs.Alone.{own_text}
+use Rattle.cm_weave_text.specs.Ends.{EndsBy, EndsByForSome, EndsFinished, EndsFinishedForSome, IsWrittenInPart}
+use Rattle.cm_system.specs.declared.program_fault.ProgramFault.{ProgramFault}
+use Rattle.cm_system.specs.ProgramFault.{of_world}
+use Rattle.cm_system.specs.InputFiles.{Reads}
 use Rattle.cm_tools.specs.Weaving.{Outgoing, ended_of, EndsByItself, HearsSteps}
 
 pub same_acts : {n cap k : ℕ} {machine : Machine} {woven : Woven} {a b : List Act} → a ≡ b

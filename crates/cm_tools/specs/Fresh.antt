@@ -1,7 +1,7 @@
 -- Why `fresh` writes no image. Ours.
 use Rattle.std.specs.Prelude.{ℕ, ◌==◌, ◌||◌, nat_lt, Option, Some, None, if◌then◌else◌}
-use Rattle.cm_outside.specs.declared.program_fault.ProgramFault.{ProgramFault}
-use Rattle.cm_outside.specs.declared.program_fault.ProgramFault.TheVariants.{BadLine, Cap}
+use Rattle.cm_system.specs.declared.program_fault.ProgramFault.{ProgramFault}
+use Rattle.cm_system.specs.declared.program_fault.ProgramFault.TheVariants.{BadLine, Cap}
 
 -- the dimension and the room are looked at as the command line does, then the program's own rooms, 1 and 7
 abbrev pub program_fresh_fault : ℕ → ℕ → Option ProgramFault

@@ -4,11 +4,11 @@ use Rattle.std.specs.Io.KnownBytes.{Appends, Consumes, Keeps}
 use Rattle.cm_language.specs.declared.fault.AsmFault.{AsmFault}
 use Rattle.cm_language.specs.Program.{ProgramText, program_of, IsFaultOf}
 use Rattle.cm_language.specs.Listing.{listing}
-use Rattle.cm_outside.specs.InputFiles.{PROGRAM_LIMIT}
-use Rattle.cm_outside.specs.Report.{HasFront}
-use Rattle.cm_outside.specs.declared.program_fault.ProgramFault.{ProgramFault}
-use Rattle.cm_outside.specs.declared.program_fault.ProgramFault.TheVariants.{Text, Read, Write}
-use Rattle.cm_outside.specs.declared.program_fault.ProgramFault.TheVariants.{TooMuch, Memory}
+use Rattle.cm_system.specs.InputFiles.{PROGRAM_LIMIT}
+use Rattle.cm_system.specs.Report.{HasFront}
+use Rattle.cm_system.specs.declared.program_fault.ProgramFault.{ProgramFault}
+use Rattle.cm_system.specs.declared.program_fault.ProgramFault.TheVariants.{Text, Read, Write}
+use Rattle.cm_system.specs.declared.program_fault.ProgramFault.TheVariants.{TooMuch, Memory}
 
 -- a text is a program, whose listing this is
 pub record IsListingOf (text bytes : List ℕ) : Type 0 where

@@ -7,8 +7,8 @@ use Rattle.cm_model.specs.Processor.{Processor}
 use Rattle.cm_model.specs.Array.{chip_at}
 use Rattle.cm_model.specs.Machine.{blank_machine, run_of}
 use Rattle.cm_language.specs.declared.fault.AsmFault.{AsmFault}
-use Rattle.cm_outside.specs.declared.fault.ChipFault.{ChipFault}
-use Rattle.cm_outside.specs.declared.fault.ChipFault.TheVariants.{Text, Read, Write, TooMuch, Memory}
+use Rattle.cm_system.specs.declared.fault.ChipFault.{ChipFault}
+use Rattle.cm_system.specs.declared.fault.ChipFault.TheVariants.{Text, Read, Write, TooMuch, Memory}
 use Rattle.cm_tools.specs.Program.{nanos_of, IsChipFaultOf}
 use Rattle.cm_tools.specs.ChipText.{chip_session_text}
 

@@ -6,21 +6,21 @@ use Rattle.std.specs.Io.KnownBytes.{IsAtEnd}
 use Rattle.cm_bits.specs.declared.ends.Failed.{Failed}
 use Rattle.cm_model.specs.Machine.{blank_machine}
 use Rattle.cm_image_format.specs.Whole.{text_of}
-use Rattle.cm_outside.specs.declared.fault.ChipFault.{ChipFault}
-use Rattle.cm_outside.specs.declared.fault.ChipFault.TheVariants as chip
-use Rattle.cm_outside.specs.declared.program_fault.ProgramFault.{ProgramFault}
-use Rattle.cm_outside.specs.declared.program_fault.ProgramFault.TheVariants.{Read, Memory}
-use Rattle.cm_outside.specs.ProgramFault.{of_chip}
-use Rattle.cm_outside.specs.ReadAll.{ConsumesAtMost}
+use Rattle.cm_system.specs.declared.fault.ChipFault.{ChipFault}
+use Rattle.cm_system.specs.declared.fault.ChipFault.TheVariants as chip
+use Rattle.cm_system.specs.declared.program_fault.ProgramFault.{ProgramFault}
+use Rattle.cm_system.specs.declared.program_fault.ProgramFault.TheVariants.{Read, Memory}
+use Rattle.cm_system.specs.ProgramFault.{of_chip}
+use Rattle.cm_system.specs.ReadAll.{ConsumesAtMost}
 use Rattle.cm_tools.specs.Session.{CHIP_LIMIT, ChipSessionEnds, EndsForSome, has_read_all as has_heard_all}
 use Rattle.cm_tools.specs.Session.{is_chip_write}
-use Rattle.cm_outside.specs.InputFiles.{PROGRAM_LIMIT}
+use Rattle.cm_system.specs.InputFiles.{PROGRAM_LIMIT}
 use Rattle.cm_tools.specs.Listed.{EndsListing, EndsListingForSome, has_read_all, is_listing_write}
 use Rattle.cm_tools.specs.Fresh.{program_fresh_fault}
-use Rattle.cm_outside.specs.Trace.{IoEvent, Opened}
-use Rattle.cm_outside.specs.InputFiles.{Reads}
-use Rattle.cm_outside.specs.OutputFiles.{Flushes, Puts}
-use Rattle.cm_outside.specs.Streams.{Streams}
+use Rattle.cm_system.specs.Trace.{IoEvent, Opened}
+use Rattle.cm_system.specs.InputFiles.{Reads}
+use Rattle.cm_system.specs.OutputFiles.{Flushes, Puts}
+use Rattle.cm_system.specs.Streams.{Streams}
 
 -- how the program ends where a session of one chip ended so
 abbrev pub chip_end : Result (Unit {0}) ChipFault → Result (Unit {0}) ProgramFault

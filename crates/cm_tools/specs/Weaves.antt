@@ -11,12 +11,12 @@ use Rattle.cm_weave.specs.First.{IsFirst}
 use Rattle.cm_weave.specs.Woven.{Woven}
 use Rattle.cm_sizes.specs.Sizes.{SizedMachine}
 use Rattle.cm_tools.specs.declared.weaves.WeaveLine.{WeaveLine}
-use Rattle.cm_outside.specs.declared.program_fault.ProgramFault.{ProgramFault}
-use Rattle.cm_outside.specs.declared.program_fault.ProgramFault.TheVariants.{Read}
-use Rattle.cm_outside.specs.ProgramFault.{of_world}
-use Rattle.cm_outside.specs.Trace.{IoEvent, Opened}
-use Rattle.cm_outside.specs.InputFiles.{Reads, TakesBoth, RefusesBoth}
-use Rattle.cm_outside.specs.OutputFiles.{FinishesOutput, Readies, IsUnready}
+use Rattle.cm_system.specs.declared.program_fault.ProgramFault.{ProgramFault}
+use Rattle.cm_system.specs.declared.program_fault.ProgramFault.TheVariants.{Read}
+use Rattle.cm_system.specs.ProgramFault.{of_world}
+use Rattle.cm_system.specs.Trace.{IoEvent, Opened}
+use Rattle.cm_system.specs.InputFiles.{Reads, TakesBoth, RefusesBoth}
+use Rattle.cm_system.specs.OutputFiles.{FinishesOutput, Readies, IsUnready}
 use Rattle.cm_tools.specs.Weaving.{Outgoing, IsWoven}
 
 -- nothing was written

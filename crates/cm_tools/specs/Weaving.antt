@@ -5,15 +5,15 @@ use Rattle.cm_model.specs.Machine.{Machine, run_of}
 use Rattle.cm_exchange.specs.Lanes.{Exchange}
 use Rattle.cm_exchange.specs.Worlds.{World}
 use Rattle.cm_weave.specs.Woven.{Woven}
-use Rattle.cm_steps.specs.declared.fault.WeaveFault.{WeaveFault}
-use Rattle.cm_steps.specs.declared.fault.WeaveFault.TheVariants as weave
-use Rattle.cm_steps.specs.Alone.{own_text}
-use Rattle.cm_steps.specs.Ends.{EndsBy, EndsByForSome, EndsFinished, EndsFinishedForSome, IsWrittenInPart, is_weave_write}
-use Rattle.cm_steps.specs.Hearing.{exchange_in}
-use Rattle.cm_outside.specs.declared.program_fault.ProgramFault.{ProgramFault}
-use Rattle.cm_outside.specs.ProgramFault.{of_weave}
-use Rattle.cm_outside.specs.InputFiles.{Reads}
-use Rattle.cm_outside.specs.OutputFiles.{KeepsImage}
+use Rattle.cm_weave_text.specs.declared.fault.WeaveFault.{WeaveFault}
+use Rattle.cm_weave_text.specs.declared.fault.WeaveFault.TheVariants as weave
+use Rattle.cm_weave_text.specs.Alone.{own_text}
+use Rattle.cm_weave_text.specs.Ends.{EndsBy, EndsByForSome, EndsFinished, EndsFinishedForSome, IsWrittenInPart, is_weave_write}
+use Rattle.cm_weave_text.specs.Hearing.{exchange_in}
+use Rattle.cm_system.specs.declared.program_fault.ProgramFault.{ProgramFault}
+use Rattle.cm_system.specs.ProgramFault.{of_weave}
+use Rattle.cm_system.specs.InputFiles.{Reads}
+use Rattle.cm_system.specs.OutputFiles.{KeepsImage}
 
 -- what standard output held and holds, and whether it has failed
 pub record Outgoing : Type 0 where

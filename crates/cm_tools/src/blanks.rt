@@ -6,8 +6,8 @@ ghost use Rattle.cm_image_format.specs.Whole.{text_of};
 ghost use Rattle.cm_tools.specs.Fresh.{program_fresh_fault};
 
 use cm_image::blank_image;
-use cm_outside::ProgramFault;
 use cm_router::Routing;
+use cm_system::ProgramFault;
 use std::alloc::Global;
 
 /// The image of the blank machine of 2^`n` chips whose routers have room for `cap` messages each. The program

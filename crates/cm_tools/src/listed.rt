@@ -2,13 +2,13 @@
 
 ghost use Rattle.std.specs.Prelude.{◌≡◌, ◌↔◌, true, false, IfSome, IsErrOf, IsTrue, MatchResult};
 ghost use Rattle.std.specs.Io.KnownBytes.{IsAtEnd};
-ghost use Rattle.cm_outside.specs.ReadAll.{ConsumesAtMost};
+ghost use Rattle.cm_system.specs.ReadAll.{ConsumesAtMost};
 ghost use Rattle.cm_tools.specs.Listed.{EndsListing, EndsListingForSome, IsListingOf, HasNoListing, has_read_all};
 ghost use Rattle.cm_tools.specs.Listed.{is_listing_write};
 
 use cm_asm::assemble;
 use cm_bits::{Sink, Source, write_all};
-use cm_outside::{ProgramFault, take};
+use cm_system::{ProgramFault, take};
 use std::alloc::Global;
 
 const PROGRAM_LIMIT: u64 = 16777216;

@@ -2,7 +2,7 @@
 
 ghost use Rattle.std.specs.Prelude.{◌≡◌, ◌<◌, ◌^◌, ◌↔◌, true, false, length, Ok, IfSome, IsErrOf, IsTrue, MatchResult};
 ghost use Rattle.std.specs.Io.KnownBytes.{IsAtEnd};
-ghost use Rattle.cm_outside.specs.ReadAll.{ConsumesAtMost};
+ghost use Rattle.cm_system.specs.ReadAll.{ConsumesAtMost};
 ghost use Rattle.cm_tools.specs.Session.{ChipSessionEnds, EndsForSome, has_read_all, is_chip_write, answer_of};
 ghost use Rattle.cm_tools.specs.Session.{HasNoAnswer};
 
@@ -10,7 +10,7 @@ use crate::one_chip::run_chip;
 use crate::program::read_program;
 use crate::texts::chip_text;
 use cm_bits::{Sink, Source, write_all};
-use cm_outside::{ChipFault, TakeFault, take};
+use cm_system::{ChipFault, TakeFault, take};
 use std::alloc::Global;
 
 const CHIP_LIMIT: u64 = 1048576;

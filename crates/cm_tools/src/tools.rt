@@ -1,16 +1,16 @@
 //! What is done for the lines `chip`, `list` and `fresh`.
 
 ghost use Rattle.std.specs.Prelude.{◌≡◌, false};
-ghost use Rattle.cm_outside.specs.Trace.{HasTrace};
-ghost use Rattle.cm_outside.specs.InputFiles.{reads_by};
-ghost use Rattle.cm_outside.specs.Streams.{streams};
+ghost use Rattle.cm_system.specs.Trace.{HasTrace};
+ghost use Rattle.cm_system.specs.InputFiles.{reads_by};
+ghost use Rattle.cm_system.specs.Streams.{streams};
 ghost use Rattle.cm_tools.specs.Tools.{IsChipTrace, IsFreshTrace, IsListTrace};
 
 use crate::blanks::fresh;
 use crate::listed::list;
 use crate::session::chip_session;
 use cm_bits::{Sink, Source};
-use cm_outside::{ProgramFault, System, flush_out, put_file};
+use cm_system::{ProgramFault, System, flush_out, put_file};
 use std::alloc::Global;
 
 /// `chip`: a session of one chip, from standard input to standard output.

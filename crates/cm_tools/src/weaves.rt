@@ -2,11 +2,11 @@
 
 ghost use Rattle.std.specs.Prelude.{◌≡◌, false, IfOk, IfErr, IfSome, option_map, string_bytes};
 ghost use Rattle.cm_model.specs.Machine.{run_of};
-ghost use Rattle.cm_steps.specs.Ends.{is_weave_write};
-ghost use Rattle.cm_steps.specs.Hearing.{exchange_in};
+ghost use Rattle.cm_weave_text.specs.Ends.{is_weave_write};
+ghost use Rattle.cm_weave_text.specs.Hearing.{exchange_in};
 ghost use Rattle.cm_sizes.specs.Sizes.{sized};
-ghost use Rattle.cm_outside.specs.Trace.{HasTrace};
-ghost use Rattle.cm_outside.specs.InputFiles.{reads_by};
+ghost use Rattle.cm_system.specs.Trace.{HasTrace};
+ghost use Rattle.cm_system.specs.InputFiles.{reads_by};
 ghost use Rattle.cm_tools.specs.Weaving.{EndsExchange, ended_of, outgoing_of};
 ghost use Rattle.cm_tools.specs.Weaves.{IsWeaveTrace, OpensEnds, OpensSteps, RefusesEnds, RefusesSteps, WeavesAt};
 ghost use Rattle.cm_tools.specs.Weaves.{WeavesWorld};
@@ -14,10 +14,10 @@ ghost use Rattle.cm_tools.specs.Weaves.{WeavesWorld};
 use cm_array::Machine;
 use cm_asm::Program;
 use cm_bits::{Failed, Sink, Source};
-use cm_outside::{ProgramFault, System, Taken, abort_files, finish_files, make_ready, take_both};
 use cm_sizes::{AnyMachine, on_machine};
-use cm_steps::{WeaveFault, weave_self, weave_session};
+use cm_system::{ProgramFault, System, Taken, abort_files, finish_files, make_ready, take_both};
 use cm_weave::World;
+use cm_weave_text::{WeaveFault, weave_self, weave_session};
 use std::alloc::Global;
 
 /// What is asked of an exchange: the files of an image, of a program and of the steps, if one is named, into 2^`split`

@@ -13,11 +13,11 @@ use crate::offers::Load;
 use crate::sources::Source;
 use crate::telling::{push_latencies, taken_in};
 use cm_bits::NoMemory;
-use cm_crossing::{RouterEngine, Shape};
 use cm_element::Run;
 use cm_message::Event;
 use cm_petit::cycle;
 use cm_router::Routing;
+use cm_router_engine::{RouterEngine, Shape};
 
 /// What was told so far.
 #[derive(Debug, Drop)]

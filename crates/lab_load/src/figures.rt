@@ -16,10 +16,10 @@ use crate::cycles::{Told, go_through};
 use crate::offers::Load;
 use crate::sources::Source;
 use cm_bits::NoMemory;
-use cm_crossing::{RouterEngine, Shape};
 use cm_element::Run;
 use cm_message::Event;
 use cm_router::Routing;
+use cm_router_engine::{RouterEngine, Shape};
 use std::alloc::Global;
 
 /// What was offered to a machine, and what became of it.

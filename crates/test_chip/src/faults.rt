@@ -1,7 +1,7 @@
 //! Faults that no text ends with, as the program has them.
 
 use crate::cases::{Case, first_not_so};
-use cm_outside::{AsmFault, AsmKind, ChipFault, LineFault, ProgramFault, TakeFault};
+use cm_system::{AsmFault, AsmKind, ChipFault, LineFault, ProgramFault, TakeFault};
 use std::alloc::Global;
 use std::test::Fail;
 

@@ -1,10 +1,10 @@
 //! Growths of memory that are refused: of chips, of what is read, of the words of a command line, and in a session.
 
+use cm_args::{Line, LineFault, command};
 use cm_bits::NoMemory;
 use cm_bits::doubles::{Bytes, Room};
 use cm_element::{Chip, NearRun, Run, WideOutputs};
-use cm_line::{Line, LineFault, command};
-use cm_outside::{AsmKind, ChipFault, TakeFault, take};
+use cm_system::{AsmKind, ChipFault, TakeFault, take};
 use cm_tools::chip_session;
 use std::alloc::{AllocError, Global};
 use test_generators::{Call, address, first_not_so, flag, processor};

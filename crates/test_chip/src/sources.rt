@@ -6,7 +6,7 @@ use crate::cases::{Case, first_not_so};
 use crate::scripted::{Answer, Scripted};
 use cm_bits::doubles::Bytes;
 use cm_bits::{Failed, Source, Std};
-use cm_outside::{TakeFault, take};
+use cm_system::{TakeFault, take};
 use std::alloc::Global;
 use std::test::Fail;
 

@@ -4,7 +4,7 @@ use crate::hostile::FOUR_CHIPS;
 use cm_array::Machine;
 use cm_bits::NoMemory;
 use cm_image::{ImageFault, dump, load};
-use cm_outside::ProgramFault;
+use cm_system::ProgramFault;
 use cm_tools::fresh;
 use std::alloc::Global;
 use test_generators::{Call, first_not_so};

@@ -4,7 +4,7 @@
 use crate::growths::BLANK;
 use cm_bits::doubles::{Bytes, Room};
 use cm_bits::{Field, write_all};
-use cm_outside::{TakeFault, take};
+use cm_system::{TakeFault, take};
 use lab_data::{LabFault, NumbersFault, Order, Task, perform};
 use std::alloc::Global;
 use std::test::Fail;

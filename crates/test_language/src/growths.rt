@@ -8,7 +8,7 @@ use cm_bits::{Field, NoMemory};
 use cm_language::{Context, Macro, MacroFault};
 use cm_macros::expand;
 use cm_model::Act;
-use cm_outside::ProgramFault;
+use cm_system::ProgramFault;
 use cm_tools::list;
 use std::alloc::{AllocError, Global};
 use test_generators::{Call, are_same, first_not_so, flag, processor};

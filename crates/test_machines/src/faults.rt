@@ -2,9 +2,9 @@
 
 use cm_array::{BuildFault, MachineFault, RunFault};
 use cm_element::ZeroFlag;
-use cm_steps::WeaveFault;
 use cm_subcube::SplitFault;
 use cm_weave::{NotNow, WorldFault};
+use cm_weave_text::WeaveFault;
 use cm_workers::ForkFault;
 use std::alloc::Global;
 use std::fmt::Display;

@@ -6,7 +6,6 @@ ghost use Rattle.std.specs.Prelude.{◌+◌, ◌^◌, ◌≤◌, IsTrue};
 use crate::routes::{Routes, is_of_cube, routed};
 use cm_array::step;
 use cm_bits::{Addr, Dir, Field, FlagNo, Proc};
-use cm_crossing::{RouterEngine, Shape};
 use cm_element::Run;
 use cm_message::{Event, Message, Tag};
 use cm_model::Nano;
@@ -14,6 +13,7 @@ use cm_petit::{
     are_routers, cross, cycle, deliver, has_log_room, has_space, inject, leave, take_in,
 };
 use cm_router::{Routing, Rule};
+use cm_router_engine::{RouterEngine, Shape};
 use std::alloc::Global;
 use std::test::Fail;
 

@@ -2,11 +2,11 @@
 
 use crate::bands::{Band, ask, blank_logs, has_same_planes, next, sizes};
 use crate::routes::{Routes, is_of_cube, routed};
-use cm_crossing::Shape;
 use cm_element::Run;
 use cm_message::Event;
 use cm_petit::{are_nodes, cycle_of_nodes, has_log_room};
 use cm_router::{Node, Routing, Rule};
+use cm_router_engine::Shape;
 use std::alloc::Global;
 use std::test::Fail;
 

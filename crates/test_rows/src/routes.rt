@@ -3,8 +3,8 @@
 ghost use Rattle.std.specs.Prelude.{◌≡◌, IsTrue};
 
 use cm_bits::Edge;
-use cm_crossing::Shape;
 use cm_router::{Cuts, Routing, Rule};
+use cm_router_engine::Shape;
 use std::alloc::Global;
 use std::test::Fail;
 

@@ -2,11 +2,11 @@
 
 use crate::bands::{Band, ask, has_same_planes, next, sizes};
 use crate::routes::{Routes, is_of_cube, routed};
-use cm_crossing::{RouterEngine, Shape};
 use cm_element::Run;
 use cm_message::Event;
 use cm_petit::cycle_into_row;
 use cm_router::{Routing, Rule};
+use cm_router_engine::{RouterEngine, Shape};
 use std::alloc::Global;
 use std::test::Fail;
 

@@ -5,7 +5,7 @@ ghost use Rattle.std.specs.Prelude.{◌≡◌, false};
 use cm_bits::doubles::{Bytes, Room};
 use cm_bits::{Failed, Sink};
 use cm_cli::perform;
-use cm_outside::{LineFault, PutFault, System, Written};
+use cm_system::{LineFault, PutFault, System, Written};
 use std::alloc::{AllocError, Global};
 use std::sync::Wait;
 use std::thread::Threads;

@@ -4,7 +4,7 @@ use crate::files::{Files, files_of, run};
 use crate::runs::{Given, bytes_of};
 use cm_bits::doubles::{Bytes, Room};
 use cm_cli::{Alone, RunLine, Several, Sharing, run_files};
-use cm_outside::ProgramFault;
+use cm_system::ProgramFault;
 use cm_workers::Passage;
 use std::alloc::Global;
 use std::sync::Wait;

@@ -3,7 +3,7 @@
 use cm_bits::doubles::{Bytes, Room};
 use cm_bits::{Failed, Sink};
 use cm_cli::perform;
-use cm_outside::{LineFault, PutFault, System, Written};
+use cm_system::{LineFault, PutFault, System, Written};
 use std::alloc::{AllocError, Global};
 use std::sync::Wait;
 use std::thread::Threads;

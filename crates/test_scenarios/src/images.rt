@@ -5,7 +5,7 @@ use crate::whole::tell_fault;
 use cm_array::Machine;
 use cm_bits::{Words, read_number};
 use cm_image::{dump, load, shape};
-use cm_outside::ProgramFault;
+use cm_system::ProgramFault;
 use cm_tools::fresh;
 use std::alloc::{AllocError, Global};
 

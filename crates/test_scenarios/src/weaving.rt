@@ -9,9 +9,9 @@ use crate::scene::Scene;
 use cm_array::Machine;
 use cm_bits::doubles::Room;
 use cm_model::Act;
-use cm_outside::ProgramFault;
-use cm_steps::{weave_self, weave_session};
+use cm_system::ProgramFault;
 use cm_weave::World;
+use cm_weave_text::{weave_self, weave_session};
 use std::alloc::{AllocError, Global};
 
 /// Which steps an exchange takes.

@@ -6,10 +6,10 @@ ghost use Rattle.cm_bits.specs.Doubles.{bytes_has_failed, room_has_failed};
 use crate::ends::{Ends, WHOLE};
 use crate::playing::{tell, tell_made};
 use crate::scene::Scene;
+use cm_args::command;
 use cm_bits::doubles::{Bytes, Room};
 use cm_bits::{Words, read_number};
-use cm_line::command;
-use cm_outside::{ProgramFault, report};
+use cm_system::{ProgramFault, report};
 use cm_tools::{chip_session, list};
 use std::alloc::{AllocError, Global};
 

@@ -8,8 +8,8 @@ use cm_array::{Machine, Plain, Runner};
 use cm_bits::FlagNo;
 use cm_bits::doubles::{Bytes, Room};
 use cm_model::Act;
-use cm_steps::{WeaveFault, weave_self, weave_session};
 use cm_weave::{Refused, World, WorldFault};
+use cm_weave_text::{WeaveFault, weave_self, weave_session};
 use std::alloc::Global;
 use test_generators::{Call, are_same, first_not_so, poke_plane};
 

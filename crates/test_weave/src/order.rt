@@ -5,8 +5,8 @@ ghost use Rattle.std.specs.Prelude.{None, false};
 use cm_array::Machine;
 use cm_bits::{Failed, Sink, Source};
 use cm_model::Act;
-use cm_steps::weave_session;
 use cm_weave::World;
+use cm_weave_text::weave_session;
 use std::alloc::Global;
 use std::cell::Cell;
 

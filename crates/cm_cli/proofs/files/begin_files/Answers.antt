@@ -1,7 +1,7 @@
 use Rattle.std.proofs.Common.{inl}
-use Rattle.cm_outside.specs.InputFiles.{reads_by}
-use Rattle.cm_outside.proofs.Leading.{did_so}
-use Rattle.cm_outside.proofs.Taking.{taken_of, refused_of}
+use Rattle.cm_system.specs.InputFiles.{reads_by}
+use Rattle.cm_system.proofs.Leading.{did_so}
+use Rattle.cm_system.proofs.Taking.{taken_of, refused_of}
 use Rattle.cm_cli.proofs.Beginning.{begun_so, unbegun_so}
 use Rattle.cm_cli.proofs.files.begin_files.Goals as goal
 

@@ -1,5 +1,5 @@
 use Rattle.std.proofs.Common.{[], refl, inl, inr}
-use Rattle.cm_outside.proofs.Leading.{did_so}
+use Rattle.cm_system.proofs.Leading.{did_so}
 use Rattle.cm_cli.proofs.files.begin_taken.Goals as goal
 
 pub returns-in-Err-clause-refused : goal.returns-in-Err-clause-refused

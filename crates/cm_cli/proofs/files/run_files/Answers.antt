@@ -1,6 +1,6 @@
 use Rattle.std.proofs.Common.{refl, inl, inr}
 use Rattle.cm_sizes.specs.Sizes.{sized}
-use Rattle.cm_outside.proofs.Leading.{did_so, did_both}
+use Rattle.cm_system.proofs.Leading.{did_so, did_both}
 use Rattle.cm_cli.proofs.files.run_files.Goals as goal
 
 pub run_any-requires : goal.run_any-requires

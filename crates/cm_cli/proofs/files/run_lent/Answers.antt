@@ -1,8 +1,8 @@
 use Rattle.std.proofs.Common.{Err}
 use Rattle.std.specs.Option.{is_some}
 use Rattle.cm_sizes.specs.Sizes.{sized}
-use Rattle.cm_outside.specs.Streams.{streams}
-use Rattle.cm_outside.proofs.Leading.{did_so}
+use Rattle.cm_system.specs.Streams.{streams}
+use Rattle.cm_system.proofs.Leading.{did_so}
 use Rattle.cm_cli.proofs.Sessions.{kept_without}
 use Rattle.cm_cli.proofs.Going.{left_so, off_so, wants_thread}
 use Rattle.cm_cli.proofs.files.run_lent.Goals as goal

@@ -1,5 +1,5 @@
 use Rattle.std.proofs.Common.{Ok, Err, refl, ap}
-use Rattle.cm_outside.proofs.Leading.{one}
+use Rattle.cm_system.proofs.Leading.{one}
 use Rattle.cm_cli.proofs.performing.ask_line.Goals as goal
 
 pub returns-in-Ok-line_of-clause-value : goal.returns-in-Ok-line_of-clause-value

@@ -1,5 +1,5 @@
 use Rattle.std.proofs.Common.{refl}
-use Rattle.cm_outside.proofs.Leading.{did_so}
+use Rattle.cm_system.proofs.Leading.{did_so}
 use Rattle.cm_cli.proofs.performing.do_line.Goals as goal
 
 pub returns-in-Chip : goal.returns-in-Chip

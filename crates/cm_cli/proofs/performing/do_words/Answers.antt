@@ -1,5 +1,5 @@
 use Rattle.std.proofs.Common.{refl, inl, inr}
-use Rattle.cm_outside.proofs.Leading.{did_so, did_both}
+use Rattle.cm_system.proofs.Leading.{did_so, did_both}
 use Rattle.cm_cli.proofs.performing.do_words.Goals as goal
 
 pub returns-in-Ok : goal.returns-in-Ok

@@ -1,8 +1,8 @@
 use Rattle.std.proofs.Common.{◌≡◌, ℕ, List, Bor, map, subst, arith}
 use Rattle.std.specs.Prelude.{IfOk, IsErrOf}
 use Rattle.std.proofs.lemmas.Grind.{common_steps}
-use Rattle.cm_line.specs.Lines.{AsksFor, IsBadLine}
-use Rattle.cm_line.specs.declared.fault.LineFault.TheVariants.{BadLine}
+use Rattle.cm_args.specs.Lines.{AsksFor, IsBadLine}
+use Rattle.cm_args.specs.declared.fault.LineFault.TheVariants.{BadLine}
 use Rattle.cm_cli.specs.Performed.{asked_words}
 use Rattle.cm_cli.proofs.performing.line_of.Goals as goal
 

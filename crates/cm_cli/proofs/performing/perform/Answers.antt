@@ -1,4 +1,4 @@
-use Rattle.cm_outside.proofs.Leading.{did_so}
+use Rattle.cm_system.proofs.Leading.{did_so}
 use Rattle.cm_cli.proofs.performing.perform.Goals as goal
 
 pub returns : goal.returns

@@ -1,5 +1,5 @@
 use Rattle.std.proofs.Common.{Ok, Err, [], refl}
-use Rattle.cm_outside.proofs.Leading.{did_so}
+use Rattle.cm_system.proofs.Leading.{did_so}
 use Rattle.cm_tools.proofs.tools.fresh_line.Goals as goal
 
 pub returns-in-Ok : goal.returns-in-Ok

@@ -1,5 +1,5 @@
 use Rattle.std.proofs.Common.{Ok, Err, [], refl}
-use Rattle.cm_outside.proofs.Leading.{one}
+use Rattle.cm_system.proofs.Leading.{one}
 use Rattle.cm_tools.proofs.tools.list_line.Goals as goal
 
 pub returns-in-Ok-list : goal.returns-in-Ok-list

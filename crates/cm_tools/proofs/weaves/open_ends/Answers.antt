@@ -1,5 +1,5 @@
 use Rattle.std.proofs.Common.{refl, inl, inr}
-use Rattle.cm_outside.proofs.Leading.{did_so, did_both}
+use Rattle.cm_system.proofs.Leading.{did_so, did_both}
 use Rattle.cm_tools.proofs.weaves.open_ends.Goals as goal
 
 pub returns-in-Err : goal.returns-in-Err

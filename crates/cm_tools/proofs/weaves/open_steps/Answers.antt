@@ -1,5 +1,5 @@
 use Rattle.std.proofs.Common.{[], refl}
-use Rattle.cm_outside.proofs.Leading.{one}
+use Rattle.cm_system.proofs.Leading.{one}
 use Rattle.cm_tools.proofs.weaves.open_steps.Goals as goal
 
 pub returns-in_default : goal.returns-in_default

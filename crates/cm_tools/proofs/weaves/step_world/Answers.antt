@@ -1,5 +1,5 @@
-use Rattle.cm_steps.specs.Hearing.{exchange_in}
-use Rattle.cm_outside.specs.InputFiles.{reads_by}
+use Rattle.cm_weave_text.specs.Hearing.{exchange_in}
+use Rattle.cm_system.specs.InputFiles.{reads_by}
 use Rattle.cm_tools.specs.Weaving.{outgoing_of}
 use Rattle.cm_tools.proofs.Weaving.{hears_so, tells_so}
 use Rattle.cm_tools.proofs.weaves.step_world.Goals as goal

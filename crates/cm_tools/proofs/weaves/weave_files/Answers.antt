@@ -1,7 +1,7 @@
 use Rattle.std.proofs.Common.{refl, inl, inr}
 use Rattle.cm_sizes.specs.Sizes.{sized}
-use Rattle.cm_outside.proofs.Leading.{did_so, did_both}
-use Rattle.cm_outside.proofs.Taking.{taken_of, refused_of}
+use Rattle.cm_system.proofs.Leading.{did_so, did_both}
+use Rattle.cm_system.proofs.Taking.{taken_of, refused_of}
 use Rattle.cm_tools.proofs.weaves.weave_files.Goals as goal
 
 pub returns-in-Err : goal.returns-in-Err

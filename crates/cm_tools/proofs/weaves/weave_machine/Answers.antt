@@ -1,5 +1,5 @@
 use Rattle.std.proofs.Common.{[], refl, inl, inr}
-use Rattle.cm_outside.proofs.Leading.{did_so}
+use Rattle.cm_system.proofs.Leading.{did_so}
 use Rattle.cm_tools.proofs.Weaving.{faultless, same_acts, told_fault}
 use Rattle.cm_tools.proofs.weaves.weave_machine.Goals as goal
 

@@ -1,8 +1,8 @@
 use Rattle.std.proofs.Common.{Ok, Err, refl, inl, inr, subst}
 use Rattle.std.specs.Option.{is_some}
 use Rattle.cm_model.specs.Machine.{Machine}
-use Rattle.cm_outside.specs.OutputFiles.{KeepsImage}
-use Rattle.cm_outside.proofs.Leading.{did_so, did_both}
+use Rattle.cm_system.specs.OutputFiles.{KeepsImage}
+use Rattle.cm_system.proofs.Leading.{did_so, did_both}
 use Rattle.cm_tools.proofs.weaves.weave_world.Goals as goal
 
 pub returns-in-Err : goal.returns-in-Err

@@ -1,0 +1,300 @@
+ghost use Rattle.std.specs.Prelude.{◌≡◌, ℕ, List, [], ◌∷◌, Option, Some, None, IfOk, IfSome, IsErrOf, String};
+ghost use Rattle.std.specs.Prelude.{codes, option_map, string_bytes};
+ghost use Rattle.clap.specs.Walk.{first_of, rows_of, texts};
+ghost use Rattle.clap.specs.Matches.{found_of};
+ghost use Rattle.cm_args.specs.Lines.{AsksFor, IsBadLine, IsLine, IsFreshLine, IsRunLine, IsNumberOperand};
+ghost use Rattle.cm_args.specs.Lines.{IsNumberOption, IsWeaveLine};
+
+use crate::app::{DIMENSION, FILE, IMAGE, OUT, PROGRAM, ROOM, SPLIT, STEPS, WORKERS, matches};
+use crate::fault::LineFault;
+use clap::ArgMatches;
+use std::alloc::{AllocError, Global};
+
+/// What the program is asked to do.
+#[derive(Debug, PartialEq, Eq, Drop)]
+pub enum Line {
+    /// `chip`: reads the text of one chip from standard input, and writes its answers to standard
+    /// output.
+    Chip,
+    /// `list PROGRAM`: writes the listing of the program text in this file to standard output.
+    List {
+        program: String,
+    },
+    /// `fresh N CAP FILE`: writes the image of a blank machine of 2^N chips and room CAP into this file. N is from 0
+    /// to 12, CAP from 1 to 15.
+    Fresh {
+        n: u8,
+        cap: u8,
+        file: String,
+    },
+    /// `run IMAGE PROGRAM [--split K] [--workers W] [--out FILE]`: runs the program in this file on the machine of
+    /// this image, by the commands of standard input. The image of the machine that is left goes into the file of
+    /// `--out`, if one is named. K is from 0 to 6, and 0 where it is left out; W is from 1 to 64, and 1.
+    Run {
+        image: String,
+        program: String,
+        split: u8,
+        workers: u8,
+        out: Option<String>,
+    },
+    /// `weave IMAGE PROGRAM [STEPS] [--split K] [--out FILE]`: steps the exchange of the 2^K blocks of the machine of
+    /// this image, which run the program in this file, by the lines of the file STEPS, or by itself where it is left
+    /// out. The image of the machine that is left goes into the file of `--out`, if one is named. K is as in `run`.
+    Weave {
+        image: String,
+        program: String,
+        steps: Option<String>,
+        split: u8,
+        out: Option<String>,
+    },
+}
+
+/// Reads the words of a command line. The first is the program's name, and may be any.
+///
+/// The words mean what clap makes of them by default, so a lone `--` may end them. There is no help
+/// and no version to ask for.
+pub fn command<'a>(alloc: Global, words: &'a [&'a str]) -> Result<Line, LineFault>
+    ensures value { IfOk result (AsksFor (texts words.now)) }
+    ensures bad_line { IsErrOf result LineFault.BadLine → IsBadLine (texts words.now) }
+{
+    let matches = matches(alloc, words)?;
+    match matches.subcommand() {
+        Some(("chip", _)) => Ok(Line::Chip),
+        Some(("list", operands)) => list_line(alloc, operands),
+        Some(("fresh", operands)) => fresh_line(alloc, operands),
+        Some(("run", operands)) => run_line(alloc, operands),
+        Some(("weave", operands)) => weave_line(alloc, operands),
+        _ => Err(LineFault::BadLine),
+    }
+}
+
+/// The line of `list`, by what was found for its operand.
+fn list_line(alloc: Global, operands: &ArgMatches) -> Result<Line, LineFault>
+    ensures value { IfOk result (λ line. IsLine line (codes "list", rows_of (found_of operands.now))) }
+    ensures none { IsErrOf result LineFault.BadLine
+        → first_of (codes "program") (rows_of (found_of operands.now)) ≡ None }
+{
+    match operands.get_str(PROGRAM) {
+        Some(program) => Ok(Line::List {
+            program: String::from_str(alloc, program)?,
+        }),
+        None => Err(LineFault::BadLine),
+    }
+}
+
+/// The line of `fresh`, by what was found for its operands.
+fn fresh_line(alloc: Global, operands: &ArgMatches) -> Result<Line, LineFault>
+    ensures value { IfOk result (λ line. IsLine line (codes "fresh", rows_of (found_of operands.now))) }
+    ensures none { IsErrOf result LineFault.BadLine
+        → (n : ℕ) (cap : ℕ) (file : List ℕ) → ¬ IsFreshLine n cap file (rows_of (found_of operands.now)) }
+{
+    let Some(n) = number_operand(operands, DIMENSION, 0, 12) else {
+        return Err(LineFault::BadLine);
+    };
+    let Some(cap) = number_operand(operands, ROOM, 1, 15) else {
+        return Err(LineFault::BadLine);
+    };
+    let Some(file) = operands.get_str(FILE) else {
+        return Err(LineFault::BadLine);
+    };
+    Ok(Line::Fresh {
+        n,
+        cap,
+        file: String::from_str(alloc, file)?,
+    })
+}
+
+/// The line of `run`, by what was found for its operands and its options.
+fn run_line(alloc: Global, operands: &ArgMatches) -> Result<Line, LineFault>
+    ensures value { IfOk result (λ line. IsLine line (codes "run", rows_of (found_of operands.now))) }
+    ensures none { IsErrOf result LineFault.BadLine
+        → (image : List ℕ) (program : List ℕ) (split : ℕ) (workers : ℕ) (out : Option (List ℕ))
+        → ¬ IsRunLine image program split workers out (rows_of (found_of operands.now)) }
+{
+    let Some(image) = operands.get_str(IMAGE) else {
+        return Err(LineFault::BadLine);
+    };
+    let Some(program) = operands.get_str(PROGRAM) else {
+        return Err(LineFault::BadLine);
+    };
+    let Some(split) = number_option(operands, SPLIT, 0, 6, 0) else {
+        return Err(LineFault::BadLine);
+    };
+    let Some(workers) = number_option(operands, WORKERS, 1, 64, 1) else {
+        return Err(LineFault::BadLine);
+    };
+    Ok(Line::Run {
+        image: String::from_str(alloc, image)?,
+        program: String::from_str(alloc, program)?,
+        split,
+        workers,
+        out: file_if_named(alloc, operands, OUT)?,
+    })
+}
+
+/// The line of `weave`, by what was found for its operands and its options.
+fn weave_line(alloc: Global, operands: &ArgMatches) -> Result<Line, LineFault>
+    ensures value { IfOk result (λ line. IsLine line (codes "weave", rows_of (found_of operands.now))) }
+    ensures none { IsErrOf result LineFault.BadLine
+        → (image : List ℕ) (program : List ℕ) (steps : Option (List ℕ)) (split : ℕ) (out : Option (List ℕ))
+        → ¬ IsWeaveLine image program steps split out (rows_of (found_of operands.now)) }
+{
+    let Some(image) = operands.get_str(IMAGE) else {
+        return Err(LineFault::BadLine);
+    };
+    let Some(program) = operands.get_str(PROGRAM) else {
+        return Err(LineFault::BadLine);
+    };
+    let Some(split) = number_option(operands, SPLIT, 0, 6, 0) else {
+        return Err(LineFault::BadLine);
+    };
+    Ok(Line::Weave {
+        image: String::from_str(alloc, image)?,
+        program: String::from_str(alloc, program)?,
+        steps: file_if_named(alloc, operands, STEPS)?,
+        split,
+        out: file_if_named(alloc, operands, OUT)?,
+    })
+}
+
+/// The name of a file that was found, if one was.
+fn file_if_named(
+    alloc: Global,
+    operands: &ArgMatches,
+    name: &str,
+) -> Result<Option<String>, AllocError>
+    ensures { IfOk result
+        (λ file. first_of name.now (rows_of (found_of operands.now)) ≡ option_map string_bytes file) }
+{
+    match operands.get_str(name) {
+        Some(file) => Ok(Some(String::from_str(alloc, file)?)),
+        None => Ok(None),
+    }
+}
+
+/// The number that was found for an operand, if it is one of this range.
+fn number_operand(operands: &ArgMatches, name: &str, least: u8, most: u8) -> Option<u8>
+    ensures some { IfSome result
+        (λ number. IsNumberOperand name.now (rows_of (found_of operands.now)) least most number) }
+    ensures none { result ≡ None
+        → (number : ℕ) → ¬ IsNumberOperand name.now (rows_of (found_of operands.now)) least most number }
+{
+    let text = operands.get_str(name)?;
+    match text.parse::<u8>() {
+        Ok(number) if least <= number && number <= most => Some(number),
+        _ => None,
+    }
+}
+
+/// The number that was found for an option, if it is one of this range; `usual` where the option is left out.
+fn number_option(operands: &ArgMatches, name: &str, least: u8, most: u8, usual: u8) -> Option<u8>
+    ensures some { IfSome result (IsNumberOption name.now (rows_of (found_of operands.now)) least most usual) }
+    ensures none { result ≡ None
+        → (number : ℕ) → ¬ IsNumberOption name.now (rows_of (found_of operands.now)) least most usual number }
+{
+    match operands.get_str(name) {
+        Some(_) => number_operand(operands, name, least, most),
+        None => Some(usual),
+    }
+}
+
+/// A law: of the words below, `chip` alone, `list` with one operand, `fresh` with three, `run` with two and at most one
+/// `--out`, `--split` and `--workers` each, before its operands or behind them, and `weave` with two or three and at
+/// most one `--out` and `--split` each ask for a line. A call for help or for the version, no subcommand, no word at
+/// all, an unknown subcommand, an operand or an option of `chip`, `list` with no operand, with two or with an option,
+/// `run` with one operand or three, with another option, with an option twice, or with no file or no number of its
+/// range behind it, and `weave` with one operand or four, with `--workers`, or with a number out of its range do not.
+#[tactic(auto, unfolding(clap::proofs::OnLiterals::clap_on_literals))]
+pub fn lines_and_bad_lines()
+    ensures chip { AsksFor (codes "cm1" ∷ codes "chip" ∷ []) Line.Chip }
+    ensures lone_dashes { AsksFor (codes "cm1" ∷ codes "chip" ∷ codes "--" ∷ []) Line.Chip }
+    ensures list { (program : String Global) → string_bytes program ≡ codes "sums.txt"
+        → AsksFor (codes "cm1" ∷ codes "list" ∷ codes "sums.txt" ∷ []) (Line.List program) }
+    ensures fresh { (file : String Global) → string_bytes file ≡ codes "blank.image"
+        → AsksFor (codes "cm1" ∷ codes "fresh" ∷ codes "12" ∷ codes "7" ∷ codes "blank.image" ∷ [])
+        (Line.Fresh 12 7 file) }
+    ensures help { IsBadLine (codes "cm1" ∷ codes "help" ∷ []) }
+    ensures help_flag { IsBadLine (codes "cm1" ∷ codes "--help" ∷ []) }
+    ensures short_help_flag { IsBadLine (codes "cm1" ∷ codes "-h" ∷ []) }
+    ensures help_of_chip { IsBadLine (codes "cm1" ∷ codes "chip" ∷ codes "--help" ∷ []) }
+    ensures version_flag { IsBadLine (codes "cm1" ∷ codes "--version" ∷ []) }
+    ensures short_version_flag { IsBadLine (codes "cm1" ∷ codes "-V" ∷ []) }
+    ensures name_alone { IsBadLine (codes "cm1" ∷ []) }
+    ensures no_words { IsBadLine [] }
+    ensures unknown { IsBadLine (codes "cm1" ∷ codes "ship" ∷ []) }
+    ensures operand { IsBadLine (codes "cm1" ∷ codes "chip" ∷ codes "3" ∷ []) }
+    ensures option { IsBadLine (codes "cm1" ∷ codes "chip" ∷ codes "--out" ∷ []) }
+    ensures no_program { IsBadLine (codes "cm1" ∷ codes "list" ∷ []) }
+    ensures two_programs { IsBadLine (codes "cm1" ∷ codes "list" ∷ codes "sums.txt" ∷ codes "more.txt" ∷ []) }
+    ensures run { (image : String Global) (program : String Global) → string_bytes image ≡ codes "a.image"
+        → string_bytes program ≡ codes "sums.txt"
+        → AsksFor (codes "cm1" ∷ codes "run" ∷ codes "a.image" ∷ codes "sums.txt" ∷ [])
+        (Line.Run image program 0 1 None) }
+    ensures run_with_out { (image : String Global) (program : String Global) (out : String Global)
+        → string_bytes image ≡ codes "a.image" → string_bytes program ≡ codes "sums.txt"
+        → string_bytes out ≡ codes "b.image"
+        → AsksFor
+        (codes "cm1" ∷ codes "run" ∷ codes "a.image" ∷ codes "sums.txt" ∷ codes "--out" ∷ codes "b.image" ∷ [])
+        (Line.Run image program 0 1 (Some out)) }
+    ensures run_with_out_first { (image : String Global) (program : String Global) (out : String Global)
+        → string_bytes image ≡ codes "a.image" → string_bytes program ≡ codes "sums.txt"
+        → string_bytes out ≡ codes "b.image"
+        → AsksFor (codes "cm1" ∷ codes "run" ∷ codes "--out=b.image" ∷ codes "a.image" ∷ codes "sums.txt" ∷ [])
+        (Line.Run image program 0 1 (Some out)) }
+    ensures run_with_split { (image : String Global) (program : String Global) → string_bytes image ≡ codes "a.image"
+        → string_bytes program ≡ codes "sums.txt"
+        → AsksFor
+        (codes "cm1" ∷ codes "run" ∷ codes "a.image" ∷ codes "sums.txt" ∷ codes "--split" ∷ codes "6" ∷ [])
+        (Line.Run image program 6 1 None) }
+    ensures run_with_workers { (image : String Global) (program : String Global) → string_bytes image ≡ codes "a.image"
+        → string_bytes program ≡ codes "sums.txt"
+        → AsksFor
+        (codes "cm1" ∷ codes "run" ∷ codes "--split=2" ∷ codes "--workers" ∷ codes "64" ∷ codes "a.image"
+        ∷ codes "sums.txt" ∷ [])
+        (Line.Run image program 2 64 None) }
+    ensures option_of_list { IsBadLine (codes "cm1" ∷ codes "list" ∷ codes "sums.txt" ∷ codes "--out" ∷ []) }
+    ensures run_without_program { IsBadLine (codes "cm1" ∷ codes "run" ∷ codes "a.image" ∷ []) }
+    ensures run_of_three { IsBadLine
+        (codes "cm1" ∷ codes "run" ∷ codes "a.image" ∷ codes "sums.txt" ∷ codes "more.txt" ∷ []) }
+    ensures unknown_option_of_run { IsBadLine
+        (codes "cm1" ∷ codes "run" ∷ codes "a.image" ∷ codes "sums.txt" ∷ codes "--steps" ∷ codes "4" ∷ []) }
+    ensures out_without_file { IsBadLine
+        (codes "cm1" ∷ codes "run" ∷ codes "a.image" ∷ codes "sums.txt" ∷ codes "--out" ∷ []) }
+    ensures out_twice { IsBadLine
+        (codes "cm1" ∷ codes "run" ∷ codes "a.image" ∷ codes "sums.txt" ∷ codes "--out=b" ∷ codes "--out=c" ∷ []) }
+    ensures split_above_6 { IsBadLine
+        (codes "cm1" ∷ codes "run" ∷ codes "a.image" ∷ codes "sums.txt" ∷ codes "--split" ∷ codes "7" ∷ []) }
+    ensures split_that_is_no_number { IsBadLine
+        (codes "cm1" ∷ codes "run" ∷ codes "a.image" ∷ codes "sums.txt" ∷ codes "--split" ∷ codes "two" ∷ []) }
+    ensures split_without_number { IsBadLine
+        (codes "cm1" ∷ codes "run" ∷ codes "a.image" ∷ codes "sums.txt" ∷ codes "--split" ∷ []) }
+    ensures split_twice { IsBadLine
+        (codes "cm1" ∷ codes "run" ∷ codes "a.image" ∷ codes "sums.txt" ∷ codes "--split=1" ∷ codes "--split=2" ∷ []) }
+    ensures no_workers { IsBadLine
+        (codes "cm1" ∷ codes "run" ∷ codes "a.image" ∷ codes "sums.txt" ∷ codes "--workers" ∷ codes "0" ∷ []) }
+    ensures workers_above_64 { IsBadLine
+        (codes "cm1" ∷ codes "run" ∷ codes "a.image" ∷ codes "sums.txt" ∷ codes "--workers" ∷ codes "65" ∷ []) }
+    ensures workers_twice { IsBadLine
+        (codes "cm1" ∷ codes "run" ∷ codes "a.image" ∷ codes "sums.txt" ∷ codes "--workers=1" ∷ codes "--workers=2"
+        ∷ []) }
+    ensures weave { (image : String Global) (program : String Global) → string_bytes image ≡ codes "a.image"
+        → string_bytes program ≡ codes "sums.txt"
+        → AsksFor (codes "cm1" ∷ codes "weave" ∷ codes "a.image" ∷ codes "sums.txt" ∷ [])
+        (Line.Weave image program None 0 None) }
+    ensures weave_with_steps { (image : String Global) (program : String Global) (steps : String Global)
+        (out : String Global)
+        → string_bytes image ≡ codes "a.image" → string_bytes program ≡ codes "sums.txt"
+        → string_bytes steps ≡ codes "steps.txt" → string_bytes out ≡ codes "b.image"
+        → AsksFor
+        (codes "cm1" ∷ codes "weave" ∷ codes "a.image" ∷ codes "sums.txt" ∷ codes "--split" ∷ codes "1"
+        ∷ codes "steps.txt" ∷ codes "--out=b.image" ∷ [])
+        (Line.Weave image program (Some steps) 1 (Some out)) }
+    ensures weave_without_program { IsBadLine (codes "cm1" ∷ codes "weave" ∷ codes "a.image" ∷ []) }
+    ensures weave_of_four { IsBadLine
+        (codes "cm1" ∷ codes "weave" ∷ codes "a.image" ∷ codes "sums.txt" ∷ codes "steps.txt" ∷ codes "more.txt"
+        ∷ []) }
+    ensures weave_with_workers { IsBadLine
+        (codes "cm1" ∷ codes "weave" ∷ codes "a.image" ∷ codes "sums.txt" ∷ codes "--workers" ∷ codes "1" ∷ []) }
+    ensures weave_cut_seven_times { IsBadLine
+        (codes "cm1" ∷ codes "weave" ∷ codes "a.image" ∷ codes "sums.txt" ∷ codes "--split" ∷ codes "7" ∷ []) }
+{}

@@ -1,0 +1,12 @@
+use Rattle.std.proofs.Common.{◌≡◌, ◌<◌, ◌≤◌, length, IfSome}
+use Rattle.cm_model.specs.Array.{nth_or_nil}
+use Rattle.cm_router.specs.Places.{oldest_from}
+use Rattle.cm_router_engine.specs.Standing.{standing}
+use Rattle.cm_router_engine.proofs.choosing.oldest_to_cross.Given as goal
+
+abbrev pub invariant-loop-place : goal.invariant-loop-place
+invariant-loop-place l = record {
+  value : l.oldest ≡ oldest_from l.dim (standing l.row (nth_or_nil l.slots l.chip)) l.place;
+  within : IfSome l.oldest (λ place. place < length (nth_or_nil l.slots l.chip));
+  most : l.place ≤ length (nth_or_nil l.slots l.chip);
+}

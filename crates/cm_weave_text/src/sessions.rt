@@ -1,0 +1,145 @@
+//! A session of steps, from the bytes of a source to those of a sink.
+
+ghost use Rattle.std.specs.Prelude.{◌≡◌, ◌↔◌, ◌+◌, ◌<◌, ◌^◌, [], false, true, IfOk, IfErr, IfSome, IsOk, IsErrOf};
+ghost use Rattle.std.specs.Prelude.{MatchResult};
+ghost use Rattle.cm_model.specs.Machine.{run_of};
+ghost use Rattle.cm_weave_text.specs.Ends.{is_weave_write, EndsBy, EndsByForSome, EndsFinished, EndsFinishedForSome};
+ghost use Rattle.cm_weave_text.specs.Hearing.{exchange_in, processed, TextAborts, HasHeard, IsHeard, IsHeardForSome};
+ghost use Rattle.cm_weave_text.specs.Hearing.{IsOfRun};
+
+use crate::fault::WeaveFault;
+use crate::hearing::hear;
+use crate::outgoing::send;
+use cm_array::Machine;
+use cm_bits::{Sink, Source, write_all};
+use cm_weave::World;
+use std::alloc::Global;
+
+const LIMIT: usize = 16777216;
+
+const PIECE: usize = 4096;
+
+/// Plays the steps that stand in lines, at most 16,777,216 bytes of them, and answers each; then tells whether every
+/// block is through, and gives the machine if so. No bytes are asked for while a line that has ended is not answered.
+///
+/// After a fault of reading, and after too much, the lines that ended before are answered. After a failed write, or for
+/// want of memory, a front of what would be told is written. With any fault the world is given up.
+pub fn weave_session<const N: usize, const CAP: usize, I: Source, O: Sink>(
+    alloc: Global,
+    world: World<N, CAP>,
+    steps: &mut I,
+    out: &mut O,
+) -> Result<Machine<N, CAP>, WeaveFault>
+    requires reader { I.has_failed steps.old ≡ false }
+    requires writer { O.has_failed out.old ≡ false }
+    ensures machine { IfOk result (λ done. done.machine ≡ run_of N CAP world.entry.machine world.entry.acts) }
+    ensures finished { IsOk result → IfSome (I.left steps.old) (λ text. EndsFinished (exchange_in N CAP world.entry)
+        text world.entry.world (O.contents out.old) (O.contents out.new)) }
+    ensures err { IfErr result (λ fault. IfSome (I.left steps.old) (λ text. EndsBy (exchange_in N CAP world.entry)
+        text (I.left steps.new) world.entry.world (O.contents out.old) (O.contents out.new) fault)) }
+    ensures heard { MatchResult result
+        (λ _. EndsFinishedForSome (exchange_in N CAP world.entry) world.entry.world (O.contents out.old)
+        (O.contents out.new))
+        (EndsByForSome (exchange_in N CAP world.entry) world.entry.world (O.contents out.old) (O.contents out.new)) }
+    ensures read { (I.has_failed steps.new ≡ true) ↔ IsErrOf result WeaveFault.Read }
+    ensures write { O.has_failed out.new ≡ is_weave_write result }
+{
+    let mut world = world;
+    let sent = match hear_all(alloc, &mut world, steps, out) {
+        Ok(sent) => sent,
+        Err(fault) => return Err(fault),
+    };
+    match world.finish() {
+        Ok(machine) => match write_all(out, b"finished\n") {
+            Ok(()) => Ok(machine),
+            Err(fault) => Err(WeaveFault::Write(sent + fault.0 as u128)),
+        },
+        Err(_) => match write_all(out, b"unfinished\n") {
+            Ok(()) => Err(WeaveFault::Unfinished),
+            Err(fault) => Err(WeaveFault::Write(sent + fault.0 as u128)),
+        },
+    }
+}
+
+/// Answers all lines; tells how many bytes the answers have.
+fn hear_all<const N: usize, const CAP: usize, I: Source, O: Sink>(
+    alloc: Global,
+    world: &mut World<N, CAP>,
+    steps: &mut I,
+    out: &mut O,
+) -> Result<u128, WeaveFault>
+    requires reader { I.has_failed steps.old ≡ false }
+    requires writer { O.has_failed out.old ≡ false }
+    ensures run { IsOfRun world.old world.new }
+    ensures ok { IfOk result (λ sent. IfSome (I.left steps.old) (λ text. IsHeard (exchange_in N CAP world.old) text
+        world.old.world (O.contents out.old) world.new.world (O.contents out.new) sent)) }
+    ensures few { IfOk result (λ sent. sent < 2 ^ 127) }
+    ensures err { IfErr result (λ fault. IfSome (I.left steps.old) (λ text. EndsBy (exchange_in N CAP world.old) text
+        (I.left steps.new) world.old.world (O.contents out.old) (O.contents out.new) fault)) }
+    ensures heard { MatchResult result
+        (IsHeardForSome (exchange_in N CAP world.old) world.old.world (O.contents out.old) world.new.world
+        (O.contents out.new))
+        (EndsByForSome (exchange_in N CAP world.old) world.old.world (O.contents out.old) (O.contents out.new)) }
+    ensures read { (I.has_failed steps.new ≡ true) ↔ IsErrOf result WeaveFault.Read }
+    ensures write { O.has_failed out.new ≡ is_weave_write result }
+{
+    let mut line = Vec::new(alloc);
+    let mut answers = Vec::new(alloc);
+    let mut sent = 0;
+    let mut taken = 0;
+    let mut piece = [0u8; PIECE];
+    loop {
+        let count = match steps.read(&mut piece) {
+            Ok(count) => count,
+            Err(_) => return Err(WeaveFault::Read),
+        };
+        if count == 0 {
+            break;
+        }
+        let room = count.min(LIMIT - taken);
+        match tell(world, &piece[..room], &mut line, &mut answers, sent, out) {
+            Ok(now) => sent = now,
+            Err(fault) => return Err(fault),
+        }
+        taken += room;
+        if room < count {
+            return Err(WeaveFault::TooMuch);
+        }
+    }
+    if line.is_empty() {
+        return Ok(sent);
+    }
+    // the end of the bytes ends the line that is open
+    match tell(world, b"\n", &mut line, &mut answers, sent, out) {
+        Ok(now) => Ok(now),
+        Err(fault) => Err(fault),
+    }
+}
+
+/// Answers the lines whose ends stand among these bytes, behind so many bytes of answers; tells how many they are then.
+fn tell<const N: usize, const CAP: usize, O: Sink>(
+    world: &mut World<N, CAP>,
+    piece: &[u8],
+    line: &mut Vec<u8>,
+    answers: &mut Vec<u8>,
+    sent: u128,
+    out: &mut O,
+) -> Result<u128, WeaveFault>
+    requires writer { O.has_failed out.old ≡ false }
+    requires room { sent + 2 ^ 64 < 2 ^ 128 }
+    ensures run { IsOfRun world.old world.new }
+    ensures ok { IfOk result (HasHeard (exchange_in N CAP world.old) world.old.world world.new.world line.old.items
+        line.new.items piece.now sent (O.contents out.old) (O.contents out.new)) }
+    ensures few { IfOk result (λ now. now < sent + 2 ^ 64) }
+    ensures err { IfErr result (TextAborts (processed (exchange_in N CAP world.old)
+        (record { world = world.old.world; line = line.old.items; answers = [] }) piece.now).answers sent
+        (O.contents out.old) (O.contents out.new)) }
+    ensures write { O.has_failed out.new ≡ is_weave_write result }
+{
+    answers.clear();
+    match hear(world, piece, line, answers) {
+        Ok(()) => {}
+        Err(_) => return Err(WeaveFault::Memory),
+    }
+    send(answers, sent, out)
+}
