@@ -26,8 +26,8 @@ struct NewFile<F> {
     file: F,
 }
 
-/// Makes a file ready that is to stand where the path says. In place of a plain file, which a link may lead to, it is to
-/// come whole or not at all, with that file's permissions; a file that nobody may write stays, and so does a folder.
+/// Makes a file ready that is to stand where the path says. In place of a plain file, which a link may lead to, it is
+/// to come whole or not at all, with that file's permissions; a file that nobody may write stays, and so does a folder.
 /// What is no plain file, as a terminal, is to be written where it stands: it is not opened before, since that may
 /// empty it, or wait for somebody who reads.
 pub fn make_ready<R: Files + AllocGlobal>(

@@ -23,8 +23,8 @@ enum Kind {
     Northward,
 }
 
-/// A machine of 4,096 chips goes through a list: from which chip on all processors ask to send, and how often the gate of
-/// four workers was asked and passed.
+/// A machine of 4,096 chips goes through a list: from which chip on all processors ask to send, and how often the gate
+/// of four workers was asked and passed.
 struct Choice {
     kind: Kind,
     count: u16,

@@ -65,8 +65,8 @@ fn is_as_it_has_to_be(refused: Option<Listed>, last: Listed) -> bool {
     last == ((None, true), (asked + 2, 256))
 }
 
-/// The same of two that are joined at each round, which takes memory once more, and threads: the gate was asked for both
-/// before the first of them was started.
+/// The same of two that are joined at each round, which takes memory once more, and threads: the gate was asked for
+/// both before the first of them was started.
 fn is_as_forked_have_to_be(refused: Option<Listed>, last: Listed) -> bool {
     let (asked, passed) = match refused {
         None => (0, 0),
@@ -77,8 +77,8 @@ fn is_as_forked_have_to_be(refused: Option<Listed>, last: Listed) -> bool {
     last == ((None, true), (asked + 2, passed.saturating_add(256)))
 }
 
-/// Whether two workers that are joined at each round go through the program of messages as one thread does, perhaps when
-/// they are asked once more.
+/// Whether two workers that are joined at each round go through the program of messages as one thread does, perhaps
+/// when they are asked once more.
 fn forked_go<R: Threads + Wait>(rt: &R, alloc: Global) -> Option<bool>
     requires threads { IsSync R.row }
 {
