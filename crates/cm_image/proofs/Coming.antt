@@ -23,7 +23,7 @@ use Rattle.cm_image.specs.Chips.{with_chip_image, IsBlankFrom, chips_onto, IsRea
 use Rattle.cm_image.specs.Cuts.{with_routing}
 use Rattle.cm_image.specs.Pieces.{GivesAtMost, GivesRest, IsStopped, between}
 use Rattle.cm_image.specs.Taken.{IsTakenIn, AreTakenIn}
-use Rattle.cm_image.specs.Tile.{with_waiting}
+use Rattle.cm_image.specs.WaitingChips.{with_waiting}
 use Rattle.cm_image.proofs.Going.{goes_on-made, chip_goes_on, header_goes_on, routing_goes_on, last_bytes}
 use Rattle.cm_image.proofs.Filling.{fill, counted_all}
 use Rattle.cm_image.proofs.Waiting.{nothing_waits}

@@ -16,7 +16,7 @@ use Rattle.cm_image_format.specs.declared.fault.ImageFault.TheVariants.{Count}
 use Rattle.cm_image_format.specs.Reading.{number_at, many, made, must}
 use Rattle.cm_image_format.specs.Image.{Listed, listed_part, memory_part}
 use Rattle.cm_image_format.specs.Whole.{plane_or, plane_at, planes_of}
-use Rattle.cm_image.specs.Tile.{IsPlaneTile, AreListedFrom, with_waiting}
+use Rattle.cm_image.specs.WaitingChips.{AreWaitingPlanes, AreListedFrom, with_waiting}
 use Rattle.cm_image.proofs.Filling.{counted_is}
 use Rattle.cm_image.proofs.Taking.{next_address}
 
@@ -139,10 +139,10 @@ chips_pushed memory later_memory flags later_flags one count planes others here 
     ∙ (λ i. chips_kept memory later_memory flags later_flags count planes others i ++ last i ∷ [])
 
 pub tile_pushed : (memory later_memory flags later_flags : List ℕ) (capacity later flag_room later_room count : ℕ)
-    → IsPlaneTile memory capacity flags flag_room count → count < 256 → count * 4128 + 4128 ≤ length later_memory → capacity ≤ later
+    → AreWaitingPlanes memory capacity flags flag_room count → count < 256 → count * 4128 + 4128 ≤ length later_memory → capacity ≤ later
     → count * 16 + 16 ≤ length later_flags → flag_room ≤ later_room
     → ((i : ℕ) → i < count * 16 → get_or later_flags i 0 ≡ get_or flags i 0)
-    → get_or later_flags (count * 16 + 8) 0 ≡ 0 → IsPlaneTile later_memory later later_flags later_room (count + 1)
+    → get_or later_flags (count * 16 + 8) 0 ≡ 0 → AreWaitingPlanes later_memory later later_flags later_room (count + 1)
 tile_pushed memory later_memory flags later_flags capacity later spare more count tile few long room words fit others none = record {
   few = omega (arith, few);
   memory = omega (arith, long);

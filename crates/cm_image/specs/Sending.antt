@@ -1,12 +1,14 @@
 -- What goes out of an image that is written piece by piece, and what that takes of memory: ours.
 use Rattle.std.specs.Prelude.{◌≡◌, ℕ, ◌^◌, Bool, true, false, Option, Result, Ok, Err, List, [], ◌++◌, length, ◌≤◌}
-use Rattle.std.specs.Prelude.{vec_capacity}
+use Rattle.std.specs.Prelude.{◌+◌, ◌*◌, ◌<◌, slice_index, vec_capacity}
 use Rattle.std.specs.Int.{w64}
 use Rattle.std.specs.Io.KnownBytes.{Appends}
+use Rattle.cm_model.specs.Array.{chip_at}
 use Rattle.cm_model.specs.Machine.{Machine}
 use Rattle.cm_message.specs.Bytes.{number_bytes}
 use Rattle.cm_image_format.specs.Header.{head_text}
 use Rattle.cm_image_format.specs.Cuts.{head_of, routing_text}
+use Rattle.cm_image_format.specs.Whole.{memory_plane_of}
 use Rattle.cm_image.specs.declared.sending.DumpFault.{DumpFault}
 use Rattle.cm_image.specs.declared.sending.DumpFault.TheVariants.{Write, Memory}
 use Rattle.cm_image.specs.declared.sending.DumpRoom.{DumpRoom}
@@ -39,6 +41,18 @@ is_dump_write (Err Memory) = false
 abbrev pub IsNear : Near → Type 0
 IsNear (Chips run) = length run ≡ 64
 IsNear (Planes planes) = length planes.items ≡ 264192
+
+-- the chip of this number, or its memory planes, at a place of what is near
+abbrev pub StandsNear : Machine → ℕ → ℕ → Near → Type 0
+StandsNear machine number place (Chips run) =
+    (place < length run) × (chip_at run place ≡ chip_at machine.chips number)
+StandsNear machine number place (Planes planes) =
+    (place * 4128 + 4128 ≤ length planes.items) × ((a : ℕ) → a < 4096
+    → slice_index planes.items (place * 4128 + a) ≡ memory_plane_of (chip_at machine.chips number) a)
+
+-- so many chips, from this one on
+abbrev pub StandNear : Machine → ℕ → ℕ → Near → Type 0
+StandNear machine first some near = (c : ℕ) → c < some → StandsNear machine (first + c) c near
 
 -- what the image of a machine is laid out in: nothing waits yet
 pub record IsLaidOutFor (n : ℕ) (machine : Machine) (room : DumpRoom) : Type 0 where

@@ -7,12 +7,12 @@ ghost use Rattle.cm_image_format.specs.Image.{flag_part, listed_part, flags_part
 ghost use Rattle.cm_image.specs.Chips.{with_listed, with_flags, with_chip_image, IsBlankFrom, chips_onto};
 ghost use Rattle.cm_image.specs.Pieces.{IsStopped};
 ghost use Rattle.cm_image.specs.Taken.{IsTakenIn, AreTakenIn};
-ghost use Rattle.cm_image.specs.Tile.{with_waiting};
+ghost use Rattle.cm_image.specs.WaitingChips.{with_waiting};
 
 use crate::messages::{are_messages, take_messages};
 use crate::numbers::{chip_count, take_u16};
 use crate::pieces::{SourceFault, Window};
-use crate::tile::{LISTED_LEN, Tile};
+use crate::waiting_chips::{FULL_MEMORY_LEN, WaitingChips};
 use cm_array::Builder;
 use cm_bits::{Addr, FlagNo, Plane, Source};
 use cm_image_format::ImageFault;
@@ -137,7 +137,7 @@ fn take_listed_chip<'a, const N: usize, const CAP: usize>(
 /// with those in front of it that wait; any other is put into its place at once.
 fn take_chip<'a, const N: usize, const CAP: usize>(
     builder: &mut Builder<N, CAP>,
-    tile: &mut Tile,
+    waiting: &mut WaitingChips,
     chip: u16,
     chips: u16,
     clock: u64,
@@ -145,20 +145,20 @@ fn take_chip<'a, const N: usize, const CAP: usize>(
 ) -> Result<&'a [u8], ImageFault>
     requires cube { chips ≡ 2 ^ N }
     requires chip { chip < chips }
-    requires waiting { length tile.old ≤ chip }
-    requires blank { IsBlankFrom N chip (with_waiting chip builder.old tile.old) }
+    requires waiting { length waiting.old ≤ chip }
+    requires blank { IsBlankFrom N chip (with_waiting chip builder.old waiting.old) }
     requires clock { builder.old.clock ≡ clock }
-    ensures ok { IfOk result (λ rest. made (with_chip_image chip (with_waiting chip builder.old tile.old))
-        (chip_part N CAP clock) bytes.now ≡ Ok (with_waiting (chip + 1) builder.new tile.new, rest.now)) }
+    ensures ok { IfOk result (λ rest. made (with_chip_image chip (with_waiting chip builder.old waiting.old))
+        (chip_part N CAP clock) bytes.now ≡ Ok (with_waiting (chip + 1) builder.new waiting.new, rest.now)) }
     ensures refused { IfErr result (λ fault. chip_part N CAP clock bytes.now ≡ Err fault) }
-    ensures waiting { OnOk result (length tile.new ≤ chip + 1) }
+    ensures waiting { OnOk result (length waiting.new ≤ chip + 1) }
 {
     let (flags, rest) = take_flags(bytes)?;
-    tile.make_room(builder, chip);
-    if tile.push(&flags, rest) {
-        return take_messages(builder, chip, chips, clock, &rest[LISTED_LEN..]);
+    waiting.make_room(builder, chip);
+    if waiting.push(&flags, rest) {
+        return take_messages(builder, chip, chips, clock, &rest[FULL_MEMORY_LEN..]);
     }
-    tile.put(builder, chip);
+    waiting.put(builder, chip);
     take_listed_chip(builder, chip, chips, clock, &flags, rest)
 }
 
@@ -166,27 +166,27 @@ fn take_chip<'a, const N: usize, const CAP: usize>(
 /// were put in, or wait.
 pub(crate) fn take_chips<'a, const N: usize, const CAP: usize>(
     builder: &mut Builder<N, CAP>,
-    tile: &mut Tile,
+    waiting: &mut WaitingChips,
     first: u16,
     clock: u64,
     bytes: &'a [u8],
 ) -> Result<&'a [u8], ImageFault>
     requires dimension { N ≤ 12 }
     requires first { first ≤ 2 ^ N }
-    requires waiting { length tile.old ≤ first }
-    requires blank { IsBlankFrom N first (with_waiting first builder.old tile.old) }
+    requires waiting { length waiting.old ≤ first }
+    requires blank { IsBlankFrom N first (with_waiting first builder.old waiting.old) }
     requires clock { builder.old.clock ≡ clock }
-    ensures ok { IfOk result (λ rest. chips_onto N CAP clock first (with_waiting first builder.old tile.old) bytes.now
-        ≡ Ok ((builder.new, 2 ^ N), rest.now)) }
-    ensures refused { IfErr result (λ fault. chips_onto N CAP clock first (with_waiting first builder.old tile.old)
+    ensures ok { IfOk result (λ rest. chips_onto N CAP clock first (with_waiting first builder.old waiting.old)
+        bytes.now ≡ Ok ((builder.new, 2 ^ N), rest.now)) }
+    ensures refused { IfErr result (λ fault. chips_onto N CAP clock first (with_waiting first builder.old waiting.old)
         bytes.now ≡ Err fault) }
 {
     let chips = chip_count::<N>();
     let mut rest = bytes;
     for chip in first..chips {
-        rest = take_chip(builder, tile, chip, chips, clock, rest)?;
+        rest = take_chip(builder, waiting, chip, chips, clock, rest)?;
     }
-    tile.put(builder, chips);
+    waiting.put(builder, chips);
     Ok(rest)
 }
 
@@ -194,7 +194,7 @@ pub(crate) fn take_chips<'a, const N: usize, const CAP: usize>(
 /// bytes come after it.
 fn take_full_chip<const N: usize, const CAP: usize>(
     builder: &mut Builder<N, CAP>,
-    tile: &mut Tile,
+    waiting: &mut WaitingChips,
     chip: u16,
     chips: u16,
     clock: u64,
@@ -202,27 +202,30 @@ fn take_full_chip<const N: usize, const CAP: usize>(
 ) -> Option<usize>
     requires cube { chips ≡ 2 ^ N }
     requires chip { chip < chips }
-    requires waiting { length tile.old ≤ chip }
-    requires blank { IsBlankFrom N chip (with_waiting chip builder.old tile.old) }
+    requires waiting { length waiting.old ≤ chip }
+    requires blank { IsBlankFrom N chip (with_waiting chip builder.old waiting.old) }
     requires clock { builder.old.clock ≡ clock }
-    ensures full { IfSome result (λ len. IsTakenIn N CAP clock chip (with_waiting chip builder.old tile.old)
-        (with_waiting (chip + 1) builder.new tile.new) len bytes.now) }
-    ensures waiting { IfSome result (λ len. length tile.new ≤ chip + 1) }
-    ensures other { IsNone result → with_waiting chip builder.new tile.new ≡ with_waiting chip builder.old tile.old }
-    ensures few { IsNone result → length tile.new ≤ chip }
+    ensures full { IfSome result (λ len. IsTakenIn N CAP clock chip (with_waiting chip builder.old waiting.old)
+        (with_waiting (chip + 1) builder.new waiting.new) len bytes.now) }
+    ensures waiting { IfSome result (λ len. length waiting.new ≤ chip + 1) }
+    ensures other { IsNone result
+        → with_waiting chip builder.new waiting.new ≡ with_waiting chip builder.old waiting.old }
+    ensures few { IsNone result → length waiting.new ≤ chip }
 {
     let Ok(read) = take_flags(bytes) else {
         return None;
     };
     let (flags, rest) = read;
-    if rest.len() < LISTED_LEN || !are_messages(N, CAP, chips, clock, &rest[LISTED_LEN..]) {
+    if rest.len() < FULL_MEMORY_LEN
+        || !are_messages(N, CAP, chips, clock, &rest[FULL_MEMORY_LEN..])
+    {
         return None;
     }
-    tile.make_room(builder, chip);
-    if !tile.push(&flags, rest) {
+    waiting.make_room(builder, chip);
+    if !waiting.push(&flags, rest) {
         return None;
     }
-    match take_messages(builder, chip, chips, clock, &rest[LISTED_LEN..]) {
+    match take_messages(builder, chip, chips, clock, &rest[FULL_MEMORY_LEN..]) {
         Ok(after) => Some(after.len()),
         Err(_) => unreachable!(),
     }
@@ -232,20 +235,20 @@ fn take_full_chip<const N: usize, const CAP: usize>(
 /// that is not so. Which chip that is, and how many bytes may still be read.
 pub(crate) fn take_full_chips<const N: usize, const CAP: usize, I: Source>(
     builder: &mut Builder<N, CAP>,
-    tile: &mut Tile,
+    waiting: &mut WaitingChips,
     clock: u64,
     window: &mut Window,
     source: &mut I,
     most: u64,
 ) -> Result<(u16, u64), SourceFault>
     requires dimension { N ≤ 12 }
-    requires none { tile.old ≡ [] }
+    requires none { waiting.old ≡ [] }
     requires blank { IsBlankFrom N 0 builder.old }
     requires clock { builder.old.clock ≡ clock }
     requires working { I.has_failed source.old ≡ false }
-    ensures value { IfOk result (λ x. AreTakenIn N CAP clock x.0 builder.old (with_waiting x.0 builder.new tile.new)
+    ensures value { IfOk result (λ x. AreTakenIn N CAP clock x.0 builder.old (with_waiting x.0 builder.new waiting.new)
         window.old window.new (I.left source.old) (I.left source.new) most x.1) }
-    ensures waiting { IfOk result (λ x. length tile.new ≤ x.0) }
+    ensures waiting { IfOk result (λ x. length waiting.new ≤ x.0) }
     ensures clock { OnOk result (builder.new.clock ≡ clock) }
     ensures refused { IfErr result (IsStopped most (I.left source.old) (I.left source.new) (λ fault more. ⊥)) }
     ensures read { (I.has_failed source.new ≡ true) ↔ IsErrOf result SourceFault.Read }
@@ -254,7 +257,7 @@ pub(crate) fn take_full_chips<const N: usize, const CAP: usize, I: Source>(
     let mut left = most;
     for chip in 0..chips {
         left -= window.fill(source, left)?;
-        let taken = take_full_chip(builder, tile, chip, chips, clock, window.rest());
+        let taken = take_full_chip(builder, waiting, chip, chips, clock, window.rest());
         let Some(rest) = taken else {
             return Ok((chip, left));
         };

@@ -12,10 +12,8 @@ ghost use Rattle.cm_image.specs.Sending.{GoesOut, GoesOutInPart, is_dump_write};
 
 use crate::counts::ADDRESSES;
 use crate::dumps::{push, push_flags, push_messages, push_plane, push_u8, push_u16};
-use crate::numbers::chip_count;
-use crate::sending::{DumpFault, TILE, send_full};
 use cm_array::Machine;
-use cm_bits::{NoMemory, Plane, Sink};
+use cm_bits::{NoMemory, Plane};
 use cm_element::{ChipView, PITCH};
 use cm_message::Message;
 
@@ -23,47 +21,10 @@ use cm_message::Message;
 pub(crate) const TILE_PLANES: usize = 64 * PITCH;
 
 /// The bytes that list the planes of all addresses.
-const LISTED_LEN: usize = 16384;
-
-/// What an image has of each chip, by number.
-pub(crate) fn send_dense_chips<const N: usize, const CAP: usize, O: Sink>(
-    text: &mut Vec<u8>,
-    sink: &mut O,
-    machine: &Machine<N, CAP>,
-    counts: &[u16],
-    planes: &mut [Plane],
-    piece: usize,
-) -> Result<(), DumpFault>
-    requires dimension { N ≤ 12 }
-    requires room { CAP ≤ 15 }
-    requires counts { AreCounted (2 ^ N) machine.now.machine.chips 4096 counts.now }
-    requires planes { length planes.old ≡ 264192 }
-    requires working { O.has_failed sink.old ≡ false }
-    ensures ok { OnOk result (GoesOut (O.contents sink.old) (O.contents sink.new)
-        (text.old.items ++ chips_text machine.now.machine 0 (2 ^ N)) text.new.items) }
-    ensures err { IfErr result (λ _. GoesOutInPart (O.contents sink.old) (O.contents sink.new)
-        (text.old.items ++ chips_text machine.now.machine 0 (2 ^ N))) }
-    ensures failed { O.has_failed sink.new ≡ is_dump_write result }
-    ensures capacity { vec_capacity text.old ≤ vec_capacity text.new }
-    ensures waits { OnOk result (length text.old.items ≤ piece → length text.new.items ≤ piece) }
-    ensures memory { length text.old.items ≤ piece → piece + 20000 ≤ vec_capacity text.old
-        → ¬ IsErrOf result DumpFault.Memory }
-{
-    let count = chip_count::<N>();
-    let mut first = 0;
-    while first < count {
-        let some = TILE.min(count - first);
-        write_tile(machine, first, some, planes);
-        match send_tile(text, sink, machine, counts, planes, first, some, piece) {
-            Ok(()) => first += some,
-            Err(fault) => return Err(fault),
-        }
-    }
-    Ok(())
-}
+const ALL_LISTED_LEN: usize = 16384;
 
 /// Writes the planes of so many chips, from `first` on, chip by chip.
-fn write_tile<const N: usize, const CAP: usize>(
+pub(crate) fn write_tile<const N: usize, const CAP: usize>(
     machine: &Machine<N, CAP>,
     first: u16,
     some: u16,
@@ -77,54 +38,8 @@ fn write_tile<const N: usize, const CAP: usize>(
     machine.write_planes(first, some, planes);
 }
 
-/// What it has of so many chips, from `first` on, whose planes lie chip by chip.
-fn send_tile<const N: usize, const CAP: usize, O: Sink>(
-    text: &mut Vec<u8>,
-    sink: &mut O,
-    machine: &Machine<N, CAP>,
-    counts: &[u16],
-    planes: &[Plane],
-    first: u16,
-    some: u16,
-    piece: usize,
-) -> Result<(), DumpFault>
-    requires room { CAP ≤ 15 }
-    requires counts { AreCounted (2 ^ N) machine.now.machine.chips 4096 counts.now }
-    requires chips { first + some ≤ 2 ^ N }
-    requires within { first + some < 65536 }
-    requires few { some * 4128 ≤ length planes.now }
-    requires planes { (c a : ℕ) → c < some → a < 4096
-        → slice_index planes.now (c * 4128 + a) ≡ memory_plane_of (chip_at machine.now.machine.chips (first + c)) a }
-    requires working { O.has_failed sink.old ≡ false }
-    ensures ok { OnOk result (GoesOut (O.contents sink.old) (O.contents sink.new)
-        (text.old.items ++ chips_text machine.now.machine first some) text.new.items) }
-    ensures err { IfErr result (λ _. GoesOutInPart (O.contents sink.old) (O.contents sink.new)
-        (text.old.items ++ chips_text machine.now.machine first some)) }
-    ensures failed { O.has_failed sink.new ≡ is_dump_write result }
-    ensures capacity { vec_capacity text.old ≤ vec_capacity text.new }
-    ensures waits { OnOk result (length text.old.items ≤ piece → length text.new.items ≤ piece) }
-    ensures memory { length text.old.items ≤ piece → piece + 20000 ≤ vec_capacity text.old
-        → ¬ IsErrOf result DumpFault.Memory }
-{
-    for c in 0..some {
-        let number = first + c;
-        let place = usize::from(c) * PITCH;
-        let listed = counts[usize::from(number)];
-        let buffer = machine.buffer(number);
-        let chip = machine.chip(number);
-        let Ok(()) = push_chip(text, &chip, listed, &planes[place..], buffer) else {
-            return Err(DumpFault::Memory);
-        };
-        match send_full(text, sink, piece) {
-            Ok(()) => {}
-            Err(fault) => return Err(fault),
-        }
-    }
-    Ok(())
-}
-
 /// What it has of a chip with so many listed planes, all of them among these, and this buffer.
-fn push_chip(
+pub(crate) fn push_dense_chip(
     text: &mut Vec<u8>,
     chip: &ChipView<'_>,
     listed: u16,
@@ -156,7 +71,7 @@ fn push_memory(text: &mut Vec<u8>, planes: &[Plane]) -> Result<(), NoMemory>
     ensures grows { OnOk result (length text.new.items ≤ length text.old.items + 16384) }
     ensures full { OnErr result (vec_capacity text.old < length text.old.items + 16384) }
 {
-    let mut listed = [0u8; LISTED_LEN];
+    let mut listed = [0u8; ALL_LISTED_LEN];
     if list_all(&mut listed, planes) {
         return push(text, &listed);
     }

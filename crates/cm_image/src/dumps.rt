@@ -22,10 +22,10 @@ ghost use Rattle.cm_image.specs.Sending.{front_text, GoesOut, GoesOutInPart, is_
 use crate::cuts::{cuts_len, push_cuts, version_of};
 use crate::header::MAGIC;
 use crate::numbers::chip_count;
-use crate::sending::{DumpFault, DumpRoom, TILE, send_all_chips, send_full, sizes};
+use crate::sending::{DumpRoom, ListedMachine, sizes};
 use cm_array::Machine;
 use cm_bits::{Addr, Failed, FlagNo, NoMemory, Plane, Sink};
-use cm_element::{ChipView, Run};
+use cm_element::ChipView;
 use cm_image_format::texts_leave_out_logs;
 use cm_message::{Message, Rule, bytes};
 use cm_model::cuts_are_few;
@@ -37,7 +37,7 @@ const HEADER_LEN: usize = 16;
 
 pub(crate) const BLANK_CHIP_LEN: usize = 35;
 
-const LISTED_LEN: usize = 4;
+const LISTING_LEN: usize = 4;
 
 const MESSAGE_LEN: usize = 18;
 
@@ -54,21 +54,18 @@ pub fn dump<const N: usize, const CAP: usize>(
     let DumpRoom {
         counts,
         addresses,
-        near,
+        mut near,
         ..
     } = DumpRoom::without_text(alloc, machine)?;
     let mut text = Vec::with_capacity(alloc, text_len(machine, &counts))?;
     push_front(&mut text, machine)?;
     let mut nowhere = Nowhere { failed: false };
-    match send_all_chips(
-        &mut text,
-        &mut nowhere,
+    let listed = ListedMachine {
         machine,
-        &counts,
-        &addresses,
-        near,
-        usize::MAX,
-    ) {
+        counts: &counts,
+        addresses: &addresses,
+    };
+    match listed.send_chips(&mut text, &mut nowhere, &mut near, usize::MAX) {
         Ok(()) => Ok(text),
         Err(_) => Err(NoMemory),
     }
@@ -156,93 +153,7 @@ fn chip_len(planes: u16, buffer: &[Message]) -> usize
         → result ≡ length (chip_text (image_of_chip chip buffer.now)) }
     ensures within { result ≤ 300000 }
 {
-    BLANK_CHIP_LEN + usize::from(planes) * LISTED_LEN + buffer.len() * MESSAGE_LEN
-}
-
-/// What an image has of each chip, by number, where few addresses are in use: some chips at a time are laid out near.
-pub(crate) fn send_chips<const N: usize, const CAP: usize, O: Sink>(
-    text: &mut Vec<u8>,
-    sink: &mut O,
-    machine: &Machine<N, CAP>,
-    counts: &[u16],
-    addresses: &[u16],
-    tile: &mut Run,
-    piece: usize,
-) -> Result<(), DumpFault>
-    requires dimension { N ≤ 12 }
-    requires room { CAP ≤ 15 }
-    requires counts { AreCounted (2 ^ N) machine.now.machine.chips 4096 counts.now }
-    requires in_use { AreInUse (2 ^ N) machine.now.machine.chips 4096 addresses.now }
-    requires tile { length tile.old ≡ 64 }
-    requires working { O.has_failed sink.old ≡ false }
-    ensures ok { OnOk result (GoesOut (O.contents sink.old) (O.contents sink.new)
-        (text.old.items ++ chips_text machine.now.machine 0 (2 ^ N)) text.new.items) }
-    ensures err { IfErr result (λ _. GoesOutInPart (O.contents sink.old) (O.contents sink.new)
-        (text.old.items ++ chips_text machine.now.machine 0 (2 ^ N))) }
-    ensures failed { O.has_failed sink.new ≡ is_dump_write result }
-    ensures capacity { vec_capacity text.old ≤ vec_capacity text.new }
-    ensures waits { OnOk result (length text.old.items ≤ piece → length text.new.items ≤ piece) }
-    ensures memory { length text.old.items ≤ piece → piece + 20000 ≤ vec_capacity text.old
-        → ¬ IsErrOf result DumpFault.Memory }
-{
-    let count = chip_count::<N>();
-    let mut first = 0;
-    while first < count {
-        let some = TILE.min(count - first);
-        machine.copy_chips(first, some, tile);
-        match send_tile(
-            text, sink, machine, counts, addresses, tile, first, some, piece,
-        ) {
-            Ok(()) => first += some,
-            Err(fault) => return Err(fault),
-        }
-    }
-    Ok(())
-}
-
-/// What it has of so many chips, from `first` on, which lie at the front of a tile.
-fn send_tile<const N: usize, const CAP: usize, O: Sink>(
-    text: &mut Vec<u8>,
-    sink: &mut O,
-    machine: &Machine<N, CAP>,
-    counts: &[u16],
-    addresses: &[u16],
-    tile: &Run,
-    first: u16,
-    some: u16,
-    piece: usize,
-) -> Result<(), DumpFault>
-    requires room { CAP ≤ 15 }
-    requires counts { AreCounted (2 ^ N) machine.now.machine.chips 4096 counts.now }
-    requires in_use { AreInUse (2 ^ N) machine.now.machine.chips 4096 addresses.now }
-    requires chips { first + some ≤ 2 ^ N }
-    requires within { first + some < 65536 }
-    requires few { some ≤ length tile.now }
-    requires tile { (c : ℕ) → c < some → chip_at tile.now c ≡ chip_at machine.now.machine.chips (first + c) }
-    requires working { O.has_failed sink.old ≡ false }
-    ensures ok { OnOk result (GoesOut (O.contents sink.old) (O.contents sink.new)
-        (text.old.items ++ chips_text machine.now.machine first some) text.new.items) }
-    ensures err { IfErr result (λ _. GoesOutInPart (O.contents sink.old) (O.contents sink.new)
-        (text.old.items ++ chips_text machine.now.machine first some)) }
-    ensures failed { O.has_failed sink.new ≡ is_dump_write result }
-    ensures capacity { vec_capacity text.old ≤ vec_capacity text.new }
-    ensures waits { OnOk result (length text.old.items ≤ piece → length text.new.items ≤ piece) }
-    ensures memory { length text.old.items ≤ piece → piece + 20000 ≤ vec_capacity text.old
-        → ¬ IsErrOf result DumpFault.Memory }
-{
-    for c in 0..some {
-        let number = first + c;
-        let buffer = machine.buffer(number);
-        let planes = counts[usize::from(number)];
-        let Ok(()) = push_chip(text, &tile.view(c), planes, addresses, buffer) else {
-            return Err(DumpFault::Memory);
-        };
-        match send_full(text, sink, piece) {
-            Ok(()) => {}
-            Err(fault) => return Err(fault),
-        }
-    }
-    Ok(())
+    BLANK_CHIP_LEN + usize::from(planes) * LISTING_LEN + buffer.len() * MESSAGE_LEN
 }
 
 pub(crate) fn push(text: &mut Vec<u8>, more: &[u8]) -> Result<(), NoMemory>
@@ -320,7 +231,7 @@ pub(crate) fn push_head(
 }
 
 /// What an image has of a chip with so many listed planes, all of them at these addresses, and this buffer.
-fn push_chip(
+pub(crate) fn push_sparse_chip(
     text: &mut Vec<u8>,
     chip: &ChipView<'_>,
     planes: u16,

@@ -15,7 +15,7 @@ mod numbers;
 mod pieces;
 mod sending;
 mod sourced;
-mod tile;
+mod waiting_chips;
 
 pub use blank::blank_image;
 pub use cm_image_format::ImageFault;

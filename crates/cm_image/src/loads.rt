@@ -6,12 +6,12 @@ ghost use Rattle.cm_model.specs.Unlogged.{standing_messages, has_tag_twice};
 ghost use Rattle.cm_image_format.specs.Whole.{read_image, image_fault, header_fault};
 ghost use Rattle.cm_image.specs.Chips.{IsBlankFrom, IsReadTo};
 ghost use Rattle.cm_image.specs.Cuts.{header_of};
-ghost use Rattle.cm_image.specs.Tile.{with_waiting};
+ghost use Rattle.cm_image.specs.WaitingChips.{with_waiting};
 
 use crate::chips::take_chips;
 use crate::cuts::take_routing;
 use crate::header::{Header, take_header};
-use crate::tile::Tile;
+use crate::waiting_chips::WaitingChips;
 use cm_array::{BuildFault, Builder, Machine};
 use cm_image_format::ImageFault;
 use std::alloc::Global;
@@ -32,36 +32,36 @@ pub fn load<const N: usize, const CAP: usize>(
     let Ok(mut builder) = Builder::start(alloc, header.clock) else {
         return Err(ImageFault::Memory);
     };
-    let Ok(tile) = Tile::new(alloc) else {
+    let Ok(waiting) = WaitingChips::new(alloc) else {
         return Err(ImageFault::Memory);
     };
     let chips = take_routing(&mut builder, header, behind)?;
-    finish(builder, tile, 0, header, chips)
+    finish(builder, waiting, 0, header, chips)
 }
 
 /// The machine of an image whose chips are put in, or wait, up to this one, and are in these bytes from it on.
 pub(crate) fn finish<const N: usize, const CAP: usize>(
     mut builder: Builder<N, CAP>,
-    mut tile: Tile,
+    mut waiting: WaitingChips,
     first: u16,
     header: Header,
     bytes: &[u8],
 ) -> Result<Machine<N, CAP>, ImageFault>
     requires dimension { N ≤ 12 }
     requires first { first ≤ 2 ^ N }
-    requires waiting { length tile ≤ first }
-    requires blank { IsBlankFrom N first (with_waiting first builder tile) }
+    requires waiting { length waiting ≤ first }
+    requires blank { IsBlankFrom N first (with_waiting first builder waiting) }
     requires clock { builder.clock ≡ header.clock }
     ensures value { IfOk result (λ kept. (whole : List ℕ) → IsReadTo N CAP (header_of N CAP header) first
-        (with_waiting first builder.entry tile) bytes.now whole → read_image N CAP whole ≡ Ok kept.machine) }
+        (with_waiting first builder.entry waiting) bytes.now whole → read_image N CAP whole ≡ Ok kept.machine) }
     ensures refused { IfErr result (λ fault. fault ≢ ImageFault.Memory → (whole : List ℕ) → IsReadTo N CAP
-        (header_of N CAP header) first (with_waiting first builder.entry tile) bytes.now whole
+        (header_of N CAP header) first (with_waiting first builder.entry waiting) bytes.now whole
         → read_image N CAP whole ≡ Err fault) }
     ensures otherwise { (whole : List ℕ) → IsReadTo N CAP (header_of N CAP header) first
-        (with_waiting first builder.entry tile) bytes.now whole → image_fault N CAP whole ≡ None
+        (with_waiting first builder.entry waiting) bytes.now whole → image_fault N CAP whole ≡ None
         → IsOkUnless result ImageFault.Memory }
 {
-    let rest = take_chips(&mut builder, &mut tile, first, header.clock, bytes)?;
+    let rest = take_chips(&mut builder, &mut waiting, first, header.clock, bytes)?;
     let machine = finished(builder)?;
     if !rest.is_empty() {
         return Err(ImageFault::Extra);

@@ -1,19 +1,23 @@
 //! Writing the bytes of a machine to a sink, piece by piece.
 
-ghost use Rattle.std.specs.Prelude.{◌≡◌, ℕ, ◌+◌, ◌++◌, ◌^◌, ◌≤◌, [], false, length, IfOk, IfErr, IsErrOf, OnOk};
-ghost use Rattle.std.specs.Prelude.{vec_capacity};
+ghost use Rattle.std.specs.Prelude.{◌≡◌, ℕ, ◌+◌, ◌++◌, ◌^◌, ◌<◌, ◌≤◌, [], false, length, IfOk, IfErr, IsErrOf, OnOk};
+ghost use Rattle.std.specs.Prelude.{OnErr, vec_capacity};
 ghost use Rattle.std.specs.Io.KnownBytes.{Appends};
+ghost use Rattle.cm_model.specs.Array.{chip_at, nth_or_nil};
 ghost use Rattle.cm_model.specs.Keeping.{AreSizes};
-ghost use Rattle.cm_image_format.specs.Whole.{text_of};
+ghost use Rattle.cm_image_format.specs.Image.{chip_text};
+ghost use Rattle.cm_image_format.specs.Whole.{image_of_chip, text_of};
 ghost use Rattle.cm_image.specs.Planes.{AreCounted, AreInUse, chips_text};
-ghost use Rattle.cm_image.specs.Sending.{GoesOut, GoesOutInPart, IsLaidOutFor, IsNear, IsRoomOf, is_dump_write};
+ghost use Rattle.cm_image.specs.Sending.{GoesOut, GoesOutInPart, IsLaidOutFor, IsNear, IsRoomOf, StandNear, StandsNear};
+ghost use Rattle.cm_image.specs.Sending.{is_dump_write};
 
 use crate::counts::{addresses_in_use, listed_planes};
-use crate::dense::{TILE_PLANES, send_dense_chips};
-use crate::dumps::{push_front, send_chips};
+use crate::dense::{TILE_PLANES, push_dense_chip, write_tile};
+use crate::dumps::{push_front, push_sparse_chip};
+use crate::numbers::chip_count;
 use cm_array::Machine;
 use cm_bits::{NoMemory, Plane, Sink, write_all};
-use cm_element::Run;
+use cm_element::{PITCH, Run};
 use std::alloc::Global;
 use thiserror::Error;
 
@@ -27,7 +31,7 @@ const WAITING: usize = 163840;
 const DENSE: usize = 1024;
 
 /// So many chips at a time are laid out near: 512 KB, which a cache holds while they are written.
-pub(crate) const TILE: u16 = 64;
+const TILE: u16 = 64;
 
 /// Why an image was not written to its end.
 #[derive(Clone, Copy, Debug, PartialEq, Eq, Error)]
@@ -133,56 +137,166 @@ pub fn dump_into<const N: usize, const CAP: usize, O: Sink>(
     let DumpRoom {
         counts,
         addresses,
-        near,
+        mut near,
         mut text,
     } = room;
     let Ok(()) = push_front(&mut text, machine) else {
         return Err(DumpFault::Memory);
     };
-    match send_all_chips(&mut text, sink, machine, &counts, &addresses, near, PIECE) {
+    let listed = ListedMachine {
+        machine,
+        counts: &counts,
+        addresses: &addresses,
+    };
+    match listed.send_chips(&mut text, sink, &mut near, PIECE) {
         Ok(()) => send_out(&mut text, sink),
         Err(fault) => Err(fault),
     }
 }
 
-/// What an image has of each chip, by number, behind what waits, which goes out whenever so many bytes wait.
-pub(crate) fn send_all_chips<const N: usize, const CAP: usize, O: Sink>(
-    text: &mut Vec<u8>,
-    sink: &mut O,
-    machine: &Machine<N, CAP>,
-    counts: &[u16],
-    addresses: &[u16],
-    near: Near,
-    piece: usize,
-) -> Result<(), DumpFault>
-    requires dimension { N ≤ 12 }
-    requires room { CAP ≤ 15 }
-    requires counts { AreCounted (2 ^ N) machine.now.machine.chips 4096 counts.now }
-    requires in_use { AreInUse (2 ^ N) machine.now.machine.chips 4096 addresses.now }
-    requires near { IsNear near }
-    requires working { O.has_failed sink.old ≡ false }
-    ensures ok { OnOk result (GoesOut (O.contents sink.old) (O.contents sink.new)
-        (text.old.items ++ chips_text machine.now.machine 0 (2 ^ N)) text.new.items) }
-    ensures err { IfErr result (λ _. GoesOutInPart (O.contents sink.old) (O.contents sink.new)
-        (text.old.items ++ chips_text machine.now.machine 0 (2 ^ N))) }
-    ensures failed { O.has_failed sink.new ≡ is_dump_write result }
-    ensures capacity { vec_capacity text.old ≤ vec_capacity text.new }
-    ensures waits { OnOk result (length text.old.items ≤ piece → length text.new.items ≤ piece) }
-    ensures memory { length text.old.items ≤ piece → piece + 20000 ≤ vec_capacity text.old
-        → ¬ IsErrOf result DumpFault.Memory }
-{
-    match near {
-        Near::Chips(mut tile) => send_chips(
-            text, sink, machine, counts, addresses, &mut tile, piece,
-        ),
-        Near::Planes(mut planes) => send_dense_chips(
-            text,
-            sink,
-            machine,
-            counts,
-            &mut planes,
-            piece,
-        ),
+/// A machine whose image is written: how many planes of each chip are listed, and at which addresses.
+#[derive(Clone, Copy)]
+pub(crate) struct ListedMachine<'a, const N: usize, const CAP: usize> {
+    pub(crate) machine: &'a Machine<N, CAP>,
+    pub(crate) counts: &'a [u16],
+    pub(crate) addresses: &'a [u16],
+}
+
+impl<'a, const N: usize, const CAP: usize> ListedMachine<'a, N, CAP> {
+    /// What an image has of each chip, by number, behind what waits, which goes out whenever so many bytes wait: some
+    /// chips at a time are laid out near.
+    pub(crate) fn send_chips<O: Sink>(
+        &self,
+        text: &mut Vec<u8>,
+        sink: &mut O,
+        near: &mut Near,
+        piece: usize,
+    ) -> Result<(), DumpFault>
+        requires dimension { N ≤ 12 }
+        requires room { CAP ≤ 15 }
+        requires counts { AreCounted (2 ^ N) self.now.machine.now.machine.chips 4096 self.now.counts.now }
+        requires in_use { AreInUse (2 ^ N) self.now.machine.now.machine.chips 4096 self.now.addresses.now }
+        requires near { IsNear near.old }
+        requires working { O.has_failed sink.old ≡ false }
+        ensures ok { OnOk result (GoesOut (O.contents sink.old) (O.contents sink.new)
+            (text.old.items ++ chips_text self.now.machine.now.machine 0 (2 ^ N)) text.new.items) }
+        ensures err { IfErr result (λ _. GoesOutInPart (O.contents sink.old) (O.contents sink.new)
+            (text.old.items ++ chips_text self.now.machine.now.machine 0 (2 ^ N))) }
+        ensures failed { O.has_failed sink.new ≡ is_dump_write result }
+        ensures capacity { vec_capacity text.old ≤ vec_capacity text.new }
+        ensures waits { OnOk result (length text.old.items ≤ piece → length text.new.items ≤ piece) }
+        ensures memory { length text.old.items ≤ piece → piece + 20000 ≤ vec_capacity text.old
+            → ¬ IsErrOf result DumpFault.Memory }
+    {
+        let count = chip_count::<N>();
+        let mut first = 0;
+        while first < count {
+            let some = TILE.min(count - first);
+            near.lay_out(self.machine, first, some);
+            match self.send_tile(text, sink, near, first, some, piece) {
+                Ok(()) => first += some,
+                Err(fault) => return Err(fault),
+            }
+        }
+        Ok(())
+    }
+
+    /// What it has of so many chips, from `first` on, which are near.
+    fn send_tile<O: Sink>(
+        &self,
+        text: &mut Vec<u8>,
+        sink: &mut O,
+        near: &Near,
+        first: u16,
+        some: u16,
+        piece: usize,
+    ) -> Result<(), DumpFault>
+        requires room { CAP ≤ 15 }
+        requires counts { AreCounted (2 ^ N) self.now.machine.now.machine.chips 4096 self.now.counts.now }
+        requires in_use { AreInUse (2 ^ N) self.now.machine.now.machine.chips 4096 self.now.addresses.now }
+        requires chips { first + some ≤ 2 ^ N }
+        requires within { first + some < 65536 }
+        requires near { StandNear self.now.machine.now.machine first some near.now }
+        requires working { O.has_failed sink.old ≡ false }
+        ensures ok { OnOk result (GoesOut (O.contents sink.old) (O.contents sink.new)
+            (text.old.items ++ chips_text self.now.machine.now.machine first some) text.new.items) }
+        ensures err { IfErr result (λ _. GoesOutInPart (O.contents sink.old) (O.contents sink.new)
+            (text.old.items ++ chips_text self.now.machine.now.machine first some)) }
+        ensures failed { O.has_failed sink.new ≡ is_dump_write result }
+        ensures capacity { vec_capacity text.old ≤ vec_capacity text.new }
+        ensures waits { OnOk result (length text.old.items ≤ piece → length text.new.items ≤ piece) }
+        ensures memory { length text.old.items ≤ piece → piece + 20000 ≤ vec_capacity text.old
+            → ¬ IsErrOf result DumpFault.Memory }
+    {
+        for c in 0..some {
+            let Ok(()) = self.push_chip(text, near, c, first + c) else {
+                return Err(DumpFault::Memory);
+            };
+            match send_full(text, sink, piece) {
+                Ok(()) => {}
+                Err(fault) => return Err(fault),
+            }
+        }
+        Ok(())
+    }
+
+    /// What it has of the chip of a number, which is near at this place.
+    fn push_chip(
+        &self,
+        text: &mut Vec<u8>,
+        near: &Near,
+        place: u16,
+        number: u16,
+    ) -> Result<(), NoMemory>
+        requires room { CAP ≤ 15 }
+        requires counts { AreCounted (2 ^ N) self.now.machine.now.machine.chips 4096 self.now.counts.now }
+        requires in_use { AreInUse (2 ^ N) self.now.machine.now.machine.chips 4096 self.now.addresses.now }
+        requires chip { number < 2 ^ N }
+        requires near { StandsNear self.now.machine.now.machine number place near.now }
+        ensures ok { OnOk result (text.new.items ≡ text.old.items ++ chip_text (image_of_chip
+            (chip_at self.now.machine.now.machine.chips number)
+            (nth_or_nil self.now.machine.now.machine.buffers number))) }
+        ensures capacity { vec_capacity text.old ≤ vec_capacity text.new }
+        ensures grows { OnOk result (length text.new.items ≤ length text.old.items + 20000) }
+        ensures full { OnErr result (vec_capacity text.old < length text.old.items + 20000) }
+    {
+        let listed = self.counts[usize::from(number)];
+        let buffer = self.machine.buffer(number);
+        match near {
+            Near::Chips(tile) => push_sparse_chip(
+                text,
+                &tile.view(place),
+                listed,
+                self.addresses,
+                buffer,
+            ),
+            Near::Planes(planes) => {
+                let own = usize::from(place) * PITCH;
+                let chip = self.machine.chip(number);
+                push_dense_chip(text, &chip, listed, &planes[own..], buffer)
+            }
+        }
+    }
+}
+
+impl Near {
+    /// Lays out so many chips of a machine, from `first` on.
+    fn lay_out<const N: usize, const CAP: usize>(
+        &mut self,
+        machine: &Machine<N, CAP>,
+        first: u16,
+        some: u16,
+    )
+        requires near { IsNear self.old }
+        requires chips { first + some ≤ 2 ^ N }
+        requires few { some ≤ 64 }
+        ensures near { IsNear self.new }
+        ensures value { StandNear machine.now.machine first some self.new }
+    {
+        match self {
+            Near::Chips(tile) => machine.copy_chips(first, some, tile),
+            Near::Planes(planes) => write_tile(machine, first, some, planes),
+        }
     }
 }
 

@@ -9,7 +9,7 @@ use Rattle.cm_image_format.specs.Reading.{made}
 use Rattle.cm_image_format.specs.Image.{flags_part, messages_part, chip_part}
 use Rattle.cm_image_format.specs.Whole.{planes_of}
 use Rattle.cm_image.specs.Chips.{with_chip_image, with_message, IsBlankFrom}
-use Rattle.cm_image.specs.Tile.{with_waiting}
+use Rattle.cm_image.specs.WaitingChips.{with_waiting}
 use Rattle.cm_image.proofs.Loading.{with_value, with_fault, flags_wrong, full_read, full_wrong}
 use Rattle.cm_image.proofs.Waiting.{nothing_waits}
 use Rattle.cm_image.proofs.chips.take_chip.Goals as goal
@@ -60,7 +60,7 @@ returns-clause-ok g c =
     let flags : flags_part c.args.bytes.now ≡ Ok (c.in_ok-flags.flags, c.in_ok-flags.rest.now) =
     cc (c.in_ok-flags.ensures.value) in
     let whole : Machine = c.take_listed_chip.new.builder in
-    let before : c.put.new.builder ≡ with_waiting c.args.chip c.args.builder.now c.args.tile.now =
+    let before : c.put.new.builder ≡ with_waiting c.args.chip c.args.builder.now c.args.waiting.now =
     c.put.ensures.value
     ∙ ap (λ (waiting : Chips). with_waiting c.args.chip c.make_room.new.builder waiting)
     (c.push.ensures.other c.if-push.false)

@@ -7,7 +7,7 @@ use Rattle.cm_image_format.specs.Reading.{made}
 use Rattle.cm_image_format.specs.Image.{flags_part, memory_part, messages_part, chip_part}
 use Rattle.cm_image_format.specs.Whole.{planes_of}
 use Rattle.cm_image.specs.Chips.{with_chip_image, with_message, IsBlankFrom}
-use Rattle.cm_image.specs.Tile.{with_waiting}
+use Rattle.cm_image.specs.WaitingChips.{with_waiting}
 use Rattle.cm_image.proofs.Loading.{made_of, full_read}
 use Rattle.cm_image.proofs.Going.{goes_on-made, chip_goes_on, last_bytes}
 use Rattle.cm_image.proofs.chips.take_full_chip.Goals as goal
@@ -21,7 +21,7 @@ returns-clause-full g c =
     let builder : Machine = c.make_room.new.builder in
     let whole : Machine = c.take_messages.new.builder in
     let rest : List ℕ = c.in-Ok-take_messages.after.now in
-    let before : Machine = with_waiting c.args.chip c.args.builder.now c.args.tile.now in
+    let before : Machine = with_waiting c.args.chip c.args.builder.now c.args.waiting.now in
     let is : made (with_chip_image c.args.chip before) (chip_part g.row.N g.row.CAP c.args.clock) c.args.bytes.now
     ≡ Ok (with_waiting (c.args.chip + 1) whole c.push.new.self, rest) =
     subst

@@ -2,7 +2,7 @@ use Rattle.std.proofs.Common.{◌≡◌, ◌+◌, ◌-◌, ◌<◌, ◌^◌, ℕ
 use Rattle.std.proofs.lemmas.Result.{err_from_is_err_and}
 use Rattle.cm_model.specs.Array.{Chips}
 use Rattle.cm_model.specs.Machine.{Machine}
-use Rattle.cm_image.specs.Tile.{with_waiting}
+use Rattle.cm_image.specs.WaitingChips.{with_waiting}
 use Rattle.cm_image.specs.Taken.{IsTakenIn, AreTakenIn}
 use Rattle.cm_image.proofs.Loading.{blank_on}
 use Rattle.cm_image.proofs.Waiting.{nothing_waits}
@@ -11,7 +11,7 @@ use Rattle.cm_image.proofs.chips.take_full_chips.Goals as goal
 
 pub loop-chip-init : goal.loop-chip-init
 loop-chip-init g c =
-    let none : c.args.builder.now ≡ with_waiting 0 c.args.builder.now c.args.tile.now =
+    let none : c.args.builder.now ≡ with_waiting 0 c.args.builder.now c.args.waiting.now =
     sym (nothing_waits 0 c.args.builder.now)
     ∙ ap (λ (chips : Chips). with_waiting 0 c.args.builder.now chips) (sym c.requires.none) in
     record {
@@ -19,7 +19,7 @@ loop-chip-init g c =
       clock = c.requires.clock;
       working = c.requires.working;
       taken = taken_first g.row.N g.row.CAP c.args.clock c.args.builder.now
-          (with_waiting 0 c.args.builder.now c.args.tile.now) c.args.window.now (g.I.Source.left c.args.source.now)
+          (with_waiting 0 c.args.builder.now c.args.waiting.now) c.args.window.now (g.I.Source.left c.args.source.now)
           c.args.most none c.requires.blank;
     }
 
@@ -36,7 +36,7 @@ pub returns-in_default-clause-value : goal.returns-in_default-clause-value
 returns-in_default-clause-value g c =
     let came = c.in_ok-left.ensures.value in
     let less : ℕ = c.loop-chip.left - c.in_ok-left.field-0 in
-    let before : Machine = with_waiting c.loop-chip.chip c.loop-chip.builder c.loop-chip.tile in
+    let before : Machine = with_waiting c.loop-chip.chip c.loop-chip.builder c.loop-chip.waiting in
     let now =
     subst (λ (w : List ℕ). AreTakenIn g.row.N g.row.CAP c.args.clock c.loop-chip.chip c.args.builder.now before
     c.args.window.now w (g.I.Source.left c.args.source.now) (g.I.Source.left c.fill.new.source) c.args.most less)
@@ -54,9 +54,9 @@ pub loop-chip-preserved : goal.loop-chip-preserved
 loop-chip-preserved g c =
     let came = c.in_ok-left.ensures.value in
     let less : ℕ = c.loop-chip.left - c.in_ok-left.field-0 in
-    let before : Machine = with_waiting c.loop-chip.chip c.loop-chip.builder c.loop-chip.tile in
+    let before : Machine = with_waiting c.loop-chip.chip c.loop-chip.builder c.loop-chip.waiting in
     let after : Machine =
-    with_waiting (c.loop-chip.chip + 1) c.take_full_chip-taken.new.builder c.take_full_chip-taken.new.tile in
+    with_waiting (c.loop-chip.chip + 1) c.take_full_chip-taken.new.builder c.take_full_chip-taken.new.waiting in
     let below : c.loop-chip.chip < 2 ^ g.row.N = omega (arith, c.chip_count-chips.ensures.value) in
     let now =
     subst (λ (w : List ℕ). AreTakenIn g.row.N g.row.CAP c.args.clock c.loop-chip.chip c.args.builder.now before

@@ -7,7 +7,7 @@ use Rattle.cm_image.proofs.dumps.dump.Goals as goal
 pub returns-in-Ok : goal.returns-in-Ok
 returns-in-Ok g c =
     let machine : Machine = c.args.machine.now.machine in
-    let text : c.send_all_chips.new.text.items ≡ text_of g.row.N g.row.CAP machine =
+    let text : c.send_chips.new.text.items ≡ text_of g.row.N g.row.CAP machine =
     nothing_out c.in-Ok.ensures.ok
     ∙ front_first g.row.N g.row.CAP machine c.in_ok-text.text.items c.push_front.new.text.items
     c.in_ok-text.ensures.items c.in_ok-push_front.ensures.ok in

@@ -63,7 +63,7 @@ finish-requires g c =
             (
               rw c.in-Ok-new.ensures.value (omega arith),
               (
-                nothing g.row.N header.1 c.take_routing.new.builder c.in-Ok-new.tile c.in-Ok-new.ensures.value route.1,
+                nothing g.row.N header.1 c.take_routing.new.builder c.in-Ok-new.waiting c.in-Ok-new.ensures.value route.1,
                 ap (λ (m : Machine). m.clock) route.1,
               ),
             ),
@@ -80,7 +80,7 @@ returns-clause-value g c =
     with_value c.finish.result _ _
     (λ machine told. told c.args.bytes.now
     (of_whole g.row.N g.row.CAP header c.args.bytes.now c.in_ok-header.behind.now c.in_ok-chips.chips.now
-    c.in-Ok.builder c.take_routing.new.builder c.in-Ok-new.tile is c.in-Ok.ensures.value c.in_ok-chips.ensures.ok
+    c.in-Ok.builder c.take_routing.new.builder c.in-Ok-new.waiting is c.in-Ok.ensures.value c.in_ok-chips.ensures.ok
     c.in-Ok-new.ensures.value))
     c.finish.ensures.value
 
@@ -92,7 +92,7 @@ returns-clause-refused g c =
     with_fault c.finish.result _ _
     (λ fault told m. faulty g.row.N g.row.CAP c.args.bytes.now fault (told m c.args.bytes.now
     (of_whole g.row.N g.row.CAP header c.args.bytes.now c.in_ok-header.behind.now c.in_ok-chips.chips.now
-    c.in-Ok.builder c.take_routing.new.builder c.in-Ok-new.tile is c.in-Ok.ensures.value c.in_ok-chips.ensures.ok
+    c.in-Ok.builder c.take_routing.new.builder c.in-Ok-new.waiting is c.in-Ok.ensures.value c.in_ok-chips.ensures.ok
     c.in-Ok-new.ensures.value)))
     c.finish.ensures.refused
 
@@ -103,5 +103,5 @@ returns-clause-otherwise g c = λ none.
     cc (c.in_ok-header.ensures.value) in
     c.finish.ensures.otherwise c.args.bytes.now
     (of_whole g.row.N g.row.CAP header c.args.bytes.now c.in_ok-header.behind.now c.in_ok-chips.chips.now
-    c.in-Ok.builder c.take_routing.new.builder c.in-Ok-new.tile is c.in-Ok.ensures.value c.in_ok-chips.ensures.ok
+    c.in-Ok.builder c.take_routing.new.builder c.in-Ok-new.waiting is c.in-Ok.ensures.value c.in_ok-chips.ensures.ok
     c.in-Ok-new.ensures.value) none
