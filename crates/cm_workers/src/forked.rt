@@ -17,7 +17,7 @@ ghost use Rattle.cm_workers.specs.Runs.{StandAt};
 use crate::gate::Passage;
 use crate::out_of::{NoThread, OutOf};
 use crate::post::Post;
-use crate::running::{Sizes, run_blocks};
+use crate::running::{Run, Sizes, run_blocks};
 use crate::turn::Crew;
 use cm_array::{Machine, RunFault, Runner, check_stretch};
 use cm_bits::NoMemory;
@@ -133,19 +133,48 @@ impl<'a, const N: usize, const CAP: usize, R: Threads + Wait> Runner<N, CAP> for
             return Ok(());
         }
         let sizes = self.sizes(machine.dims());
-        let done = fork(
-            self.rt,
-            self.alloc,
-            sizes,
-            &self.passage,
-            machine,
-            acts,
-            cycles,
-        );
+        let done = self.fork(machine, acts, sizes, cycles);
         if let Err(OutOf::Thread(_)) = done {
             self.threads_lacked = self.threads_lacked.wrapping_add(1);
         }
         told(done)
+    }
+}
+
+impl<'a, R: Threads + Wait> Forked<'a, R> {
+    /// A machine goes through a run by its blocks, or stays as it was. The acts have so many petit cycles.
+    fn fork<const N: usize, const CAP: usize>(
+        &self,
+        machine: &mut Machine<N, CAP>,
+        acts: &[Act],
+        sizes: Sizes,
+        cycles: usize,
+    ) -> Result<(), OutOf>
+        requires dimension { sizes.dims ≡ N }
+        requires within { sizes.k ≤ N - N / 2 }
+        requires some { 0 < sizes.workers }
+        requires few { sizes.workers ≤ 64 }
+        requires cycles { cycles ≡ cycles_in acts.now }
+        requires clock { machine.old.machine.clock + cycles < 2 ^ 63 }
+        ensures ok { OnOk result (machine.new.machine ≡ run_of N CAP machine.old.machine acts.now) }
+        ensures account { OnOk result (SameLines (account N machine.new.machine)
+            (account N machine.old.machine ++ newly_injected N machine.old.machine machine.new.machine)) }
+        ensures admitted { IfOk result (λ _. (gate : _) → self.now.passage ≡ Passage.Gated gate
+            → (w : ℕ) → w < sizes.workers → admits gate w) }
+        ensures err { OnErr result (machine.new.machine ≡ machine.old.machine) }
+    {
+        let _clock = machine.clock();
+        let rounds = rounds(self.alloc, sizes.dims, acts, sizes.k)?;
+        let all = cut_up(self.alloc, machine, sizes, cycles)?;
+        admit_all(&self.passage, sizes.workers)?;
+        let run = Run {
+            acts,
+            rounds: &rounds,
+            passage: &self.passage,
+        };
+        let after = run_blocks(self.rt, self.alloc, sizes, run, all)?;
+        join(after.blocks, machine);
+        Ok(())
     }
 }
 
@@ -165,38 +194,6 @@ fn told(done: Result<(), OutOf>) -> Result<(), RunFault>
         Err(OutOf::Memory(_)) => Err(RunFault::Memory),
         Err(OutOf::Thread(_)) => Err(RunFault::NoThread),
     }
-}
-
-/// A machine goes through a run by its blocks, or stays as it was. The acts have so many petit cycles.
-fn fork<const N: usize, const CAP: usize, R: Threads + Wait>(
-    rt: &R,
-    alloc: Global,
-    sizes: Sizes,
-    passage: &Passage,
-    machine: &mut Machine<N, CAP>,
-    acts: &[Act],
-    cycles: usize,
-) -> Result<(), OutOf>
-    requires dimension { sizes.dims ≡ N }
-    requires within { sizes.k ≤ N - N / 2 }
-    requires some { 0 < sizes.workers }
-    requires few { sizes.workers ≤ 64 }
-    requires cycles { cycles ≡ cycles_in acts.now }
-    requires clock { machine.old.machine.clock + cycles < 2 ^ 63 }
-    ensures ok { OnOk result (machine.new.machine ≡ run_of N CAP machine.old.machine acts.now) }
-    ensures account { OnOk result (SameLines (account N machine.new.machine)
-        (account N machine.old.machine ++ newly_injected N machine.old.machine machine.new.machine)) }
-    ensures admitted { IfOk result (λ _. (gate : _) → passage.now ≡ Passage.Gated gate
-        → (w : ℕ) → w < sizes.workers → admits gate w) }
-    ensures err { OnErr result (machine.new.machine ≡ machine.old.machine) }
-{
-    let _clock = machine.clock();
-    let rounds = rounds(alloc, sizes.dims, acts, sizes.k)?;
-    let all = cut_up(alloc, machine, sizes, cycles)?;
-    admit_all(passage, sizes.workers)?;
-    let after = run_blocks(rt, alloc, sizes, acts, &rounds, passage, all)?;
-    join(after.blocks, machine);
-    Ok(())
 }
 
 /// Asks whether so many workers may begin, the one with the lowest number first; no further one once a worker was

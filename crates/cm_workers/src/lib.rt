@@ -19,5 +19,5 @@ pub use gate::{Gate, Passage};
 pub use laws::rounds_are_told_by_number;
 pub use out_of::{NoThread, OutOf};
 pub use post::Post;
-pub use running::{Sizes, run_blocks};
+pub use running::{Run, Sizes, run_blocks};
 pub use turn::Crew;

@@ -27,6 +27,14 @@ pub struct Sizes {
     pub workers: u16,
 }
 
+/// What blocks go through: the acts of a run, and its rounds. Workers who go through it go through a passage.
+#[derive(Clone, Copy)]
+pub struct Run<'a> {
+    pub acts: &'a [Act],
+    pub rounds: &'a [Round],
+    pub passage: &'a Passage,
+}
+
 /// All blocks of a machine go through a run in threads: each worker has blocks w, w + `workers`, and so on. From one
 /// round to the next every worker goes on in a thread of its own, and all are joined before the blocks exchange.
 /// Fails for want of memory, or of a thread that was not started; the blocks are gone then.
@@ -34,26 +42,24 @@ pub fn run_blocks<R: Threads + Wait>(
     rt: &R,
     alloc: Global,
     sizes: Sizes,
-    acts: &[Act],
-    rounds: &[Round],
-    passage: &Passage,
+    run: Run<'_>,
     all: Crew,
 ) -> Result<Crew, OutOf>
     requires dimension { sizes.dims ≤ 12 }
     requires within { sizes.k ≤ sizes.dims - sizes.dims / 2 }
     requires some { 0 < sizes.workers }
     requires few { sizes.workers ≤ 64 }
-    requires rounds { rounds.now ≡ rounds_of sizes.dims sizes.k acts.now }
-    requires begun { HaveBegun sizes.dims sizes.k acts.now 0 all.blocks.items all.posts.items }
+    requires rounds { run.rounds.now ≡ rounds_of sizes.dims sizes.k run.acts.now }
+    requires begun { HaveBegun sizes.dims sizes.k run.acts.now 0 all.blocks.items all.posts.items }
     ensures value { (room : ℕ) (machine : Machine)
-        → StandAt sizes.dims sizes.k room machine acts.now 0 all.blocks.items all.posts.items
-        → IfOk result (λ now. AreAfter sizes.dims sizes.k room machine acts.now now.blocks.items) }
+        → StandAt sizes.dims sizes.k room machine run.entry.acts.now 0 all.blocks.items all.posts.items
+        → IfOk result (λ now. AreAfter sizes.dims sizes.k room machine run.entry.acts.now now.blocks.items) }
 {
     let mut all = all;
-    for number in 0..rounds.len() {
-        all = to_round(rt, alloc, sizes, acts, rounds, number, passage, all)?;
+    for number in 0..run.rounds.len() {
+        all = to_round(rt, alloc, sizes, run, number, all)?;
     }
-    shift(rt, alloc, acts, rounds, rounds.len(), passage, sizes, all)
+    shift(rt, alloc, sizes, run, run.rounds.len(), all)
 }
 
 /// All blocks go on to a round, and exchange there.
@@ -61,25 +67,23 @@ fn to_round<R: Threads + Wait>(
     rt: &R,
     alloc: Global,
     sizes: Sizes,
-    acts: &[Act],
-    rounds: &[Round],
+    run: Run<'_>,
     number: usize,
-    passage: &Passage,
     all: Crew,
 ) -> Result<Crew, OutOf>
     requires dimension { sizes.dims ≤ 12 }
     requires within { sizes.k ≤ sizes.dims - sizes.dims / 2 }
     requires some { 0 < sizes.workers }
     requires few { sizes.workers ≤ 64 }
-    requires rounds { rounds.now ≡ rounds_of sizes.dims sizes.k acts.now }
-    requires number { number < length rounds.now }
-    requires begun { HaveBegun sizes.dims sizes.k acts.now number all.blocks.items all.posts.items }
+    requires rounds { run.rounds.now ≡ rounds_of sizes.dims sizes.k run.acts.now }
+    requires number { number < length run.rounds.now }
+    requires begun { HaveBegun sizes.dims sizes.k run.acts.now number all.blocks.items all.posts.items }
     ensures value { (room : ℕ) (machine : Machine)
-        → StandAt sizes.dims sizes.k room machine acts.now number all.blocks.items all.posts.items
-        → IfOk result (λ now. StandAt sizes.dims sizes.k room machine acts.now (number + 1)
+        → StandAt sizes.dims sizes.k room machine run.entry.acts.now number all.blocks.items all.posts.items
+        → IfOk result (λ now. StandAt sizes.dims sizes.k room machine run.entry.acts.now (number + 1)
         now.blocks.items now.posts.items) }
 {
-    let mut now = shift(rt, alloc, acts, rounds, number, passage, sizes, all)?;
-    hand_over(&mut now.posts, sizes.dims, sizes.k, rounds[number].kind);
+    let mut now = shift(rt, alloc, sizes, run, number, all)?;
+    hand_over(&mut now.posts, sizes.dims, sizes.k, run.rounds[number].kind);
     Ok(now)
 }

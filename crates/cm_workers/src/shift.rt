@@ -13,10 +13,9 @@ ghost use Rattle.cm_workers.specs.Runs.{HaveBegun};
 ghost use Rattle.cm_workers.specs.Gates.{IsWorkersTurn};
 
 use crate::dealing::{collect, deal};
-use crate::gate::Passage;
 use crate::out_of::{NoThread, OutOf};
 use crate::post::Post;
-use crate::running::Sizes;
+use crate::running::{Run, Sizes};
 use crate::turn::Crew;
 use cm_bits::NoMemory;
 use cm_model::Act;
@@ -50,20 +49,24 @@ impl<'a> Promise<Crew> for HasHad<'a> {
 /// Starts a worker.
 fn start<'s, E>(
     scope: &Scope<'s, E>,
-    acts: &'s [Act],
-    rounds: &'s [Round],
+    run: Run<'s>,
     number: usize,
-    passage: &'s Passage,
     crew: Crew,
     worker: u16,
 ) -> Result<PromisedHandle<Crew, HasHad<'s>>, NoThread>
-    requires ready { CanAllGo acts.now (round_before rounds.now number) (slice_get rounds.now number)
+    requires ready { CanAllGo run.acts.now (round_before run.rounds.now number) (slice_get run.rounds.now number)
         crew.blocks.items crew.posts.items }
-    requires own { IsWorkersTurn acts.now (round_before rounds.now number) (slice_get rounds.now number)
+    requires own { IsWorkersTurn run.acts.now (round_before run.rounds.now number) (slice_get run.rounds.now number)
         number worker crew.blocks.items crew.posts.items }
     ensures ok { IfOk result (λ handle.
-        IsPromised acts.entry.now rounds.entry.now number crew.blocks.items crew.posts.items handle.promise) }
+        IsPromised run.entry.acts.now run.entry.rounds.now number crew.blocks.items crew.posts.items handle.promise) }
 {
+    // The closure takes the references one by one, so that its clauses can tell what they point to.
+    let Run {
+        acts,
+        rounds,
+        passage,
+    } = run;
     let was = Snapshot::of(&crew);
     let started = scope.spawn_with(
         HasHad {
@@ -80,7 +83,14 @@ fn start<'s, E>(
             ensures { AreEach (HasGone acts.entry.now (round_before rounds.entry.now number)
                 (slice_get rounds.entry.now number))
                 crew.blocks.items crew.posts.items result.blocks.items result.posts.items }
-        { crew.go(acts, rounds, number, worker, passage) },
+        {
+            let run = Run {
+                acts,
+                rounds,
+                passage,
+            };
+            crew.go(run, number, worker)
+        },
     );
     match started {
         Ok(handle) => Ok(handle),
@@ -99,24 +109,22 @@ pub(crate) struct Hands {
 /// threads.
 fn start_all<'s, E>(
     scope: &Scope<'s, E>,
-    acts: &'s [Act],
-    rounds: &'s [Round],
+    run: Run<'s>,
     number: usize,
-    passage: &'s Passage,
     mut hands: Hands,
     mut handles: Vec<PromisedHandle<Crew, HasHad<'s>>>,
 ) -> Result<Vec<PromisedHandle<Crew, HasHad<'s>>>, NoThread>
-    requires ready { CanHandsGo acts.now (round_before rounds.now number) (slice_get rounds.now number)
+    requires ready { CanHandsGo run.acts.now (round_before run.rounds.now number) (slice_get run.rounds.now number)
         hands.blocks.items hands.posts.items }
-    requires own { AreWorkersTurns acts.now (round_before rounds.now number) (slice_get rounds.now number)
+    requires own { AreWorkersTurns run.acts.now (round_before run.rounds.now number) (slice_get run.rounds.now number)
         number hands.blocks.items hands.posts.items }
     requires few { length hands.blocks.items ≤ 64 }
     requires none { handles.items ≡ [] }
     requires room { length hands.blocks.items ≤ vec_capacity handles }
     ensures count { IfOk result (λ handles. length handles.items ≡ length hands.blocks.items) }
     ensures promised { IfOk result (λ handles. (w : ℕ) (d : _) (e f : _) → w < length hands.blocks.items
-        → IsPromised acts.entry.now rounds.entry.now number (hand hands.blocks.items e w) (hand hands.posts.items f w)
-        (get_or handles.items w d).promise) }
+        → IsPromised run.entry.acts.now run.entry.rounds.now number
+        (hand hands.blocks.items e w) (hand hands.posts.items f w) (get_or handles.items w d).promise) }
 {
     let count = hands.blocks.len();
     for w in 0..count {
@@ -124,7 +132,7 @@ fn start_all<'s, E>(
             blocks: hands.blocks.remove(0),
             posts: hands.posts.remove(0),
         };
-        handles.push_reserved(start(scope, acts, rounds, number, passage, crew, w as u16)?);
+        handles.push_reserved(start(scope, run, number, crew, w as u16)?);
     }
     Ok(handles)
 }
@@ -161,26 +169,24 @@ fn start_and_join<'s, E, R: Threads>(
     scope: &Scope<'s, E>,
     rt: &R,
     alloc: Global,
-    acts: &'s [Act],
-    rounds: &'s [Round],
+    run: Run<'s>,
     number: usize,
-    passage: &'s Passage,
     hands: Hands,
 ) -> Result<Hands, OutOf>
-    requires ready { CanHandsGo acts.now (round_before rounds.now number) (slice_get rounds.now number)
+    requires ready { CanHandsGo run.acts.now (round_before run.rounds.now number) (slice_get run.rounds.now number)
         hands.blocks.items hands.posts.items }
-    requires own { AreWorkersTurns acts.now (round_before rounds.now number) (slice_get rounds.now number)
+    requires own { AreWorkersTurns run.acts.now (round_before run.rounds.now number) (slice_get run.rounds.now number)
         number hands.blocks.items hands.posts.items }
     requires few { length hands.blocks.items ≤ 64 }
     ensures value { IfOk result
-        (λ now. HandsHaveGone acts.entry.now (round_before rounds.entry.now number) (slice_get rounds.entry.now number)
-        hands.blocks.items hands.posts.items now.blocks.items now.posts.items) }
+        (λ now. HandsHaveGone run.entry.acts.now (round_before run.entry.rounds.now number)
+        (slice_get run.entry.rounds.now number) hands.blocks.items hands.posts.items now.blocks.items now.posts.items) }
 {
     let count = hands.blocks.len();
     let places = room_for(alloc, count)?;
     let blocks = room_for(alloc, count)?;
     let posts = room_for(alloc, count)?;
-    let handles = start_all(scope, acts, rounds, number, passage, hands, places)?;
+    let handles = start_all(scope, run, number, hands, places)?;
     Ok(join_all(rt, handles, blocks, posts))
 }
 
@@ -188,21 +194,25 @@ fn start_and_join<'s, E, R: Threads>(
 fn turn_hands<R: Threads + Wait>(
     rt: &R,
     alloc: Global,
-    acts: &[Act],
-    rounds: &[Round],
+    run: Run<'_>,
     number: usize,
-    passage: &Passage,
     hands: Hands,
 ) -> Result<Hands, OutOf>
-    requires ready { CanHandsGo acts.now (round_before rounds.now number) (slice_get rounds.now number)
+    requires ready { CanHandsGo run.acts.now (round_before run.rounds.now number) (slice_get run.rounds.now number)
         hands.blocks.items hands.posts.items }
-    requires own { AreWorkersTurns acts.now (round_before rounds.now number) (slice_get rounds.now number)
+    requires own { AreWorkersTurns run.acts.now (round_before run.rounds.now number) (slice_get run.rounds.now number)
         number hands.blocks.items hands.posts.items }
     requires few { length hands.blocks.items ≤ 64 }
     ensures value { IfOk result
-        (λ now. HandsHaveGone acts.now (round_before rounds.now number) (slice_get rounds.now number)
-        hands.blocks.items hands.posts.items now.blocks.items now.posts.items) }
+        (λ now. HandsHaveGone run.entry.acts.now (round_before run.entry.rounds.now number)
+        (slice_get run.entry.rounds.now number) hands.blocks.items hands.posts.items now.blocks.items now.posts.items) }
 {
+    // As in `start`, the closure takes the references one by one.
+    let Run {
+        acts,
+        rounds,
+        passage,
+    } = run;
     thread::scope(
         thread::scope_env(),
         rt,
@@ -214,7 +224,14 @@ fn turn_hands<R: Threads + Wait>(
             ensures { IfOk result (λ now. HandsHaveGone acts.entry.now (round_before rounds.entry.now number)
                 (slice_get rounds.entry.now number)
                 hands.blocks.items hands.posts.items now.blocks.items now.posts.items) }
-        { start_and_join(scope, rt, alloc, acts, rounds, number, passage, hands) },
+        {
+            let run = Run {
+                acts,
+                rounds,
+                passage,
+            };
+            start_and_join(scope, rt, alloc, run, number, hands)
+        },
     )
 }
 
@@ -223,38 +240,28 @@ fn turn_hands<R: Threads + Wait>(
 pub(crate) fn shift<R: Threads + Wait>(
     rt: &R,
     alloc: Global,
-    acts: &[Act],
-    rounds: &[Round],
-    number: usize,
-    passage: &Passage,
     sizes: Sizes,
+    run: Run<'_>,
+    number: usize,
     all: Crew,
 ) -> Result<Crew, OutOf>
     requires within { sizes.k ≤ sizes.dims - sizes.dims / 2 }
     requires some { 0 < sizes.workers }
     requires few { sizes.workers ≤ 64 }
-    requires rounds { rounds.now ≡ rounds_of sizes.dims sizes.k acts.now }
-    requires number { number ≤ length rounds.now }
-    requires begun { HaveBegun sizes.dims sizes.k acts.now number all.blocks.items all.posts.items }
-    requires ready { CanAllGo acts.now (round_before rounds.now number) (slice_get rounds.now number)
+    requires rounds { run.rounds.now ≡ rounds_of sizes.dims sizes.k run.acts.now }
+    requires number { number ≤ length run.rounds.now }
+    requires begun { HaveBegun sizes.dims sizes.k run.acts.now number all.blocks.items all.posts.items }
+    requires ready { CanAllGo run.acts.now (round_before run.rounds.now number) (slice_get run.rounds.now number)
         all.blocks.items all.posts.items }
     ensures value { IfOk result
-        (λ now. AreEach (HasGone acts.now (round_before rounds.now number) (slice_get rounds.now number))
-        all.blocks.items all.posts.items now.blocks.items now.posts.items) }
+        (λ now. AreEach (HasGone run.entry.acts.now (round_before run.entry.rounds.now number)
+        (slice_get run.entry.rounds.now number)) all.blocks.items all.posts.items now.blocks.items now.posts.items) }
 {
     let count = usize::from(sizes.workers);
     let many = all.blocks.len();
     let blocks = deal(alloc, all.blocks, count)?;
     let posts = deal(alloc, all.posts, count)?;
-    let hands = turn_hands(
-        rt,
-        alloc,
-        acts,
-        rounds,
-        number,
-        passage,
-        Hands { blocks, posts },
-    )?;
+    let hands = turn_hands(rt, alloc, run, number, Hands { blocks, posts })?;
     let blocks = collect(alloc, hands.blocks, many)?;
     let posts = collect(alloc, hands.posts, many)?;
     Ok(Crew { blocks, posts })

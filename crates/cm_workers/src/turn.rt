@@ -15,6 +15,7 @@ ghost use Rattle.cm_workers.specs.Gates.{gate_round_number, ComesBy, IsWorkersTu
 
 use crate::gate::{Gate, Passage};
 use crate::post::Post;
+use crate::running::Run;
 use cm_model::Act;
 use cm_subcube::{Block, Kind, Round};
 
@@ -38,36 +39,30 @@ pub struct Crew {
 }
 
 impl Crew {
-    /// Has a turn: the one of that number in a run of these acts, which has these rounds.
-    pub(crate) fn go(
-        self,
-        acts: &[Act],
-        rounds: &[Round],
-        number: usize,
-        worker: u16,
-        passage: &Passage,
-    ) -> Crew
-        requires ready { CanAllGo acts.now (round_before rounds.now number) (slice_get rounds.now number)
+    /// Has a turn: the one of that number in a run.
+    pub(crate) fn go(self, run: Run<'_>, number: usize, worker: u16) -> Crew
+        requires ready { CanAllGo run.acts.now (round_before run.rounds.now number) (slice_get run.rounds.now number)
             self.blocks.items self.posts.items }
-        requires own { IsWorkersTurn acts.now (round_before rounds.now number) (slice_get rounds.now number)
+        requires own { IsWorkersTurn run.acts.now (round_before run.rounds.now number) (slice_get run.rounds.now number)
             number worker self.blocks.items self.posts.items }
-        ensures value { AreEach (HasGone acts.now (round_before rounds.now number) (slice_get rounds.now number))
+        ensures value { AreEach (HasGone run.entry.acts.now (round_before run.entry.rounds.now number)
+            (slice_get run.entry.rounds.now number))
             self.blocks.items self.posts.items result.blocks.items result.posts.items }
-        ensures passed { (gate : _) → passage.now ≡ Passage.Gated gate
-            → ShowsIn (λ v told bs. saw gate v told bs) acts.now (round_before rounds.now number)
-            (slice_get rounds.now number) number worker self.blocks.items self.posts.items }
+        ensures passed { (gate : _) → run.entry.passage.now ≡ Passage.Gated gate
+            → ShowsIn (λ v told bs. saw gate v told bs) run.entry.acts.now (round_before run.entry.rounds.now number)
+            (slice_get run.entry.rounds.now number) number worker self.blocks.items self.posts.items }
     {
         let Crew {
             mut blocks,
             mut posts,
         } = self;
         let turn = Turn {
-            acts,
+            acts: run.acts,
             number,
-            before: before(rounds, number),
-            next: next(rounds, number),
+            before: before(run.rounds, number),
+            next: next(run.rounds, number),
         };
-        have_turn(&mut blocks, &mut posts, &turn, worker, passage);
+        have_turn(&mut blocks, &mut posts, &turn, worker, run.passage);
         Crew { blocks, posts }
     }
 }

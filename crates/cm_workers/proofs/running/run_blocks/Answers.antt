@@ -10,11 +10,11 @@ use Rattle.cm_workers.proofs.running.run_blocks.Goals as goal
 
 pub shift-requires-clause-ready : goal.shift-requires-clause-ready
 shift-requires-clause-ready g c =
-    let n = c.args.sizes.dims in let k = c.args.sizes.k in let acts = c.args.acts.now in
+    let n = c.args.sizes.dims in let k = c.args.sizes.k in let acts = c.args.run.acts.now in
     let begun = c.requires.begun in
-    let last : c.loop-number.number ≡ length c.args.rounds.now =
+    let last : c.loop-number.number ≡ length c.args.run.rounds.now =
     omega (arith, c.loop-number-test.false, c.loop-number.auto.number-end) in
-    can_over n k (length c.args.rounds.now) acts c.args.rounds.now c.loop-number.all.blocks.items
+    can_over n k (length c.args.run.rounds.now) acts c.args.run.rounds.now c.loop-number.all.blocks.items
     c.loop-number.all.posts.items
     c.requires.within c.requires.rounds (omega arith)
     (record {
@@ -27,9 +27,9 @@ shift-requires-clause-ready g c =
 
 pub shift-requires-clause-begun : goal.shift-requires-clause-begun
 shift-requires-clause-begun g c =
-    let n = c.args.sizes.dims in let k = c.args.sizes.k in let acts = c.args.acts.now in
+    let n = c.args.sizes.dims in let k = c.args.sizes.k in let acts = c.args.run.acts.now in
     let begun = c.requires.begun in
-    let last : c.loop-number.number ≡ length c.args.rounds.now =
+    let last : c.loop-number.number ≡ length c.args.run.rounds.now =
     omega (arith, c.loop-number-test.false, c.loop-number.auto.number-end) in
     record {
       room = begun.room;
@@ -42,8 +42,8 @@ shift-requires-clause-begun g c =
 pub returns : goal.returns
 returns g c = record {
   value = λ room machine stands.
-      let n = c.args.sizes.dims in let k = c.args.sizes.k in let acts = c.args.acts.now in
-      let rounds = c.args.rounds.now in
+      let n = c.args.sizes.dims in let k = c.args.sizes.k in let acts = c.args.run.acts.now in
+      let rounds = c.args.run.rounds.now in
       let blocks = c.loop-number.all.blocks.items in let posts = c.loop-number.all.posts.items in
       let last : c.loop-number.number ≡ length rounds =
       omega (arith, c.loop-number-test.false, c.loop-number.auto.number-end) in

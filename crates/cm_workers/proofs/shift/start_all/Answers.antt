@@ -12,20 +12,20 @@ use Rattle.cm_workers.proofs.shift.start_all.Goals as goal
 pub start-requires-clause-own : goal.start-requires-clause-own
 start-requires-clause-own g c =
     let inv = c.loop-w.invariant in let w = c.loop-w.w in let number = c.args.number in
-    let before = round_before c.args.rounds.now number in let next = slice_get c.args.rounds.now number in
+    let before = round_before c.args.run.rounds.now number in let next = slice_get c.args.run.rounds.now number in
     let blocks = c.args.hands.blocks.items in let posts = c.args.hands.posts.items in
     let e = c.remove.result in let f = c.remove-in-loop-w.result in
     let here = first_taken blocks c.loop-w.hands.blocks.items w e inv.blocks (search rules) c.remove.ensures.value in
     let there = first_taken posts c.loop-w.hands.posts.items w f inv.posts
     (search rules) c.remove-in-loop-w.ensures.value in
-    subst (λ (bs : List BlockView). IsWorkersTurn c.args.acts.now before next number w bs f.items) (sym (here e))
-    (subst (λ (ps : List Post). IsWorkersTurn c.args.acts.now before next number w (hand blocks e w) ps) (sym (there f))
+    subst (λ (bs : List BlockView). IsWorkersTurn c.args.run.acts.now before next number w bs f.items) (sym (here e))
+    (subst (λ (ps : List Post). IsWorkersTurn c.args.run.acts.now before next number w (hand blocks e w) ps) (sym (there f))
     (c.requires.own w e f (search rules)))
 
 pub loop-w-preserved : goal.loop-w-preserved
 loop-w-preserved g c =
     let inv = c.loop-w.invariant in
-    let acts = c.args.acts.now in let rounds = c.args.rounds.now in let number = c.args.number in
+    let acts = c.args.run.acts.now in let rounds = c.args.run.rounds.now in let number = c.args.number in
     let blocks = c.args.hands.blocks.items in let posts = c.args.hands.posts.items in
     let here = first_taken blocks c.loop-w.hands.blocks.items c.loop-w.w c.remove.result inv.blocks (search rules)
     c.remove.ensures.value in

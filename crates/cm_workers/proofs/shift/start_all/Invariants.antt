@@ -10,6 +10,6 @@ invariant-loop-w g l = record {
   blocks : l.hands.blocks.items ≡ drop l.w l.fn.hands.blocks.items;
   posts : l.hands.posts.items ≡ drop l.w l.fn.hands.posts.items;
   promised : (i : ℕ) (d : _) (e : _) (f : _) → i < l.w
-      → IsPromised l.fn.acts l.fn.rounds l.fn.number (hand l.fn.hands.blocks.items e i)
+      → IsPromised l.fn.run.acts.now l.fn.run.rounds.now l.fn.number (hand l.fn.hands.blocks.items e i)
       (hand l.fn.hands.posts.items f i) (get_or l.handles.items i d).promise;
 }

@@ -8,7 +8,7 @@ returns g c = record {
       let started = c.in_ok-handles.ensures in
       let now = c.join_all.result in
       hands_gone (λ one. one.promise)
-      c.args.acts.now c.args.rounds.now c.args.number c.args.hands.blocks.items now.blocks.items
+      c.args.run.acts.now c.args.run.rounds.now c.args.number c.args.hands.blocks.items now.blocks.items
       c.args.hands.posts.items now.posts.items handles c.requires.ready.len started.count
       started.promised c.join_all.ensures.count_blocks c.join_all.ensures.count_posts c.join_all.ensures.kept;
 }

@@ -1,4 +1,4 @@
-use Rattle.std.proofs.Common.{rules, ◌∙◌, arith, lit<}
+use Rattle.std.proofs.Common.{rules, ◌≡◌, ◌≤◌, ◌-◌, ◌/◌, ◌∙◌, arith}
 use Rattle.cm_workers.proofs.Forking.{nothing_run, account_after}
 use Rattle.cm_workers.proofs.forked.ForkedRunner.go.Goals as goal
 
@@ -13,19 +13,7 @@ returns-then-is_empty-clause-account g c =
 
 pub fork-done-requires : goal.fork-done-requires
 fork-done-requires g c =
-    let dims = c.dims.ensures.value in (
-      lit< tt,
-      (
-        c.sizes-sizes.ensures.dims ∙ dims,
-        (
-          omega (arith, c.sizes-sizes.ensures.within, dims),
-          (
-            c.sizes-sizes.ensures.some,
-            (
-              c.sizes-sizes.ensures.few,
-              (c.in_ok-cycles.ensures.cycles, search rules),
-            ),
-          ),
-        ),
-      ),
-    )
+    let dims : c.sizes-sizes.result.dims ≡ g.row.N = c.sizes-sizes.ensures.dims ∙ c.dims.ensures.value in
+    let within : c.sizes-sizes.result.k ≤ g.row.N - g.row.N / 2 =
+    omega (arith, c.sizes-sizes.ensures.within, c.dims.ensures.value) in
+    search (rules, dims, within)

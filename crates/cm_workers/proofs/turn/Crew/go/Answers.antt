@@ -11,16 +11,16 @@ pub have_turn-requires : goal.have_turn-requires
 have_turn-requires g c =
     record {
       ready =
-          ready_as_numbered c.args.acts.now (option_copied c.before-2.result)
-          (round_before c.args.rounds.now c.args.number) (option_copied c.next.result)
-          (slice_get c.args.rounds.now c.args.number)
+          ready_as_numbered c.args.run.acts.now (option_copied c.before-2.result)
+          (round_before c.args.run.rounds.now c.args.number) (option_copied c.next.result)
+          (slice_get c.args.run.rounds.now c.args.number)
           c.args.self.blocks.items c.deref_mut.result.now c.args.self.posts.items c.deref_mut-2.result.now
           c.before-2.ensures.value c.next.ensures.value c.deref_mut.ensures.value
           c.deref_mut-2.ensures.value c.requires.ready;
       own =
-          own_as_numbered c.args.acts.now (option_copied c.before-2.result)
-          (round_before c.args.rounds.now c.args.number) (option_copied c.next.result)
-          (slice_get c.args.rounds.now c.args.number) c.args.number c.args.worker
+          own_as_numbered c.args.run.acts.now (option_copied c.before-2.result)
+          (round_before c.args.run.rounds.now c.args.number) (option_copied c.next.result)
+          (slice_get c.args.run.rounds.now c.args.number) c.args.number c.args.worker
           c.args.self.blocks.items c.deref_mut.result.now c.args.self.posts.items c.deref_mut-2.result.now
           c.before-2.ensures.value c.next.ensures.value c.deref_mut.ensures.value
           c.deref_mut-2.ensures.value c.requires.own;
@@ -28,9 +28,9 @@ have_turn-requires g c =
 
 pub returns : goal.returns
 returns g c = record {
-  value = as_numbered c.args.acts.now (option_copied c.before-2.result) (round_before c.args.rounds.now c.args.number)
+  value = as_numbered c.args.run.acts.now (option_copied c.before-2.result) (round_before c.args.run.rounds.now c.args.number)
       (option_copied c.next.result)
-      (slice_get c.args.rounds.now c.args.number)
+      (slice_get c.args.run.rounds.now c.args.number)
       c.args.self.blocks.items c.deref_mut.result.now c.have_turn.new.blocks _
       c.args.self.posts.items c.deref_mut-2.result.now c.have_turn.new.posts _
       c.before-2.ensures.value c.next.ensures.value c.deref_mut.ensures.value c.deref_mut-2.ensures.value
@@ -40,8 +40,8 @@ returns g c = record {
       (c.have_turn.ensures.value.second_len ∙ ap length c.deref_mut-2.ensures.value ∙ sym c.args.self.posts.ok.0))
       c.have_turn.ensures.value;
   passed = λ gate is.
-      shows_as_numbered _ c.args.acts.now (option_copied c.before-2.result) (round_before c.args.rounds.now c.args.number)
-      (option_copied c.next.result) (slice_get c.args.rounds.now c.args.number) c.args.number c.args.worker
+      shows_as_numbered _ c.args.run.acts.now (option_copied c.before-2.result) (round_before c.args.run.rounds.now c.args.number)
+      (option_copied c.next.result) (slice_get c.args.run.rounds.now c.args.number) c.args.number c.args.worker
       c.args.self.blocks.items c.deref_mut.result.now c.args.self.posts.items c.deref_mut-2.result.now
       c.before-2.ensures.value c.next.ensures.value c.deref_mut.ensures.value c.deref_mut-2.ensures.value
       (c.have_turn.ensures.passed gate is);

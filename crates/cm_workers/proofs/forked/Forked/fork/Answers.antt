@@ -1,7 +1,7 @@
 use Rattle.std.proofs.Common.{◌∙◌, ℕ, subst, sym, arith, lit<}
 use Rattle.cm_workers.specs.Runs.{StandAt}
 use Rattle.cm_workers.proofs.Forking.{parts_after, whole_after, joined_after, account_after}
-use Rattle.cm_workers.proofs.forked.fork.Goals as goal
+use Rattle.cm_workers.proofs.forked.Forked.fork.Goals as goal
 
 pub rounds-requires-clause-dimension : goal.rounds-requires-clause-dimension
 rounds-requires-clause-dimension g c = omega (arith, c.requires.dimension, c.clock-clock.ensures.sizes.dimension)
