@@ -6,3 +6,4 @@ pub mod Starting
 pub mod Gathering
 pub mod Laws
 pub mod TeamSetups
+pub mod SharedLists

@@ -10,10 +10,10 @@ ghost use Rattle.cm_array.specs.Acts.{is_late, is_long};
 ghost use Rattle.cm_array.specs.Faults.{CountsLacks, is_no_thread};
 ghost use Rattle.cm_workers.specs.Forks.{fork_fault};
 
-use crate::resident::{Share, fault_of, run, share_of, told};
+use crate::resident::{fault_of, share_of, told};
+use crate::shared_list::SharedList;
 use crate::short_lists::is_soon_done;
 use cm_array::{Machine, Part, Plain, RunFault, Runner, check_stretch};
-use cm_bits::NoMemory;
 use cm_model::Act;
 use cm_subcube::rounds;
 use cm_workers::{ForkFault, OutOf, Passage};
@@ -90,39 +90,26 @@ impl<'a, const N: usize, const CAP: usize, R: Threads + Wait + Sync> Runner<N, C
         ensures passage { self.new.passage ≡ self.old.passage }
     {
         let cycles = check_stretch(list, machine.clock())?;
-        let share = share_of(self.k, self.workers, machine.dims());
-        if list.is_empty() || goes_alone(self.alloc, machine, list, share, cycles)? {
+        if list.is_empty() {
+            return Ok(());
+        }
+        let dims = machine.dims();
+        let share = share_of(self.k, self.workers, dims);
+        let rounds = rounds(self.alloc, dims, list, share.k)?;
+        if is_soon_done(machine, list, share.workers, rounds.len(), cycles) {
             return Plain.go(machine, list);
         }
-        let done = run(
-            self.rt,
-            self.alloc,
-            share.k,
-            share.workers,
-            &self.passage,
-            machine,
-            list,
+        let shared = SharedList {
+            acts: list,
+            rounds: &rounds,
             cycles,
-            &mut self.used,
-        );
+            k: share.k,
+            workers: share.workers,
+        };
+        let done = shared.run(self.rt, self.alloc, &self.passage, machine, &mut self.used);
         if let Err(OutOf::Thread(_)) = done {
             self.threads_lacked = self.threads_lacked.wrapping_add(1);
         }
         told(done)
     }
-}
-
-/// Whether the thread of the caller goes through a list, of so many petit cycles.
-fn goes_alone<const N: usize, const CAP: usize>(
-    alloc: Global,
-    machine: &Machine<N, CAP>,
-    list: &[Act],
-    share: Share,
-    cycles: usize,
-) -> Result<bool, NoMemory>
-    requires within { share.k ≤ N - N / 2 }
-    requires some { 0 < share.workers }
-{
-    let rounds = rounds(alloc, machine.dims(), list, share.k)?;
-    Ok(is_soon_done(machine, list, share.workers, rounds.len(), cycles))
 }

@@ -28,33 +28,34 @@ impl<'a, const N: usize, const CAP: usize> Plan<Parcel> for Sent<'a, N, CAP> {
         (record { n = N; k = p.k; room = CAP; machine = p.machine.now.machine; acts = p.acts.now }) p.block p.place };
 }
 
-/// The ends of the lane over which a block sends at one of its places.
-pub(crate) fn open_lane<const N: usize, const CAP: usize>(
-    alloc: Global,
-    machine: &Machine<N, CAP>,
-    acts: &[Act],
-    k: u8,
-    block: u16,
-    place: usize,
-    kind: Kind,
-) -> Result<(FromEnd<Parcel>, ToEnd<Parcel>), NoMemory>
-    requires within { k ≤ N - N / 2 }
-    requires few { length (rounds_of N k acts.now) ≤ 4416 }
-    requires kind { kind ≡ kind_of_index N k place }
-    ensures from { IfOk result (λ ends. ends.0 ≡ course
-        (record { n = N; k = k; room = CAP; machine = machine.now.machine; acts = acts.now }) block place 0) }
-    ensures to { IfOk result (λ ends. ends.1 ≡ course
-        (record { n = N; k = k; room = CAP; machine = machine.now.machine; acts = acts.now }) block place 0) }
-{
-    let blank = Parcel::blank(alloc, machine.dims(), k, kind)?;
-    let plan = Sent {
-        machine,
-        acts,
-        k,
-        block,
-        place,
-    };
-    Lane::open(alloc, blank, plan)
+impl<'a, const N: usize, const CAP: usize> Sent<'a, N, CAP> {
+    /// The ends of the lane that carries it; rounds of this kind go over lanes of its place.
+    fn open_lane(
+        self,
+        alloc: Global,
+        kind: Kind,
+    ) -> Result<(FromEnd<Parcel>, ToEnd<Parcel>), NoMemory>
+        requires within { self.k ≤ N - N / 2 }
+        requires few { length (rounds_of N self.k self.acts.now) ≤ 4416 }
+        requires kind { kind ≡ kind_of_index N self.k self.place }
+        ensures from { let run : Run = record {
+          n = N;
+          k = self.entry.k;
+          room = CAP;
+          machine = self.entry.machine.now.machine;
+          acts = self.entry.acts.now;
+        } in IfOk result (λ ends. ends.0 ≡ course run self.entry.block self.entry.place 0) }
+        ensures to { let run : Run = record {
+          n = N;
+          k = self.entry.k;
+          room = CAP;
+          machine = self.entry.machine.now.machine;
+          acts = self.entry.acts.now;
+        } in IfOk result (λ ends. ends.1 ≡ course run self.entry.block self.entry.place 0) }
+    {
+        let blank = Parcel::blank(alloc, self.machine.dims(), self.k, kind)?;
+        Lane::open(alloc, blank, self)
+    }
 }
 
 /// How many ends of each sort a block has: one block alone exchanges nothing.
@@ -137,7 +138,14 @@ fn open_place<const N: usize, const CAP: usize>(
     let mut froms = Vec::with_capacity(alloc, usize::from(count))?;
     let mut tos = Vec::with_capacity(alloc, usize::from(count))?;
     for block in 0..count {
-        let (from, to) = open_lane(alloc, machine, acts, k, block, place, kind)?;
+        let sent = Sent {
+            machine,
+            acts,
+            k,
+            block,
+            place,
+        };
+        let (from, to) = sent.open_lane(alloc, kind)?;
         froms.push_reserved(from);
         tos.push_reserved(to);
     }

@@ -9,6 +9,7 @@ mod lanes;
 mod laws;
 mod resident;
 mod running;
+mod shared_list;
 mod short_lists;
 mod start;
 mod teams;

@@ -1,28 +1,19 @@
 //! The runner whose workers run on.
 
-ghost use Rattle.std.specs.Prelude.{◌≡◌, ◌≢◌, ◌↔◌, ℕ, ◌+◌, ◌-◌, ◌/◌, ◌^◌, ◌<◌, ◌≤◌, ◌++◌, [], None};
-ghost use Rattle.std.specs.Prelude.{IfOk, IfSome, IsErrOf, IsFalse, IsOk, IsTrue, List, ltb, MatchResult};
-ghost use Rattle.std.specs.Prelude.{OnOk, OnErr, get_or, length, vec_capacity};
-ghost use Rattle.std.specs.List.{All};
+ghost use Rattle.std.specs.Prelude.{◌≡◌, ◌≢◌, ◌↔◌, ℕ, ◌-◌, ◌/◌, ◌^◌, ◌<◌, ◌≤◌, ◌++◌, [], None, ltb, MatchResult};
+ghost use Rattle.std.specs.Prelude.{IfOk, IfSome, IsErrOf, IsFalse, IsOk, IsTrue, OnOk, OnErr};
 ghost use Rattle.std.specs.Thread.{IsSync};
-ghost use Rattle.cm_model.specs.declared.act.Act.{Act};
 ghost use Rattle.cm_model.specs.Machine.{run_of};
 ghost use Rattle.cm_model.specs.Account.{account, newly_injected, SameLines};
-ghost use Rattle.cm_array.specs.Acts.{cycles_in, is_late, is_long};
+ghost use Rattle.cm_array.specs.Acts.{is_late, is_long};
 ghost use Rattle.cm_array.specs.Faults.{CountsLacks, is_no_thread};
 ghost use Rattle.cm_workers.specs.Forks.{fork_fault, most_blocks, most_workers, of_want};
-ghost use Rattle.cm_resident.specs.Gathering.{AreEmpty, HaveRoom};
-ghost use Rattle.cm_resident.specs.TeamSetups.{AreLinedUp, AreLinedUpForSome};
 
-use crate::gathering::{in_order, room_for};
-use crate::running::{TeamSetup, line_up, work_all};
-use crate::teams::team_in;
-use crate::together::Together;
+use crate::shared_list::SharedList;
 use cm_array::{Machine, Part, RunFault, Runner, check_stretch};
-use cm_bits::NoMemory;
 use cm_model::Act;
-use cm_subcube::{Block, join_and_keep};
-use cm_workers::{ForkFault, NoThread, OutOf, Passage};
+use cm_subcube::rounds;
+use cm_workers::{ForkFault, OutOf, Passage};
 use std::alloc::Global;
 use std::sync::Wait;
 use std::thread::Threads;
@@ -88,10 +79,10 @@ impl<'a, const N: usize, const CAP: usize, R: Threads + Wait + Sync> Runner<N, C
 
     ghost threads_lacked = { λ runner. runner.threads_lacked };
 
-    /// Of a list that is not empty it takes memory for a copy of the machine, for the logs of all petit cycles in the
-    /// list, for what its blocks exchange, and for what its threads leave. Then each worker is admitted and its thread
-    /// started, one after the other; none begins before all are started. Where memory or a thread is wanting the
-    /// machine stays as it was.
+    /// Of a list that is not empty it takes memory for its rounds, for a copy of the machine, for the logs of all petit
+    /// cycles in the list, for what its blocks exchange, and for what its threads leave. Then each worker is admitted
+    /// and its thread started, one after the other; none begins before all are started. Where memory or a thread is
+    /// wanting the machine stays as it was.
     fn go(&mut self, machine: &mut Machine<N, CAP>, acts: &[Act]) -> Result<(), RunFault>
         requires runner { IsSync R.row }
         ensures long { (result ≡ Err RunFault.Long) ↔ IsTrue (is_long acts.now) }
@@ -113,18 +104,17 @@ impl<'a, const N: usize, const CAP: usize, R: Threads + Wait + Sync> Runner<N, C
         if acts.is_empty() {
             return Ok(());
         }
-        let share = share_of(self.k, self.workers, machine.dims());
-        let done = run(
-            self.rt,
-            self.alloc,
-            share.k,
-            share.workers,
-            &self.passage,
-            machine,
+        let dims = machine.dims();
+        let share = share_of(self.k, self.workers, dims);
+        let rounds = rounds(self.alloc, dims, acts, share.k)?;
+        let list = SharedList {
             acts,
+            rounds: &rounds,
             cycles,
-            &mut self.used,
-        );
+            k: share.k,
+            workers: share.workers,
+        };
+        let done = list.run(self.rt, self.alloc, &self.passage, machine, &mut self.used);
         if let Err(OutOf::Thread(_)) = done {
             self.threads_lacked = self.threads_lacked.wrapping_add(1);
         }
@@ -179,195 +169,4 @@ pub(crate) fn told(done: Result<(), OutOf>) -> Result<(), RunFault>
         Err(OutOf::Memory(_)) => Err(RunFault::Memory),
         Err(OutOf::Thread(_)) => Err(RunFault::NoThread),
     }
-}
-
-/// A machine goes through a run, or stays as it was. The acts have so many petit cycles.
-pub(crate) fn run<const N: usize, const CAP: usize, R: Threads + Wait + Sync>(
-    rt: &R,
-    alloc: Global,
-    k: u8,
-    workers: u16,
-    passage: &Passage,
-    machine: &mut Machine<N, CAP>,
-    acts: &[Act],
-    cycles: usize,
-    used: &mut Vec<Part>,
-) -> Result<(), OutOf>
-    requires within { k ≤ N - N / 2 }
-    requires some { 0 < workers }
-    requires enough { workers ≤ 2 ^ k }
-    requires few { workers ≤ 64 }
-    requires long { IsFalse (is_long acts.now) }
-    requires clock { IsFalse (is_late machine.old.machine.clock acts.now) }
-    requires cycles { cycles ≡ cycles_in acts.now }
-    ensures ok { OnOk result (machine.new.machine ≡ run_of N CAP machine.old.machine acts.now) }
-    ensures account { OnOk result (SameLines (account N machine.new.machine)
-        (account N machine.old.machine ++ newly_injected N machine.old.machine machine.new.machine)) }
-    ensures admitted { IfOk result (λ _. (gate : _) → passage.now ≡ Passage.Gated gate
-        → (w : ℕ) → w < workers → admits (gate.vtable, gate.value) w) }
-    ensures err { OnErr result (machine.new.machine ≡ machine.old.machine) }
-{
-    // Where no event was told there is none to copy, and what the blocks tell becomes the machine's logs.
-    if matches!(passage, Passage::Open) && machine.has_events() {
-        share_out_without_logs(rt, alloc, k, workers, passage, machine, acts, cycles, used)
-    } else {
-        share_out(rt, alloc, k, workers, passage, machine, acts, used)
-    }
-}
-
-/// A machine goes through a run by its blocks, or stays as it was.
-fn share_out<const N: usize, const CAP: usize, R: Threads + Wait + Sync>(
-    rt: &R,
-    alloc: Global,
-    k: u8,
-    workers: u16,
-    passage: &Passage,
-    machine: &mut Machine<N, CAP>,
-    acts: &[Act],
-    used: &mut Vec<Part>,
-) -> Result<(), OutOf>
-    requires within { k ≤ N - N / 2 }
-    requires some { 0 < workers }
-    requires enough { workers ≤ 2 ^ k }
-    requires few { workers ≤ 64 }
-    requires long { IsFalse (is_long acts.now) }
-    requires clock { IsFalse (is_late machine.old.machine.clock acts.now) }
-    ensures ok { OnOk result (machine.new.machine ≡ run_of N CAP machine.old.machine acts.now) }
-    ensures account { OnOk result (SameLines (account N machine.new.machine)
-        (account N machine.old.machine ++ newly_injected N machine.old.machine machine.new.machine)) }
-    ensures admitted { IfOk result (λ _. (gate : _) → passage.now ≡ Passage.Gated gate
-        → (w : ℕ) → w < workers → admits (gate.vtable, gate.value) w) }
-    ensures err { OnErr result (machine.new.machine ≡ machine.old.machine) }
-{
-    let prepared = prepare(alloc, k, workers, machine, acts, used)?;
-    run_prepared(rt, passage, machine, prepared, used)?;
-    Ok(())
-}
-
-/// All that a list wants before the first of its threads is started: a team with its start words and room for what it
-/// leaves, and room for its 2^`k` blocks.
-#[derive(Drop)]
-struct Prepared {
-    k: u8,
-    all: TeamSetup,
-    places: Vec<Block>,
-}
-
-/// Takes all memory that a list takes.
-fn prepare<const N: usize, const CAP: usize>(
-    alloc: Global,
-    k: u8,
-    workers: u16,
-    machine: &Machine<N, CAP>,
-    acts: &[Act],
-    used: &mut Vec<Part>,
-) -> Result<Prepared, NoMemory>
-    requires within { k ≤ N - N / 2 }
-    requires some { 0 < workers }
-    requires enough { workers ≤ 2 ^ k }
-    requires few { workers ≤ 64 }
-    requires long { IsFalse (is_long acts.now) }
-    requires clock { IsFalse (is_late machine.now.machine.clock acts.now) }
-    ensures k { IfOk result (λ prepared. prepared.k ≡ k) }
-    ensures team { IfOk result (λ prepared. AreLinedUp
-        (record { n = N; k = prepared.k; room = CAP; machine = machine.now.machine; acts = acts.now })
-        workers prepared.all.readies.items) }
-    ensures none { IfOk result (λ prepared.
-        AreEmpty prepared.all.handles.items prepared.all.left.items prepared.all.shares.items) }
-    ensures room { IfOk result (λ prepared. HaveRoom (length prepared.all.readies.items)
-        (vec_capacity prepared.all.handles) (vec_capacity prepared.all.left) (vec_capacity prepared.all.shares)) }
-    ensures untold { IfOk result (λ prepared. All (λ word. word ≡ 0) prepared.all.starters.items) }
-    ensures no_places { IfOk result (λ prepared. prepared.places.items ≡ []) }
-    ensures place_room { IfOk result (λ prepared. 2 ^ prepared.k ≤ vec_capacity prepared.places) }
-{
-    // Who asks for the counter is told that the machine is whole, and of at most 12 dimensions.
-    let _clock = machine.clock();
-    let team = team_in(alloc, machine, acts, k, workers, used)?;
-    let all = line_up(alloc, team)?;
-    make_places(alloc, used, 1 << k);
-    let places = room_for(alloc, 1 << k)?;
-    Ok(Prepared { k, all, places })
-}
-
-/// Workers for whom all is prepared go through their run, or the machine stays as it was; no memory is taken.
-fn run_prepared<const N: usize, const CAP: usize, R: Threads + Wait + Sync>(
-    rt: &R,
-    passage: &Passage,
-    machine: &mut Machine<N, CAP>,
-    prepared: Prepared,
-    used: &mut Vec<Part>,
-) -> Result<(), NoThread>
-    requires within { prepared.k ≤ N - N / 2 }
-    requires some { 0 < length prepared.all.readies.items }
-    requires team { AreLinedUpForSome N prepared.k CAP machine.old.machine prepared.all.readies.items }
-    requires none { AreEmpty prepared.all.handles.items prepared.all.left.items prepared.all.shares.items }
-    requires room { HaveRoom (length prepared.all.readies.items)
-        (vec_capacity prepared.all.handles) (vec_capacity prepared.all.left) (vec_capacity prepared.all.shares) }
-    requires untold { All (λ word. word ≡ 0) prepared.all.starters.items }
-    requires no_places { prepared.places.items ≡ [] }
-    requires place_room { 2 ^ prepared.k ≤ vec_capacity prepared.places }
-    ensures ok { OnOk result ((acts : List Act) (count : ℕ) → AreLinedUp
-        (record { n = N; k = prepared.k; room = CAP; machine = machine.old.machine; acts = acts })
-        count prepared.all.readies.items → machine.new.machine ≡ run_of N CAP machine.old.machine acts) }
-    ensures admitted { IfOk result (λ _. (gate : _) → passage.now ≡ Passage.Gated gate
-        → (w : ℕ) (d : _) → w < length prepared.all.readies.items
-        → admits (gate.vtable, gate.value) (get_or prepared.all.readies.items w d).worker.id) }
-    ensures err { OnErr result (machine.new.machine ≡ machine.old.machine) }
-{
-    // Who asks for the counter is told that the machine is whole, and of at most 12 dimensions.
-    let _clock = machine.clock();
-    let Prepared { k, all, places } = prepared;
-    let shares = work_all(rt, passage, all)?;
-    let blocks = in_order(shares, 1 << k, places);
-    join_and_keep(blocks, machine, used);
-    Ok(())
-}
-
-/// Makes places for so many parts, if there is memory: what is not kept is made anew.
-fn make_places(alloc: Global, used: &mut Vec<Part>, count: usize) {
-    used.clear();
-    if used.capacity() < count {
-        if let Ok(places) = Vec::with_capacity(alloc, count) {
-            *used = places;
-        }
-    }
-}
-
-/// The same where nobody looks at the blocks: the logs of the machine are set aside and not copied, and what its blocks
-/// tell comes to stand behind them. The acts have so many petit cycles.
-fn share_out_without_logs<const N: usize, const CAP: usize, R: Threads + Wait + Sync>(
-    rt: &R,
-    alloc: Global,
-    k: u8,
-    workers: u16,
-    passage: &Passage,
-    machine: &mut Machine<N, CAP>,
-    acts: &[Act],
-    cycles: usize,
-    used: &mut Vec<Part>,
-) -> Result<(), OutOf>
-    requires open { passage.now ≡ Passage.Open }
-    requires within { k ≤ N - N / 2 }
-    requires some { 0 < workers }
-    requires enough { workers ≤ 2 ^ k }
-    requires few { workers ≤ 64 }
-    requires long { IsFalse (is_long acts.now) }
-    requires clock { IsFalse (is_late machine.old.machine.clock acts.now) }
-    requires cycles { cycles ≡ cycles_in acts.now }
-    ensures ok { OnOk result (machine.new.machine ≡ run_of N CAP machine.old.machine acts.now) }
-    ensures account { OnOk result (SameLines (account N machine.new.machine)
-        (account N machine.old.machine ++ newly_injected N machine.old.machine machine.new.machine)) }
-    ensures admitted { IfOk result (λ _. (gate : _) → passage.now ≡ Passage.Gated gate
-        → (w : ℕ) → w < workers → admits (gate.vtable, gate.value) w) }
-    ensures err { OnErr result (machine.new.machine ≡ machine.old.machine) }
-{
-    let _clock = machine.clock();
-    let earlier = machine.set_logs_aside(alloc, cycles)?;
-    let done = share_out(rt, alloc, k, workers, passage, machine, acts, used);
-    let by = Together {
-        rt,
-        threads: usize::from(workers),
-    };
-    machine.put_logs_back_by(&by, earlier, used);
-    done
 }

@@ -3,8 +3,10 @@
 ghost use Rattle.std.specs.Prelude.{◌≡◌, ℕ, ◌-◌, ◌/◌, ◌<◌, ◌≤◌, ◌^◌, IfOk, IsFalse, length, get_or};
 ghost use Rattle.cm_array.specs.Acts.{is_late, is_long};
 ghost use Rattle.cm_resident.specs.Lanes.{Run, rounds_in};
+ghost use Rattle.cm_resident.specs.SharedLists.{IsListFor};
 ghost use Rattle.cm_resident.specs.Teams.{HasWorkerParts, IsOfTeam};
 
+use crate::shared_list::SharedList;
 use crate::worker::Worker;
 use crate::worker_parts::{WorkerParts, worker_parts};
 use cm_array::{Machine, Part, check_stretch};
@@ -75,43 +77,43 @@ pub fn team<const N: usize, const CAP: usize>(
         (record { n = N; k = k; room = CAP; machine = machine.now.machine; acts = acts.now })
         workers (get_or team.items w d)) }
 {
-    team_in(alloc, machine, acts, k, workers, &mut Vec::new(alloc))
+    let Ok(cycles) = check_stretch(acts, machine.clock()) else {
+        unreachable!()
+    };
+    let rounds = rounds(alloc, machine.dims(), acts, k)?;
+    let list = SharedList {
+        acts,
+        rounds: &rounds,
+        cycles,
+        k,
+        workers,
+    };
+    team_in(alloc, machine, &list, &mut Vec::new(alloc))
 }
 
 /// The same, whose blocks are in the room of parts that are not needed any more, as far as there are such.
 pub(crate) fn team_in<const N: usize, const CAP: usize>(
     alloc: Global,
     machine: &Machine<N, CAP>,
-    acts: &[Act],
-    k: u8,
-    workers: u16,
+    list: &SharedList<'_>,
     used: &mut Vec<Part>,
 ) -> Result<Vec<Worker>, NoMemory>
-    requires within { k ≤ N - N / 2 }
-    requires some { 0 < workers }
-    requires few { workers ≤ 2 ^ k }
-    requires most { workers ≤ 64 }
-    requires long { IsFalse (is_long acts.now) }
-    requires clock { IsFalse (is_late machine.now.machine.clock acts.now) }
-    ensures count { IfOk result (λ team. length team.items ≡ workers) }
-    ensures ids { IfOk result (λ team. (w : ℕ) (d : _) → w < workers → (get_or team.items w d).id ≡ w) }
-    ensures value { IfOk result (λ team. (w : ℕ) (d : _) → w < workers → IsOfTeam
-        (record { n = N; k = k; room = CAP; machine = machine.now.machine; acts = acts.now })
-        workers (get_or team.items w d)) }
+    requires list { IsListFor N list.now }
+    requires clock { IsFalse (is_late machine.now.machine.clock list.now.acts.now) }
+    ensures count { IfOk result (λ team. length team.items ≡ list.now.workers) }
+    ensures ids { IfOk result (λ team. (w : ℕ) (d : _) → w < list.now.workers → (get_or team.items w d).id ≡ w) }
+    ensures value { IfOk result (λ team. (w : ℕ) (d : _) → w < list.now.workers → IsOfTeam
+        (record { n = N; k = list.now.k; room = CAP; machine = machine.now.machine; acts = list.now.acts.now })
+        list.now.workers (get_or team.items w d)) }
 {
-    let dims = machine.dims();
-    let Ok(cycles) = check_stretch(acts, machine.clock()) else {
-        unreachable!()
-    };
-    let rounds = rounds(alloc, dims, acts, k)?;
-    let worker_parts = worker_parts(alloc, machine, acts, k, cycles, used)?;
-    let mut hands = deal(alloc, worker_parts, usize::from(workers))?;
-    let mut team = Vec::with_capacity(alloc, usize::from(workers))?;
-    for w in 0..workers {
+    let worker_parts = worker_parts(alloc, machine, list.acts, list.k, list.cycles, used)?;
+    let mut hands = deal(alloc, worker_parts, usize::from(list.workers))?;
+    let mut team = Vec::with_capacity(alloc, usize::from(list.workers))?;
+    for w in 0..list.workers {
         let own = hands.remove(0);
-        let own_acts = copied(alloc, acts)?;
-        let own_rounds = copied(alloc, &rounds)?;
-        team.push_reserved(worker_of(alloc, w, k, own, own_acts, own_rounds)?);
+        let own_acts = copied(alloc, list.acts)?;
+        let own_rounds = copied(alloc, list.rounds)?;
+        team.push_reserved(worker_of(alloc, w, list.k, own, own_acts, own_rounds)?);
     }
     Ok(team)
 }

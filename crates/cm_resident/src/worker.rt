@@ -9,7 +9,7 @@ ghost use Rattle.cm_resident.specs.Standing.{IsWorkerBefore};
 ghost use Rattle.cm_resident.specs.Teams.{HasPassed, HasSeenOf, HasWorked, IsBeforeRound, IsOfSome};
 
 use crate::lanes::ends_each;
-use crate::turn::{begin_all, get_all, send_all};
+use crate::turn::{EndPlace, begin_all, get_all, send_all};
 use cm_board::{FromEnd, ToEnd};
 use cm_model::Act;
 use cm_subcube::{Block, Kind, Parcel, Round};
@@ -51,52 +51,58 @@ impl Worker {
             mut gets,
         } = self;
         begin_all(&mut blocks, &acts);
+        let duty = Duty {
+            rt,
+            passage,
+            acts: &acts,
+            id,
+            k,
+        };
         for r in 0..rounds.len() {
-            exchange(
-                rt,
-                &acts,
-                &rounds[r],
-                r,
-                id,
-                k,
-                passage,
-                &mut blocks,
-                &mut sends,
-                &mut gets,
-            );
+            duty.exchange(&rounds[r], r, &mut blocks, &mut sends, &mut gets);
         }
         blocks
     }
 }
 
-/// A round of a worker's blocks, and what they do from there to the next.
-fn exchange<R: Wait>(
-    rt: &R,
-    acts: &[Act],
-    round: &Round,
-    r: usize,
+/// What a worker goes by in each round.
+#[derive(Drop)]
+struct Duty<'a, R> {
+    rt: &'a R,
+    passage: &'a Passage,
+    acts: &'a [Act],
     id: u16,
     k: u8,
-    passage: &Passage,
-    blocks: &mut Vec<Block>,
-    sends: &mut Vec<FromEnd<Parcel>>,
-    gets: &mut Vec<ToEnd<Parcel>>,
-)
-    requires ready { IsBeforeRound acts.now k r id round.now blocks.old.items sends.old.items gets.old.items }
-    ensures count { length blocks.new.items ≡ length blocks.old.items }
-    ensures value { (run : Run) (count : ℕ) → acts.now ≡ run.acts → k ≡ run.k
-        → slice_get (rounds_in run) r ≡ Some round.now
-        → IsWorkerBefore run r count id blocks.old.items sends.old.items gets.old.items
-        → IsWorkerBefore run (r + 1) count id blocks.new.items sends.new.items gets.new.items }
-    ensures passed { (gate : _) → passage.now ≡ Passage.Gated gate → (run : Run) (count : ℕ)
-        → IsWorkerBefore run r count id blocks.old.items sends.old.items gets.old.items
-        → HasSeenOf (λ v told bs. saw (gate.vtable, gate.value) v told bs) run count id r }
-{
-    let each = ends_each(k);
-    let place = place_of(blocks[0].chips(), round.kind);
-    show(blocks, r, id, passage);
-    send_all(rt, round, blocks, sends, each, place);
-    get_all(rt, acts, round, blocks, gets, each, place);
+}
+
+impl<'a, R: Wait> Duty<'a, R> {
+    /// A round of a worker's blocks, and what they do from there to the next.
+    fn exchange(
+        &self,
+        round: &Round,
+        r: usize,
+        blocks: &mut Vec<Block>,
+        sends: &mut Vec<FromEnd<Parcel>>,
+        gets: &mut Vec<ToEnd<Parcel>>,
+    )
+        requires ready { IsBeforeRound self.now.acts.now self.now.k r self.now.id round.now blocks.old.items
+            sends.old.items gets.old.items }
+        ensures count { length blocks.new.items ≡ length blocks.old.items }
+        ensures value { (run : Run) (count : ℕ) → self.now.acts.now ≡ run.acts → self.now.k ≡ run.k
+            → slice_get (rounds_in run) r ≡ Some round.now
+            → IsWorkerBefore run r count self.now.id blocks.old.items sends.old.items gets.old.items
+            → IsWorkerBefore run (r + 1) count self.now.id blocks.new.items sends.new.items gets.new.items }
+        ensures passed { (gate : _) → self.now.passage.now ≡ Passage.Gated gate → (run : Run) (count : ℕ)
+            → IsWorkerBefore run r count self.now.id blocks.old.items sends.old.items gets.old.items
+            → HasSeenOf (λ v told bs. saw (gate.vtable, gate.value) v told bs) run count self.now.id r }
+    {
+        let each = ends_each(self.k);
+        let place = place_of(blocks[0].chips(), round.kind);
+        let end = EndPlace { each, place };
+        show(blocks, r, self.id, self.passage);
+        send_all(self.rt, round, blocks, sends, end);
+        get_all(self.rt, self.acts, round, blocks, gets, end);
+    }
 }
 
 /// The place of a kind of round among the ends of a block of so many chips: the first two are for the grid, and the

@@ -1,5 +1,4 @@
-use Rattle.std.proofs.Common.{rules, ◌≡◌, ℕ, ◌<◌, ◌∙◌, refl, subst, sym, ap, arith, lit<}
-use Rattle.cm_subcube.specs.Rounds.{rounds_of}
+use Rattle.std.proofs.Common.{rules, ◌≡◌, ℕ, ◌<◌, ◌∙◌, refl, subst, sym, arith, lit<}
 use Rattle.cm_workers.specs.Dealing.{AreDealt}
 use Rattle.cm_resident.specs.declared.worker.Worker.{Worker}
 use Rattle.cm_resident.specs.Lanes.{Run}
@@ -14,12 +13,12 @@ pub worker_parts-requires : goal.worker_parts-requires
 worker_parts-requires g c = (
   lit< tt,
   (
-    c.requires.within,
+    c.requires.list.within,
     (
-      few_rounds g.row.N c.args.k c.args.acts.now c.dims-dims.ensures.sizes.dimension c.requires.within c.requires.long,
+      few_rounds g.row.N c.args.list.now.k c.args.list.now.acts.now c.requires.list.dimension c.requires.list.within c.requires.list.long,
       (
-        c.in-Ok.ensures.cycles,
-        in_time c.args.machine.now.machine.clock _ c.args.acts.now c.requires.clock c.in-Ok.ensures.cycles,
+        c.requires.list.cycles,
+        in_time c.args.machine.now.machine.clock _ c.args.list.now.acts.now c.requires.clock c.requires.list.cycles,
       ),
     ),
   ),
@@ -27,37 +26,50 @@ worker_parts-requires g c = (
 
 pub loop-w-init : goal.loop-w-init
 loop-w-init g c =
-    let run : Run = record { n = g.row.N; k = c.args.k; room = g.row.CAP; machine = c.args.machine.now.machine; acts = c.args.acts.now } in
+    let run : Run =
+    record {
+      n = g.row.N;
+      k = c.args.list.now.k;
+      room = g.row.CAP;
+      machine = c.args.machine.now.machine;
+      acts = c.args.list.now.acts.now;
+    } in
     record {
       room = search rules;
-      left = are_hands run c.args.workers c.in_ok-worker_parts.worker_parts.items c.in_ok-hands.hands.items
+      left = are_hands run c.args.list.now.workers c.in_ok-worker_parts.worker_parts.items c.in_ok-hands.hands.items
           c.in_ok-worker_parts.ensures.value
           (subst (λ (m : ℕ). AreDealt m c.in_ok-worker_parts.worker_parts.items c.in_ok-hands.hands.items) c.from.ensures
           c.in_ok-hands.ensures.value);
-      team_is = subst (λ (xs : _). AreAll (λ w worker. (worker.id ≡ w) × IsOfTeam run c.args.workers worker) 0 xs)
+      team_is = subst (λ (xs : _). AreAll (λ w worker. (worker.id ≡ w) × IsOfTeam run c.args.list.now.workers worker) 0 xs)
           (sym c.in_ok-team.ensures.items)
-          (none_yet (λ (w : ℕ) (worker : Worker). (worker.id ≡ w) × IsOfTeam run c.args.workers worker));
+          (none_yet (λ (w : ℕ) (worker : Worker). (worker.id ≡ w) × IsOfTeam run c.args.list.now.workers worker));
     }
 
 pub loop-w-preserved : goal.loop-w-preserved
 loop-w-preserved g c =
-    let run : Run = record { n = g.row.N; k = c.args.k; room = g.row.CAP; machine = c.args.machine.now.machine; acts = c.args.acts.now } in
+    let run : Run =
+    record {
+      n = g.row.N;
+      k = c.args.list.now.k;
+      room = g.row.CAP;
+      machine = c.args.machine.now.machine;
+      acts = c.args.list.now.acts.now;
+    } in
     let inv = c.loop-w.invariant in
     let w = c.loop-w.w in
-    let below : w < c.args.workers = search rules in
+    let below : w < c.args.list.now.workers = search rules in
     let acts_are = c.in_ok-own_acts.ensures.value in
-    let rounds_are = c.in_ok-own_rounds.ensures.value ∙ c.deref.ensures.value ∙ c.in_ok-rounds.ensures.value
-    ∙ ap (λ (d : ℕ). rounds_of d c.args.k c.args.acts.now) c.dims-dims.ensures.value in
-    let own : HasWorkerParts run c.args.workers w c.remove-own.result.items =
-    first_is (λ v hand. HasWorkerParts run c.args.workers v hand.items) w c.args.workers c.loop-w.hands.items
+    let rounds_are = c.in_ok-own_rounds.ensures.value ∙ c.requires.list.rounds in
+    let own : HasWorkerParts run c.args.list.now.workers w c.remove-own.result.items =
+    first_is (λ v hand. HasWorkerParts run c.args.list.now.workers v hand.items) w c.args.list.now.workers c.loop-w.hands.items
     c.remove-own.result inv.left below c.remove-own.ensures.value in
-    let one : IsOfTeam run c.args.workers c.in_ok-worker_of.field-0 =
-    c.in_ok-worker_of.ensures.worker run c.args.workers refl c.requires.within acts_are rounds_are below
-    (omega (arith, below, c.requires.few)) own in
+    let one : IsOfTeam run c.args.list.now.workers c.in_ok-worker_of.field-0 =
+    c.in_ok-worker_of.ensures.worker run c.args.list.now.workers refl c.requires.list.within acts_are rounds_are below
+    (omega (arith, below, c.requires.list.enough)) own in
     record {
       room = search rules;
-      left = rest_are (λ v hand. HasWorkerParts run c.args.workers v hand.items) w c.args.workers c.loop-w.hands.items
+      left = rest_are (λ v hand. HasWorkerParts run c.args.list.now.workers v hand.items) w c.args.list.now.workers c.loop-w.hands.items
           c.remove-own.new.self.items inv.left below c.remove-own.ensures.by_index.2;
-      team_is = one_more (λ (v : ℕ) (worker : Worker). (worker.id ≡ v) × IsOfTeam run c.args.workers worker) w
+      team_is = one_more (λ (v : ℕ) (worker : Worker). (worker.id ≡ v) × IsOfTeam run c.args.list.now.workers worker) w
           c.loop-w.team.items _ _ inv.team_is c.push_reserved.ensures.items (c.in_ok-worker_of.ensures.id, one);
     }

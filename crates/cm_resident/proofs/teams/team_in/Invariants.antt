@@ -6,9 +6,9 @@ use Rattle.cm_resident.proofs.teams.team_in.Given as goal
 
 abbrev pub invariant-loop-w : goal.invariant-loop-w
 invariant-loop-w g l =
-    let run : Run = record { n = g.row.N; k = l.k; room = g.row.CAP; machine = l.machine.machine; acts = l.acts } in
+    let run : Run = record { n = g.row.N; k = l.list.k; room = g.row.CAP; machine = l.machine.machine; acts = l.list.acts.now } in
     record {
-      room : l.workers ≤ vec_capacity l.team;
-      left : AreFrom (λ w hand. HasWorkerParts run l.workers w hand.items) l.w l.workers l.hands.items;
-      team_is : AreAll (λ w worker. (worker.id ≡ w) × IsOfTeam run l.workers worker) l.w l.team.items;
+      room : l.list.workers ≤ vec_capacity l.team;
+      left : AreFrom (λ w hand. HasWorkerParts run l.list.workers w hand.items) l.w l.list.workers l.hands.items;
+      team_is : AreAll (λ w worker. (worker.id ≡ w) × IsOfTeam run l.list.workers worker) l.w l.team.items;
     }

@@ -3,26 +3,26 @@ use Rattle.cm_resident.specs.declared.running.PendingWorker.{PendingWorker}
 use Rattle.cm_resident.specs.Lanes.{Run}
 use Rattle.cm_resident.specs.TeamSetups.{AreLinedUpForSome}
 use Rattle.cm_resident.proofs.Ending.{account_after, first_of, lined_up_id}
-use Rattle.cm_resident.proofs.resident.share_out.Goals as goal
+use Rattle.cm_resident.proofs.shared_list.SharedList.share_out.Goals as goal
 
 pub run_prepared-requires-after_bounds : goal.run_prepared-requires-after_bounds
 run_prepared-requires-after_bounds g c =
     let prepared = c.in_ok-prepared.prepared in let ensures = c.in_ok-prepared.ensures in
     let lined = ensures.team in
-    let count : length prepared.all.readies.items ≡ c.args.workers = lined.len ∙ lined.is.len in
-    let within : prepared.k ≤ g.row.N - g.row.N / 2 = omega (arith, ensures.k, c.requires.within) in
-    let some : 0 < length prepared.all.readies.items = omega (arith, count, c.requires.some) in
+    let count : length prepared.all.readies.items ≡ c.args.self.now.workers = lined.len ∙ lined.is.len in
+    let within : prepared.k ≤ g.row.N - g.row.N / 2 = omega (arith, ensures.k, c.requires.list.within) in
+    let some : 0 < length prepared.all.readies.items = omega (arith, count, c.requires.list.some) in
     let team : AreLinedUpForSome g.row.N prepared.k g.row.CAP c.args.machine.now.machine prepared.all.readies.items =
-    record { acts = c.args.acts.now; count = c.args.workers; of = lined } in
+    record { acts = c.args.self.now.acts.now; count = c.args.self.now.workers; of = lined } in
     search (rules, within, some, team)
 
 pub returns-clause-ok : goal.returns-clause-ok
 returns-clause-ok g c =
-    c.in_ok-run_prepared.ensures.ok c.args.acts.now c.args.workers c.in_ok-prepared.ensures.team
+    c.in_ok-run_prepared.ensures.ok c.args.self.now.acts.now c.args.self.now.workers c.in_ok-prepared.ensures.team
 
 pub returns-clause-account : goal.returns-clause-account
 returns-clause-account g c =
-    account_after g.row.N g.row.CAP c.args.machine.now.machine c.run_prepared.new.machine.machine c.args.acts.now
+    account_after g.row.N g.row.CAP c.args.machine.now.machine c.run_prepared.new.machine.machine c.args.self.now.acts.now
     (returns-clause-ok g c)
 
 pub returns-clause-admitted : goal.returns-clause-admitted
@@ -31,10 +31,10 @@ returns-clause-admitted g c gate is w below =
     let readies = c.in_ok-prepared.prepared.all.readies.items in
     let k = c.in_ok-prepared.prepared.k in
     let run : Run =
-    record { n = g.row.N; k = k; room = g.row.CAP; machine = c.args.machine.now.machine; acts = c.args.acts.now } in
-    let count : length readies ≡ c.args.workers = lined.len ∙ lined.is.len in
+    record { n = g.row.N; k = k; room = g.row.CAP; machine = c.args.machine.now.machine; acts = c.args.self.now.acts.now } in
+    let count : length readies ≡ c.args.self.now.workers = lined.len ∙ lined.is.len in
     let there : w < length readies = omega (arith, count, below) in
     let d : PendingWorker = first_of readies (omega (arith, there)) in
     subst (λ (v : ℕ). (goal.Gate-dyn g (gate.vtable, gate.value)).admits gate.value v)
-    (lined_up_id run c.args.workers w readies d lined below)
+    (lined_up_id run c.args.self.now.workers w readies d lined below)
     (c.in_ok-run_prepared.ensures.admitted gate is w d there)

@@ -6,7 +6,7 @@ use Rattle.cm_resident.specs.Laws.{LeaveTheirMachine}
 use Rattle.cm_resident.specs.declared.running.PendingWorker.{PendingWorker}
 use Rattle.cm_resident.specs.Teams.{IsOfSome}
 use Rattle.cm_resident.proofs.Ending.{lined_up_leave, lined_up_of_some}
-use Rattle.cm_resident.proofs.resident.run_prepared.Goals as goal
+use Rattle.cm_resident.proofs.shared_list.run_prepared.Goals as goal
 
 pub work_all-requires-clause-team : goal.work_all-requires-clause-team
 work_all-requires-clause-team g c =

@@ -1,7 +1,7 @@
 use Rattle.std.proofs.Common.{◌≡◌, ◌*◌, ◌%◌, ◌^◌, ℕ, subst, sym, arith, vec_capacity}
 use Rattle.std.proofs.lemmas.Nat.{one_shl}
 use Rattle.cm_resident.specs.Gathering.{HaveRoom}
-use Rattle.cm_resident.proofs.resident.prepare.Goals as goal
+use Rattle.cm_resident.proofs.shared_list.SharedList.prepare.Goals as goal
 
 pub returns-clause-team : goal.returns-clause-team
 returns-clause-team g c =
@@ -20,6 +20,6 @@ returns-clause-room g c =
 
 pub returns-clause-place_room : goal.returns-clause-place_room
 returns-clause-place_room g c =
-    let total : 1 * 2 ^ c.args.k % 2 ^ 64 ≡ 2 ^ c.args.k =
-    one_shl c.args.k 64 (omega (arith, c.requires.within, c.clock-clock.ensures.sizes.dimension)) in
+    let total : 1 * 2 ^ c.args.self.now.k % 2 ^ 64 ≡ 2 ^ c.args.self.now.k =
+    one_shl c.args.self.now.k 64 (omega (arith, c.requires.list.within, c.clock-clock.ensures.sizes.dimension)) in
     omega (arith, total, c.in_ok-places.ensures.room)
