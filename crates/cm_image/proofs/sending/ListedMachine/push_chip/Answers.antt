@@ -1,13 +1,10 @@
-use Rattle.std.proofs.Common.{◌≡◌, ◌<◌, ◌≤◌, ◌+◌, ◌*◌, ◌++◌, ℕ, List, length, get_or, sym, ap, ◌∙◌, subst, arith}
+use Rattle.std.proofs.Common.{◌≡◌, ◌≤◌, ◌+◌, ◌*◌, ℕ, List, length, get_or, sym, ap, ◌∙◌, subst, arith}
 use Rattle.std.proofs.Common.{length-drop}
-use Rattle.std.specs.Prelude.{OnOk}
 use Rattle.std.specs.List.{flat_map}
 use Rattle.std.proofs.lemmas.List.{take_rest, get_or-drop}
-use Rattle.cm_model.specs.declared.message.Message.{Message}
 use Rattle.cm_model.specs.Processor.{Processor}
 use Rattle.cm_model.specs.Array.{chip_at, nth_or_nil}
-use Rattle.cm_image_format.specs.Image.{chip_text}
-use Rattle.cm_image_format.specs.Whole.{image_of_chip, memory_plane_of}
+use Rattle.cm_image_format.specs.Whole.{memory_plane_of}
 use Rattle.cm_image.specs.declared.sending.Near.{Near}
 use Rattle.cm_image.specs.Planes.{planes_below, listed_below, listing_at}
 use Rattle.cm_image.specs.Sending.{StandsNear}

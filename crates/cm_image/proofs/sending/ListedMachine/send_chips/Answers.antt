@@ -1,4 +1,4 @@
-use Rattle.std.proofs.Common.{◌+◌, ◌^◌, ◌∙◌, arith}
+use Rattle.std.proofs.Common.{◌+◌, ◌^◌, arith}
 use Rattle.cm_image.proofs.Leaving.{chips_start, tile_waits, goes_on, goes_cut, part_of_chips}
 use Rattle.cm_image.proofs.sending.ListedMachine.send_chips.Goals as goal
 

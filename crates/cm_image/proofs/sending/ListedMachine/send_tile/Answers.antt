@@ -1,11 +1,6 @@
-use Rattle.std.proofs.Common.{◌≡◌, ◌<◌, ◌≤◌, ◌+◌, ◌++◌, ◌^◌, ℕ, List, length, get_or, refl, sym, ap, ◌∙◌, subst}
+use Rattle.std.proofs.Common.{◌≡◌, ◌<◌, ◌+◌, ◌++◌, ◌^◌, ℕ, refl, subst}
 use Rattle.std.proofs.Common.{rules, arith}
-use Rattle.std.specs.List.{flat_map}
-use Rattle.cm_model.specs.Processor.{Processor}
-use Rattle.cm_model.specs.Array.{chip_at, nth_or_nil}
-use Rattle.cm_image_format.specs.Image.{chip_text}
-use Rattle.cm_image_format.specs.Whole.{image_of_chip}
-use Rattle.cm_image.specs.Planes.{chips_text, planes_below, listed_below, listing_at}
+use Rattle.cm_image.specs.Planes.{chips_text}
 use Rattle.cm_image.specs.Sending.{GoesOut}
 use Rattle.cm_image.proofs.Leaving.{chips_start, chip_waits, goes_on, goes_cut, part_of_chips, stops}
 use Rattle.cm_image.proofs.sending.ListedMachine.send_tile.Goals as goal
