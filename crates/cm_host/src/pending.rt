@@ -56,6 +56,7 @@ pub fn make_ready<R: Files + AllocGlobal>(
     }
     match fs::canonicalize(rt, path) {
         Ok(path) => beside(rt, alloc, path.as_str(), Some(permissions)),
+        Err(error) if error.kind() == ErrorKind::OutOfMemory => Err(PutFault::Memory),
         Err(_) => Err(PutFault::Write),
     }
 }
