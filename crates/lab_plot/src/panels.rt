@@ -86,6 +86,13 @@ impl Panel {
     }
 }
 
+/// What a table has: its first line, and its points.
+#[derive(Clone, Copy)]
+pub(crate) struct Table<'a> {
+    pub(crate) header: &'a [u8],
+    pub(crate) points: &'a [Point],
+}
+
 /// A panel at this height of a picture.
 #[tactic(auto, unfolding(crate::specs::Panels::panel_text))]
 pub(crate) fn push_panel(
@@ -93,19 +100,18 @@ pub(crate) fn push_panel(
     top: u32,
     across: &[u8],
     frame: Frame,
-    header: &[u8],
-    points: &[Point],
+    table: &Table<'_>,
     panel: Panel,
 ) -> Result<(), NoMemory>
     requires frame { CanBeDrawn frame }
     requires lines { columns_shown panel ≤ 9 }
     ensures ok { OnOk result (text.new.items
-        ≡ text.old.items ++ panel_text top across.now frame header.now points.now panel) }
+        ≡ text.old.items ++ panel_text top across.now frame table.now.header.now table.now.points.now panel) }
 {
     push_place(text, u128::from(top))?;
     push_ticks(text, frame)?;
-    push_sides(text, across, panel.label(header))?;
-    push_curves(text, frame, header, points, panel)?;
+    push_sides(text, across, panel.label(table.header))?;
+    push_curves(text, frame, table.header, table.points, panel)?;
     push_words(text, b"</g>\n")
 }
 

@@ -14,7 +14,7 @@ use crate::axes::{axis_of, highest, leftmost, rightmost};
 use crate::bins::bins;
 use crate::cells::{has_words, width};
 use crate::fault::PlotFault;
-use crate::panels::{Frame, Panel, push_panel};
+use crate::panels::{Frame, Panel, Table, push_panel};
 use crate::points::{Kind, Point, kind_of, read_points};
 use cm_bits::{Lines, NoMemory};
 use lab_digits::{push_piece, push_words};
@@ -136,23 +136,27 @@ fn drawing(
     ensures value { IfOk result (λ text. text.items ≡ table_drawing kind header.now start points.now) }
 {
     let mut text = Vec::new(alloc);
+    let table = Table { header, points };
     push_head(&mut text, title_of(kind), 600 + 3300 * panel_count(kind))?;
     match kind {
         Kind::Cycles => {
-            push_shown(&mut text, kind, header, start, points, Panel::Moved, 0)?;
-            push_shown(&mut text, kind, header, start, points, Panel::Held, 1)?;
+            push_shown(&mut text, kind, &table, start, Panel::Moved, 0)?;
+            push_shown(&mut text, kind, &table, start, Panel::Held, 1)?;
         }
         Kind::Messages => {
-            let header = b"petit cycles,messages";
-            push_shown(&mut text, kind, header, start, points, Panel::Bins, 0)?;
+            let bins = Table {
+                header: b"petit cycles,messages",
+                points,
+            };
+            push_shown(&mut text, kind, &bins, start, Panel::Bins, 0)?;
         }
         Kind::Loads => {
-            push_shown(&mut text, kind, header, start, points, Panel::Latency, 0)?;
-            push_shown(&mut text, kind, header, start, points, Panel::Throughput, 1)?;
+            push_shown(&mut text, kind, &table, start, Panel::Latency, 0)?;
+            push_shown(&mut text, kind, &table, start, Panel::Throughput, 1)?;
         }
         Kind::Compared => {
             let panel = Panel::Columns(width(header).saturating_sub(1).min(9));
-            push_shown(&mut text, kind, header, start, points, panel, 0)?;
+            push_shown(&mut text, kind, &table, start, panel, 0)?;
         }
     }
     push_words(&mut text, b"</svg>\n")?;
@@ -217,27 +221,18 @@ fn push_title(text: &mut Vec<u8>, title: &[u8]) -> Result<(), NoMemory>
 fn push_shown(
     text: &mut Vec<u8>,
     kind: Kind,
-    header: &[u8],
+    table: &Table<'_>,
     start: u64,
-    points: &[Point],
     panel: Panel,
     i: u32,
 ) -> Result<(), NoMemory>
     requires few { i < 2 }
     requires lines { columns_shown panel ≤ 9 }
     ensures ok { OnOk result (text.new.items
-        ≡ text.old.items ++ panel_shown kind header.now start points.now panel i) }
+        ≡ text.old.items ++ panel_shown kind table.now.header.now start table.now.points.now panel i) }
 {
-    let frame = frame_of(kind, start, points, panel);
-    push_panel(
-        text,
-        600 + 3300 * i,
-        across_of(kind),
-        frame,
-        header,
-        points,
-        panel,
-    )
+    let frame = frame_of(kind, start, table.points, panel);
+    push_panel(text, 600 + 3300 * i, across_of(kind), frame, table, panel)
 }
 
 /// The axes of a panel: all panels of a picture have one to the right.
