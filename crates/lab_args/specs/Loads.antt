@@ -16,6 +16,8 @@ with_option trial option word =
     then operand_below (2 ^ 16) operand.Rule word >>= (λ rule. Ok (record trial { rule = rule }))
     else (if bytes_eq option (codes "--pattern")
     then pattern_named word >>= (λ pattern. Ok (record trial { pattern = pattern }))
+    else (if bytes_eq option (codes "--background")
+    then operand_below (2 ^ 16) operand.Background word >>= (λ share. Ok (record trial { background = share }))
     else (if bytes_eq option (codes "--until")
     then operand_below (2 ^ 32) operand.Until word >>= (λ until. Ok (record trial { until = until }))
     else (if bytes_eq option (codes "--skip")
@@ -24,7 +26,7 @@ with_option trial option word =
     then operand_below (2 ^ 16) operand.Seeds word >>= (λ seeds. Ok (record trial { seeds = seeds }))
     else (if bytes_eq option (codes "--seed")
     then operand_below (2 ^ 64) operand.Seed word >>= (λ seed. Ok (record trial { seed = seed }))
-    else Err Words)))))
+    else Err Words))))))
 
 -- the same, or so many wires that are to be drawn
 abbrev pub with_choice : LoadsAsked → Text → Text → Result LoadsAsked Refusal
@@ -59,6 +61,7 @@ load n room rates' cycles options =
         room = room';
         rule = 0;
         pattern = pattern.Uniform;
+        background = 0;
         until = cycles';
         seed = 1;
         cycles = cycles';

@@ -98,6 +98,7 @@ pub fn lines_ask_for()
             room = 7;
             rule = 0;
             pattern = pattern.Uniform;
+            background = 0;
             until = 400;
             seed = 1;
             cycles = 400;
@@ -110,7 +111,7 @@ pub fn lines_ask_for()
         })) }
     ensures load_with_options { request_of
         (codes "cm1lab" ∷ codes "load" ∷ codes "8" ∷ codes "7" ∷ codes "2" ∷ codes "400" ∷ codes "--until"
-        ∷ codes "10" ∷ codes "--pattern" ∷ codes "hotspot" ∷ codes "--cut" ∷ codes "5" ∷ codes "0" ∷ codes "--seed"
+        ∷ codes "10" ∷ codes "--pattern" ∷ codes "hotspot" ∷ codes "--background" ∷ codes "10" ∷ codes "--cut" ∷ codes "5" ∷ codes "0" ∷ codes "--seed"
         ∷ codes "9" ∷ codes "--cut-random" ∷ codes "6" ∷ codes "--skip" ∷ codes "50" ∷ codes "--rule" ∷ codes "1"
         ∷ codes "--seeds" ∷ codes "5" ∷ [])
         ≡ Ok (Load (record {
@@ -119,6 +120,7 @@ pub fn lines_ask_for()
             room = 7;
             rule = 1;
             pattern = pattern.HotSpot;
+            background = 10;
             until = 10;
             seed = 9;
             cycles = 400;
@@ -208,6 +210,10 @@ pub fn lines_are_refused()
         (codes "cm1lab" ∷ codes "load" ∷ codes "4" ∷ codes "7" ∷ codes "1" ∷ codes "10" ∷ codes "--pattern"
         ∷ codes "spots" ∷ [])
         ≡ Err (Wanted operand.Pattern (codes "spots")) }
+    ensures background { request_of
+        (codes "cm1lab" ∷ codes "load" ∷ codes "4" ∷ codes "7" ∷ codes "1" ∷ codes "10" ∷ codes "--background"
+        ∷ codes "x" ∷ [])
+        ≡ Err (Wanted operand.Background (codes "x")) }
     ensures option_alone { request_of
         (codes "cm1lab" ∷ codes "load" ∷ codes "4" ∷ codes "7" ∷ codes "1" ∷ codes "10" ∷ codes "--seed" ∷ [])
         ≡ Err Words }

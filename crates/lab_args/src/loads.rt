@@ -47,6 +47,7 @@ pub(crate) fn read_loads(
         room,
         rule: 0,
         pattern: Pattern::Uniform,
+        background: 0,
         until: cycles,
         seed: 1,
         cycles,
@@ -127,6 +128,13 @@ fn with_option(alloc: Global, trial: Trial, option: &str, word: &str) -> Result<
         "--pattern" => {
             let pattern = pattern(alloc, word)?;
             Ok(Trial { pattern, ..trial })
+        }
+        "--background" => {
+            let background = number(alloc, Operand::Background, word)?;
+            Ok(Trial {
+                background,
+                ..trial
+            })
         }
         "--until" => {
             let until = cycle_count(alloc, Operand::Until, word)?;

@@ -9,7 +9,7 @@ use Rattle.lab_load.specs.declared.offers.Load.{Load}
 use Rattle.lab_load.specs.declared.figures.Figures.{Figures}
 use Rattle.lab_load.specs.declared.trials.Trial.{Trial}
 use Rattle.lab_load.specs.declared.trials.LoadFault.{LoadFault}
-use Rattle.lab_load.specs.declared.trials.LoadFault.TheVariants.{Dimension, Room, Wire, Rate, Cycles, Skip, Seeds, Rule}
+use Rattle.lab_load.specs.declared.trials.LoadFault.TheVariants.{Dimension, Room, Wire, Rate, Cycles, Skip, Seeds, Rule, Background}
 use Rattle.lab_load.specs.Loaded.{loaded_for}
 use Rattle.lab_load.specs.Figures.{AreFigures}
 
@@ -33,10 +33,11 @@ cycles_fault trial =
     if trial.cycles == 0 || nat_lt 1000000 trial.cycles then Some (Cycles trial.cycles)
     else if nat_le trial.cycles trial.skip then Some (Skip trial.skip trial.cycles)
     else if trial.seeds == 0 || nat_lt 1000 trial.seeds then Some (Seeds trial.seeds)
-    else if nat_lt 1 trial.rule then Some (Rule trial.rule) else None
+    else if nat_lt 1 trial.rule then Some (Rule trial.rule)
+    else if nat_lt 100 trial.background then Some (Background trial.background) else None
 
 -- the first fault: of the dimension, the room, the ends of cut wires and the rates in their order, the petit cycles,
--- those that are left out, the seeds, the rule
+-- those that are left out, the seeds, the rule, the background
 abbrev pub trial_fault : Trial → List WireEnd → List ℕ → Option LoadFault
 trial_fault trial cuts rates =
     if nat_lt 12 trial.n then Some (Dimension trial.n)
@@ -49,6 +50,7 @@ abbrev pub load_of : Trial → ℕ → Load
 load_of trial rate = record {
   dims = trial.n;
   pattern = trial.pattern;
+  background = trial.background;
   rate = rate;
   until = trial.until;
   seed = trial.seed;

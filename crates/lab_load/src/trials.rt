@@ -29,6 +29,8 @@ pub struct Trial {
     /// The number of the rule by which routers choose: 0 or 1.
     pub rule: u16,
     pub pattern: Pattern,
+    /// Of a hundred messages so many go to a place that is drawn, whatever the pattern.
+    pub background: u16,
     /// In so many first petit cycles something is offered.
     pub until: u32,
     pub seed: u64,
@@ -61,6 +63,8 @@ pub enum LoadFault {
     Seeds(u16),
     #[error("the rules are 0 and 1, not {0}")]
     Rule(u16),
+    #[error("of a hundred messages 0 to 100 go to a place that is drawn, not {0}")]
+    Background(u16),
     #[error("out of memory")]
     Memory,
 }
@@ -107,6 +111,9 @@ impl Trial {
         }
         if self.rule > 1 {
             return Some(LoadFault::Rule(self.rule));
+        }
+        if self.background > 100 {
+            return Some(LoadFault::Background(self.background));
         }
         None
     }
@@ -187,6 +194,7 @@ impl Trial {
         let load = Load {
             dims: self.n as u8,
             pattern: self.pattern,
+            background: self.background,
             rate,
             until: self.until,
             seed: self.seed,

@@ -55,6 +55,7 @@ static TRIAL: Trial = Trial {
     room: 15,
     rule: 0,
     pattern: Pattern::HotSpot,
+    background: 0,
     until: 40,
     seed: 9,
     cycles: 40,
