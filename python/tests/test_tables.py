@@ -67,7 +67,11 @@ def test_rates_have_two_digits(rates, told):
     assert load_curve(2, 2, rates, 5).csv.splitlines()[1].startswith(told + ",")
 
 
-@pytest.mark.parametrize("given", [{"rule": 1}, {"pattern": "reversal"}, {"until": 20}, {"seed": 2}])
+SAID = [{"rule": 1}, {"pattern": "reversal"}, {"pattern": "hotspot", "background": 30}, {"until": 20},
+        {"table": "crossings"}, {"table": "dimensions"}, {"seed": 2}]
+
+
+@pytest.mark.parametrize("given", SAID)
 def test_what_is_said_of_a_load_is_told(given):
     words = [word for name, it in given.items() for word in (f"--{name}", it)]
     told = command("cm1lab", "load", 6, 2, "3.00", 60, *words).decode()

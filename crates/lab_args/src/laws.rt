@@ -7,6 +7,7 @@ ghost use Rattle.lab_figures.specs.declared.palettes.Palette.TheVariants as pale
 ghost use Rattle.lab_figures.specs.declared.picture.Form.TheVariants as form;
 ghost use Rattle.lab_study.specs.declared.studies.Table.TheVariants as table;
 ghost use Rattle.lab_load.specs.declared.offers.Pattern.TheVariants as pattern;
+ghost use Rattle.lab_load.specs.declared.trials.LoadTable.TheVariants as load_table;
 ghost use Rattle.lab_data.specs.declared.lab.Task.TheVariants as task;
 ghost use Rattle.lab_data.specs.declared.order.Order.TheVariants as order;
 ghost use Rattle.lab_data.specs.declared.pictures.Shown.TheVariants as shown;
@@ -98,11 +99,13 @@ pub fn lines_ask_for()
             room = 7;
             rule = 0;
             pattern = pattern.Uniform;
+            background = 0;
             until = 400;
             seed = 1;
             cycles = 400;
             skip = 0;
             seeds = 1;
+            table = load_table.Plain;
           };
           cuts = [];
           drawn = 0;
@@ -110,20 +113,23 @@ pub fn lines_ask_for()
         })) }
     ensures load_with_options { request_of
         (codes "cm1lab" ∷ codes "load" ∷ codes "8" ∷ codes "7" ∷ codes "2" ∷ codes "400" ∷ codes "--until"
-        ∷ codes "10" ∷ codes "--pattern" ∷ codes "hotspot" ∷ codes "--cut" ∷ codes "5" ∷ codes "0" ∷ codes "--seed"
-        ∷ codes "9" ∷ codes "--cut-random" ∷ codes "6" ∷ codes "--skip" ∷ codes "50" ∷ codes "--rule" ∷ codes "1"
-        ∷ codes "--seeds" ∷ codes "5" ∷ [])
+        ∷ codes "10" ∷ codes "--pattern" ∷ codes "hotspot" ∷ codes "--background" ∷ codes "10" ∷ codes "--cut"
+        ∷ codes "5" ∷ codes "0" ∷ codes "--seed" ∷ codes "9" ∷ codes "--cut-random" ∷ codes "6" ∷ codes "--skip"
+        ∷ codes "50" ∷ codes "--rule" ∷ codes "1" ∷ codes "--seeds" ∷ codes "5" ∷ codes "--table"
+        ∷ codes "dimensions" ∷ [])
         ≡ Ok (Load (record {
           trial = record {
             n = 8;
             room = 7;
             rule = 1;
             pattern = pattern.HotSpot;
+            background = 10;
             until = 10;
             seed = 9;
             cycles = 400;
             skip = 50;
             seeds = 5;
+            table = load_table.Dimensions;
           };
           cuts = record { chip = 5; dim = 0 } ∷ [];
           drawn = 6;
@@ -208,6 +214,14 @@ pub fn lines_are_refused()
         (codes "cm1lab" ∷ codes "load" ∷ codes "4" ∷ codes "7" ∷ codes "1" ∷ codes "10" ∷ codes "--pattern"
         ∷ codes "spots" ∷ [])
         ≡ Err (Wanted operand.Pattern (codes "spots")) }
+    ensures background { request_of
+        (codes "cm1lab" ∷ codes "load" ∷ codes "4" ∷ codes "7" ∷ codes "1" ∷ codes "10" ∷ codes "--background"
+        ∷ codes "x" ∷ [])
+        ≡ Err (Wanted operand.Background (codes "x")) }
+    ensures table { request_of
+        (codes "cm1lab" ∷ codes "load" ∷ codes "4" ∷ codes "7" ∷ codes "1" ∷ codes "10" ∷ codes "--table"
+        ∷ codes "plain" ∷ [])
+        ≡ Err (Wanted operand.Table (codes "plain")) }
     ensures option_alone { request_of
         (codes "cm1lab" ∷ codes "load" ∷ codes "4" ∷ codes "7" ∷ codes "1" ∷ codes "10" ∷ codes "--seed" ∷ [])
         ≡ Err Words }

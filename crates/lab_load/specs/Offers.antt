@@ -1,5 +1,5 @@
 -- What is offered to the routers of a machine: who offers a message in which petit cycle, and to whom. Ours.
-use Rattle.std.specs.Prelude.{ℕ, ◌+◌, ◌-◌, ◌*◌, ◌/◌, ◌%◌, ◌^◌, ◌&&◌, Bool, nat_lt}
+use Rattle.std.specs.Prelude.{ℕ, ◌+◌, ◌-◌, ◌*◌, ◌/◌, ◌%◌, ◌^◌, ◌&&◌, Bool, nat_lt, if◌then◌else◌}
 use Rattle.std.specs.Int.{w32, reverse_bits}
 use Rattle.lab_load.specs.declared.offers.Pattern.{Pattern}
 use Rattle.lab_load.specs.declared.offers.Pattern.TheVariants.{Uniform, Transpose, Reversal, HotSpot}
@@ -18,6 +18,18 @@ draw_number t place = 2 * (t * 65536 + place)
 unfoldable pub offers : Load → ℕ → ℕ → Bool
 offers load t place = nat_lt t load.until && nat_lt (draw_of load.seed (draw_number t place) % 1600) load.rate
 
+-- the number of the draw by which an offer of petit cycle t goes by the pattern or to a place that is drawn
+abbrev pub background_number : ℕ → ℕ → ℕ
+background_number t place = 2 ^ 61 + (t * 65536 + place)
+
+-- of a hundred messages so many go to a place that is drawn, whatever the pattern: this one is of these
+abbrev pub is_background : Load → ℕ → ℕ → Bool
+is_background load t place = nat_lt (draw_of load.seed (background_number t place) % 100) load.background
+
+-- the pattern by which a message goes that this place offers in petit cycle t
+abbrev pub pattern_for : Load → ℕ → ℕ → Pattern
+pattern_for load t place = if is_background load t place then Uniform else load.pattern
+
 -- the place that a message of this place goes to, where this was drawn for it: of a number of n + 4 bits
 abbrev pub aimed : Pattern → ℕ → ℕ → ℕ → ℕ
 aimed Uniform n drawn place = drawn
@@ -31,4 +43,4 @@ aimed HotSpot n drawn place = place % 16
 -- the place that a message goes to which this place offers in petit cycle t
 unfoldable pub target_of : Load → ℕ → ℕ → ℕ
 target_of load t place =
-    aimed load.pattern load.dims (draw_of load.seed (draw_number t place + 1)) place % places load.dims
+    aimed (pattern_for load t place) load.dims (draw_of load.seed (draw_number t place + 1)) place % places load.dims

@@ -3,7 +3,7 @@
 ghost use Rattle.std.specs.Prelude.{◌≡◌, ◌+◌, ◌-◌, ◌*◌, ◌/◌, ◌%◌, ◌<◌, ◌≤◌, ◌^◌};
 ghost use Rattle.std.specs.Int.{w32, reverse_bits};
 ghost use Rattle.lab_fresh.specs.Draws.{draw_of};
-ghost use Rattle.lab_load.specs.Offers.{places, draw_number, offers, aimed, target_of};
+ghost use Rattle.lab_load.specs.Offers.{places, draw_number, offers, background_number, pattern_for, aimed, target_of};
 
 use lab_fresh::draw;
 
@@ -29,6 +29,8 @@ pub struct Load {
     /// Of how many dimensions its cube is.
     pub dims: u8,
     pub pattern: Pattern,
+    /// Of a hundred messages so many go to a place that is drawn, whatever the pattern.
+    pub background: u16,
     /// Hundredths of a message that the processors of a chip offer in a petit cycle: at 1600 each offers one.
     pub rate: u16,
     /// In so many first petit cycles something is offered, and in none behind them.
@@ -69,14 +71,26 @@ impl Load {
     fn aimed(&self, t: u32, place: u32) -> u64
         requires dimension { self.now.dims ≤ 12 }
         requires place { place < 65536 }
-        ensures value { result ≡ aimed self.now.pattern self.now.dims
+        ensures value { result ≡ aimed (pattern_for self.now t place) self.now.dims
             (draw_of self.now.seed (draw_number t place + 1)) place }
     {
-        match self.pattern {
+        match self.pattern_for(t, place) {
             Pattern::Uniform => draw(self.seed, draw_number(t, place) + 1),
             Pattern::Transpose => u64::from(transposed(self.dims, place)),
             Pattern::Reversal => u64::from(reversed(self.dims, place)),
             Pattern::HotSpot => u64::from(place % 16),
+        }
+    }
+
+    /// The pattern by which a message goes that this place offers in petit cycle t.
+    fn pattern_for(&self, t: u32, place: u32) -> Pattern
+        requires place { place < 65536 }
+        ensures value { result ≡ pattern_for self.now t place }
+    {
+        if draw(self.seed, background_number(t, place)) % 100 < u64::from(self.background) {
+            Pattern::Uniform
+        } else {
+            self.pattern
         }
     }
 }
@@ -88,6 +102,15 @@ fn draw_number(t: u32, place: u32) -> u64
     ensures early { result < 2 ^ 62 }
 {
     2 * (u64::from(t) * 65536 + u64::from(place))
+}
+
+/// The number of the draw by which an offer of petit cycle t goes by the pattern or to a place that is drawn.
+fn background_number(t: u32, place: u32) -> u64
+    requires place { place < 65536 }
+    ensures value { result ≡ background_number t place }
+    ensures early { result < 2 ^ 62 }
+{
+    (1 << 61) + (u64::from(t) * 65536 + u64::from(place))
 }
 
 /// The two halves of a place's number change places.

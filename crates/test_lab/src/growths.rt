@@ -9,7 +9,7 @@ use lab_data::{
 };
 use lab_fresh::{FreshFault, WireEnd, cut_wires, fresh};
 use lab_front::{FrontFault, ImageFault, SessionFault, front_image};
-use lab_load::{Figures, LoadFault, Pattern, Spreads, Trial, spread_table, table};
+use lab_load::{Figures, LoadFault, LoadTable, Pattern, Spreads, Trial, spread_table, table};
 use lab_source::{AsmKind, SourceKind, expand};
 use std::alloc::Global;
 use test_generators::{Call, first_not_so};
@@ -55,11 +55,13 @@ static TRIAL: Trial = Trial {
     room: 15,
     rule: 0,
     pattern: Pattern::HotSpot,
+    background: 0,
     until: 40,
     seed: 9,
     cycles: 40,
     skip: 0,
     seeds: 3,
+    table: LoadTable::Plain,
 };
 
 static LOAD: &str =
