@@ -4,3 +4,5 @@ mod OneChip
 mod Programs
 mod Weaving
 mod PlainRouting
+mod Hearing
+mod Listing
