@@ -1,9 +1,9 @@
 """A small library that takes the place of calls of the C library in a program (LD_PRELOAD), and what a program does over it.
 
 By variables of the environment: the growth of memory REFUSED and the start of a thread UNSTARTED are refused, both counted from
-1; nothing can be renamed where UNRENAMED stands; each look at the clock is TICK milliseconds after the one before. The file
-COUNTED has five numbers of eight bytes (`Asked`): how many growths were asked for, how many threads, how many of each when a
-growth was refused, and how often bytes were asked for behind the end of a file.
+1; nothing can be renamed where UNRENAMED stands, and no open file gets other permissions where UNCHMODED does; each look at the
+clock is TICK milliseconds after the one before. The file COUNTED has five numbers of eight bytes (`Asked`): how many growths were
+asked for, how many threads, how many of each when a growth was refused, and how often bytes were asked for behind the end of a file.
 """
 import os, pathlib, shutil, struct, subprocess, sys
 from typing import NamedTuple
@@ -16,6 +16,7 @@ SOURCE = r"""
 #include <pthread.h>
 #include <stdlib.h>
 #include <sys/mman.h>
+#include <sys/stat.h>
 #include <time.h>
 #include <unistd.h>
 
@@ -63,6 +64,12 @@ int rename(const char *from, const char *to) {
     int (*give)(const char *, const char *) = dlsym(RTLD_NEXT, "rename");
     if (!getenv("UNRENAMED")) return give(from, to);
     errno = EIO;
+    return -1;
+}
+int fchmod(int file, mode_t mode) {
+    int (*give)(int, mode_t) = dlsym(RTLD_NEXT, "fchmod");
+    if (!getenv("UNCHMODED")) return give(file, mode);
+    errno = EPERM;
     return -1;
 }
 int clock_gettime(clockid_t clock, struct timespec *at) {
