@@ -67,7 +67,8 @@ def test_rates_have_two_digits(rates, told):
     assert load_curve(2, 2, rates, 5).csv.splitlines()[1].startswith(told + ",")
 
 
-SAID = [{"rule": 1}, {"pattern": "reversal"}, {"pattern": "hotspot", "background": 30}, {"until": 20}, {"seed": 2}]
+SAID = [{"rule": 1}, {"pattern": "reversal"}, {"pattern": "hotspot", "background": 30}, {"until": 20},
+        {"table": "crossings"}, {"table": "dimensions"}, {"seed": 2}]
 
 
 @pytest.mark.parametrize("given", SAID)

@@ -2,9 +2,12 @@
 
 use crate::fault::Fault;
 use crate::progress::seconds_since;
+use cm_bits::NoMemory;
 use lab_args::Loads;
 use lab_fresh::{FreshFault, WireEnd, cut_wires};
-use lab_load::{LoadFault, Spreads, Trial, spread_table, table};
+use lab_load::{
+    Figures, LoadFault, LoadTable, Spreads, Trial, crossing_table, dimension_table, spread_table, table,
+};
 use std::alloc::Global;
 use std::rt::Clock;
 use std::time::Instant;
@@ -46,9 +49,18 @@ fn measure_each<R: Eprint + Clock>(
         }
         tell_progress(rt, began, *rate, measured.len(), loads.rates.len());
     }
-    match table(alloc, &measured) {
+    match table_of(alloc, &loads.trial, &measured) {
         Ok(text) => Ok(text),
         Err(_) => Err(Fault::Memory),
+    }
+}
+
+/// The table that is asked for.
+fn table_of(alloc: Global, trial: &Trial, loads: &[Figures]) -> Result<Vec<u8>, NoMemory> {
+    match trial.table {
+        LoadTable::Plain => table(alloc, loads),
+        LoadTable::Crossings => crossing_table(alloc, loads),
+        LoadTable::Dimensions => dimension_table(alloc, trial.n, loads),
     }
 }
 

@@ -2,9 +2,10 @@
 use Rattle.std.specs.Prelude.{◌^◌, if◌then◌else◌, Result, Ok, Err, List, [], ◌∷◌, ◌++◌, codes, bytes_eq}
 use Rattle.lab_load.specs.declared.trials.Trial.{Trial}
 use Rattle.lab_load.specs.declared.offers.Pattern.TheVariants as pattern
+use Rattle.lab_load.specs.declared.trials.LoadTable.TheVariants as load_table
 use Rattle.lab_args.specs.declared.operands.Operand.TheVariants as operand
 use Rattle.lab_args.specs.Refusals.{Text, Refusal, Words, ◌>>=◌}
-use Rattle.lab_args.specs.Operands.{operand_below, pattern_named}
+use Rattle.lab_args.specs.Operands.{operand_below, pattern_named, table_named}
 use Rattle.lab_args.specs.Rates.{rates}
 use Rattle.lab_args.specs.Requests.{LoadsAsked}
 use Rattle.lab_args.specs.Blanks.{wire_named}
@@ -24,9 +25,11 @@ with_option trial option word =
     then operand_below (2 ^ 32) operand.Skip word >>= (λ skip. Ok (record trial { skip = skip }))
     else (if bytes_eq option (codes "--seeds")
     then operand_below (2 ^ 16) operand.Seeds word >>= (λ seeds. Ok (record trial { seeds = seeds }))
+    else (if bytes_eq option (codes "--table")
+    then table_named word >>= (λ table. Ok (record trial { table = table }))
     else (if bytes_eq option (codes "--seed")
     then operand_below (2 ^ 64) operand.Seed word >>= (λ seed. Ok (record trial { seed = seed }))
-    else Err Words))))))
+    else Err Words)))))))
 
 -- the same, or so many wires that are to be drawn
 abbrev pub with_choice : LoadsAsked → Text → Text → Result LoadsAsked Refusal
@@ -67,6 +70,7 @@ load n room rates' cycles options =
         cycles = cycles';
         skip = 0;
         seeds = 1;
+        table = load_table.Plain;
       };
       cuts = [];
       drawn = 0;

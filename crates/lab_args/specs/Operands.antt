@@ -12,6 +12,8 @@ use Rattle.lab_figures.specs.declared.palettes.Palette.{Palette}
 use Rattle.lab_figures.specs.declared.palettes.Palette.TheVariants as palette
 use Rattle.lab_load.specs.declared.offers.Pattern.{Pattern}
 use Rattle.lab_load.specs.declared.offers.Pattern.TheVariants as pattern
+use Rattle.lab_load.specs.declared.trials.LoadTable.{LoadTable}
+use Rattle.lab_load.specs.declared.trials.LoadTable.TheVariants as load_table
 use Rattle.lab_args.specs.declared.operands.Operand.{Operand}
 use Rattle.lab_args.specs.declared.operands.Operand.TheVariants as operand
 use Rattle.lab_args.specs.Refusals.{Text, Refusal, Wanted, Words, Field, ◌>>=◌}
@@ -42,6 +44,7 @@ operand_name operand.Seed = codes "S"
 operand_name operand.Depth = codes "LENGTH"
 operand_name operand.Scale = codes "K"
 operand_name operand.Palette = codes "NAME"
+operand_name operand.Table = codes "NAME"
 
 -- a number of a range
 abbrev pub from_to : Text → Text → Text
@@ -71,6 +74,7 @@ wanted_of operand.Seed = from_to (codes "0") (codes "18446744073709551615")
 wanted_of operand.Depth = from_to (codes "1") (codes "16 for a picture")
 wanted_of operand.Scale = from_to (codes "1") (codes "64")
 wanted_of operand.Palette = codes "heat or viridis"
+wanted_of operand.Table = codes "crossings or dimensions"
 
 -- ---- what they say
 
@@ -133,3 +137,10 @@ pattern_named word =
     else (if bytes_eq word (codes "reversal") then Ok pattern.Reversal
     else (if bytes_eq word (codes "hotspot") then Ok pattern.HotSpot
     else Err (Wanted operand.Pattern word))))
+
+-- the table of loads of this name
+abbrev pub table_named : Text → Result LoadTable Refusal
+table_named word =
+    if bytes_eq word (codes "crossings") then Ok load_table.Crossings
+    else (if bytes_eq word (codes "dimensions") then Ok load_table.Dimensions
+    else Err (Wanted operand.Table word))

@@ -7,6 +7,7 @@ ghost use Rattle.lab_figures.specs.declared.palettes.Palette.TheVariants as pale
 ghost use Rattle.lab_figures.specs.declared.picture.Form.TheVariants as form;
 ghost use Rattle.lab_study.specs.declared.studies.Table.TheVariants as table;
 ghost use Rattle.lab_load.specs.declared.offers.Pattern.TheVariants as pattern;
+ghost use Rattle.lab_load.specs.declared.trials.LoadTable.TheVariants as load_table;
 ghost use Rattle.lab_data.specs.declared.lab.Task.TheVariants as task;
 ghost use Rattle.lab_data.specs.declared.order.Order.TheVariants as order;
 ghost use Rattle.lab_data.specs.declared.pictures.Shown.TheVariants as shown;
@@ -104,6 +105,7 @@ pub fn lines_ask_for()
             cycles = 400;
             skip = 0;
             seeds = 1;
+            table = load_table.Plain;
           };
           cuts = [];
           drawn = 0;
@@ -113,7 +115,7 @@ pub fn lines_ask_for()
         (codes "cm1lab" ∷ codes "load" ∷ codes "8" ∷ codes "7" ∷ codes "2" ∷ codes "400" ∷ codes "--until"
         ∷ codes "10" ∷ codes "--pattern" ∷ codes "hotspot" ∷ codes "--background" ∷ codes "10" ∷ codes "--cut" ∷ codes "5" ∷ codes "0" ∷ codes "--seed"
         ∷ codes "9" ∷ codes "--cut-random" ∷ codes "6" ∷ codes "--skip" ∷ codes "50" ∷ codes "--rule" ∷ codes "1"
-        ∷ codes "--seeds" ∷ codes "5" ∷ [])
+        ∷ codes "--seeds" ∷ codes "5" ∷ codes "--table" ∷ codes "dimensions" ∷ [])
         ≡ Ok (Load (record {
           trial = record {
             n = 8;
@@ -126,6 +128,7 @@ pub fn lines_ask_for()
             cycles = 400;
             skip = 50;
             seeds = 5;
+            table = load_table.Dimensions;
           };
           cuts = record { chip = 5; dim = 0 } ∷ [];
           drawn = 6;
@@ -214,6 +217,10 @@ pub fn lines_are_refused()
         (codes "cm1lab" ∷ codes "load" ∷ codes "4" ∷ codes "7" ∷ codes "1" ∷ codes "10" ∷ codes "--background"
         ∷ codes "x" ∷ [])
         ≡ Err (Wanted operand.Background (codes "x")) }
+    ensures table { request_of
+        (codes "cm1lab" ∷ codes "load" ∷ codes "4" ∷ codes "7" ∷ codes "1" ∷ codes "10" ∷ codes "--table"
+        ∷ codes "plain" ∷ [])
+        ≡ Err (Wanted operand.Table (codes "plain")) }
     ensures option_alone { request_of
         (codes "cm1lab" ∷ codes "load" ∷ codes "4" ∷ codes "7" ∷ codes "1" ∷ codes "10" ∷ codes "--seed" ∷ [])
         ≡ Err Words }

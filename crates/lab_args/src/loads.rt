@@ -8,10 +8,10 @@ ghost use Rattle.lab_args.specs.Loads.{load, with_choice, load_with_cut, with_op
 
 use crate::blanks::wire_named;
 use crate::fault::CommandFault;
-use crate::operands::{Operand, cycle_count, long_number, number, pattern};
+use crate::operands::{Operand, cycle_count, long_number, number, pattern, table};
 use crate::rates::read_rates;
 use lab_fresh::WireEnd;
-use lab_load::{Pattern, Trial};
+use lab_load::{LoadTable, Pattern, Trial};
 use std::alloc::Global;
 
 /// Loads of one pattern on one machine, at these rates.
@@ -53,6 +53,7 @@ pub(crate) fn read_loads(
         cycles,
         skip: 0,
         seeds: 1,
+        table: LoadTable::Plain,
     };
     let plain = Loads {
         trial,
@@ -147,6 +148,10 @@ fn with_option(alloc: Global, trial: Trial, option: &str, word: &str) -> Result<
         "--seeds" => {
             let seeds = number(alloc, Operand::Seeds, word)?;
             Ok(Trial { seeds, ..trial })
+        }
+        "--table" => {
+            let table = table(alloc, word)?;
+            Ok(Trial { table, ..trial })
         }
         "--seed" => {
             let seed = long_number(alloc, Operand::Seed, word)?;

@@ -4,12 +4,12 @@ ghost use Rattle.std.specs.Prelude.{◌≡◌, ◌^◌, IfOk, IfErr, Ok};
 ghost use Rattle.lab_args.specs.Refusals.{Reports};
 ghost use Rattle.lab_args.specs.Operands.{field, file_named, is_option, operand_name, wanted_number, operand_below};
 ghost use Rattle.lab_args.specs.Operands.{of_sixteen};
-ghost use Rattle.lab_args.specs.Operands.{palette_named, pattern_named, scale_of, wanted_of};
+ghost use Rattle.lab_args.specs.Operands.{palette_named, pattern_named, scale_of, table_named, wanted_of};
 
 use crate::fault::CommandFault;
 use cm_bits::{Field, FlagNo, Proc};
 use lab_data::Palette;
-use lab_load::Pattern;
+use lab_load::{LoadTable, Pattern};
 use std::alloc::Global;
 
 /// A word that a command takes.
@@ -38,6 +38,8 @@ pub enum Operand {
     Depth,
     Scale,
     Palette,
+    /// Which table of loads.
+    Table,
 }
 
 impl Operand {
@@ -64,7 +66,7 @@ impl Operand {
             Operand::Until | Operand::Skip => "T",
             Operand::Seed => "S",
             Operand::Scale => "K",
-            Operand::Palette => "NAME",
+            Operand::Palette | Operand::Table => "NAME",
         }
     }
 
@@ -94,6 +96,7 @@ impl Operand {
             Operand::Depth => "a decimal number from 1 to 16 for a picture",
             Operand::Scale => "a decimal number from 1 to 64",
             Operand::Palette => "heat or viridis",
+            Operand::Table => "crossings or dimensions",
         }
     }
 }
@@ -229,5 +232,17 @@ pub(crate) fn pattern(alloc: Global, word: &str) -> Result<Pattern, CommandFault
         "reversal" => Ok(Pattern::Reversal),
         "hotspot" => Ok(Pattern::HotSpot),
         _ => Err(CommandFault::operand(alloc, Operand::Pattern, word)),
+    }
+}
+
+/// The table of loads of this name.
+pub(crate) fn table(alloc: Global, word: &str) -> Result<LoadTable, CommandFault>
+    ensures value { IfOk result (λ table. table_named word.now ≡ Ok table) }
+    ensures refused { IfErr result (Reports (table_named word.now)) }
+{
+    match word {
+        "crossings" => Ok(LoadTable::Crossings),
+        "dimensions" => Ok(LoadTable::Dimensions),
+        _ => Err(CommandFault::operand(alloc, Operand::Table, word)),
     }
 }

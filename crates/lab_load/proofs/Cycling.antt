@@ -18,9 +18,10 @@ use Rattle.lab_load.specs.declared.sources.Source.{Source}
 use Rattle.lab_load.specs.Offers.{places}
 use Rattle.lab_load.specs.Asking.{Asking, asking_after_places}
 use Rattle.lab_load.specs.Telling.{injected_count, latencies_in}
+use Rattle.lab_load.specs.Counts.{asked_machine}
 use Rattle.lab_load.specs.Loaded.{Loaded, all_ready, asking_of, machine_asked, load_after, cycled, after_one}
 
-module _ (n cap : ℕ) (load : Load) (routing : Routing) (chips asked left ready : Chips)
+module _ (n cap : ℕ) (load : Load) (routing : Routing) (chips asked_chips left ready : Chips)
     (buffers crossed : List (List Message)) (logs emptied told : List Log) (t begun ended : ℕ)
     (sources next : List Source) (deepest deeper taken more : ℕ) (latencies all : List ℕ) where
   abbrev pub before : Loaded
@@ -41,11 +42,25 @@ module _ (n cap : ℕ) (load : Load) (routing : Routing) (chips asked left ready
     latencies = all;
   }
 
+  -- the machine with which the petit cycle begins
+  pub asked : n ≡ load.dims
+      → record { chips = asked_chips; sources = next; deepest = deeper }
+      ≡ asking_after_places load t (record { chips = chips; sources = sources; deepest = deepest }) (places load.dims)
+      → events_of emptied ≡ tabulate {X = List Event} 0 (2 ^ n) (λ c. []) → begun ≡ t
+      → machine_from_logs routing asked_chips buffers emptied begun ≡ asked_machine load before
+  asked dims asks empty starts = λ i. record {
+    chips = (asks i).chips;
+    buffers = buffers;
+    logs = (empty ∙ ap (λ (k : ℕ). tabulate {X = List Event} 0 (2 ^ k) (λ c. [])) dims) i;
+    clock = starts i;
+    routing = routing;
+  }
+
   pub one_cycle : n ≡ load.dims
-      → record { chips = asked; sources = next; deepest = deeper }
+      → record { chips = asked_chips; sources = next; deepest = deeper }
       ≡ asking_after_places load t (record { chips = chips; sources = sources; deepest = deepest }) (places load.dims)
       → events_of emptied ≡ tabulate {X = List Event} 0 (2 ^ n) (λ c. [])
-      → machine_from_logs routing left crossed told ended ≡ after_act n cap (machine_from_logs routing asked buffers emptied begun) Cycle
+      → machine_from_logs routing left crossed told ended ≡ after_act n cap (machine_from_logs routing asked_chips buffers emptied begun) Cycle
       → begun ≡ t → ended ≡ begun + 1 → more ≡ injected_count (events_of told)
       → all ≡ latencies ++ latencies_in t (events_of told)
       → ready ≡ tabulate 0 (2 ^ n) (λ c. with_flag_plane (chip_at left c) RECV (bit 0))
@@ -53,7 +68,7 @@ module _ (n cap : ℕ) (load : Load) (routing : Routing) (chips asked left ready
   unfolding after_one all_ready
   one_cycle dims asks empty goes starts ends takes tells fetched =
       let asking : Asking = asking_of load before in
-      let opening : machine_from_logs routing asked buffers emptied begun
+      let opening : machine_from_logs routing asked_chips buffers emptied begun
       ≡ machine_asked n (machine_from_logs routing chips buffers logs t) asking.chips =
       λ i. record {
         chips = (asks i).chips;

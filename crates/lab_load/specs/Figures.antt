@@ -2,6 +2,7 @@
 use Rattle.std.specs.Prelude.{◌≡◌, ℕ, ◌+◌, ◌-◌, ◌*◌, ◌/◌, ◌^◌, ◌==◌, Bool, List, Option, length, max, fold, nat_le, sum_by, if◌then◌else◌}
 use Rattle.std.specs.List.{count_by, find, range_with_len}
 use Rattle.lab_load.specs.declared.offers.Load.{Load}
+use Rattle.lab_load.specs.declared.counts.Counts.{Counts}
 use Rattle.lab_load.specs.declared.figures.Figures.{Figures}
 use Rattle.lab_load.specs.Loaded.{Loaded, offered_in}
 
@@ -27,8 +28,8 @@ most_of cycles latencies = find (is_reached latencies (95 * length latencies)) (
 abbrev pub greatest_latency : List ℕ → ℕ
 greatest_latency latencies = fold max 0 latencies
 
--- the numbers of a load after so many petit cycles, which left this, without the first so many
-pub record AreFigures (load : Load) (skip cycles : ℕ) (loaded : Loaded) (figures : Figures) : Type 0 where
+-- the numbers of a load after so many petit cycles, which left this, without the first so many; and what was counted
+pub record AreFigures (load : Load) (skip cycles : ℕ) (loaded : Loaded) (counts : Counts) (figures : Figures) : Type 0 where
   pub rate : figures.rate ≡ load.rate
   pub offered : figures.offered ≡ offered_in load cycles - offered_in load skip
   pub taken : figures.taken ≡ loaded.taken
@@ -39,3 +40,4 @@ pub record AreFigures (load : Load) (skip cycles : ℕ) (loaded : Loaded) (figur
   pub most : figures.most ≡ most_of cycles loaded.latencies
   pub greatest : figures.greatest ≡ greatest_latency loaded.latencies
   pub deepest : figures.deepest ≡ loaded.deepest
+  pub counts_are : figures.counts ≡ counts

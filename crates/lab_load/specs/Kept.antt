@@ -5,6 +5,7 @@ use Rattle.cm_model.specs.Array.{Chips}
 use Rattle.cm_model.specs.Wiring.{Routing}
 use Rattle.cm_router.specs.Logs.{Log}
 use Rattle.cm_petit.specs.Routers.{machine_from_logs}
+use Rattle.lab_load.specs.declared.counts.Counts.{Counts}
 use Rattle.lab_load.specs.declared.cycles.Told.{Told}
 use Rattle.lab_load.specs.declared.sources.Source.{Source}
 use Rattle.lab_load.specs.Loaded.{Loaded}
@@ -19,8 +20,9 @@ loaded_of routing chips buffers logs clock sources told = record {
   latencies = told.latencies.items;
 }
 
--- what was told is what stands there
-pub record IsToldOf (loaded : Loaded) (told : Told) : Type 0 where
+-- what was told is what stands there, and what was counted
+pub record IsToldOf (loaded : Loaded) (counts : Counts) (told : Told) : Type 0 where
   pub deepest : told.deepest ≡ loaded.deepest
   pub taken : told.taken ≡ loaded.taken
   pub latencies : told.latencies.items ≡ loaded.latencies
+  pub counts_are : told.counts ≡ counts

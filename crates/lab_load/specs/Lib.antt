@@ -2,6 +2,8 @@ pub mod Offers
 pub mod Asking
 pub mod Telling
 pub mod Loaded
+pub mod Crossings
+pub mod Counts
 pub mod Kept
 pub mod Figures
 pub mod Tables

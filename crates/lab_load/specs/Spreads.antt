@@ -1,6 +1,6 @@
 -- Loads that differ in their seeds alone: the mean of a column, and the half width of its interval of 95 in a hundred,
 -- by the t distribution of Student, 1908.
-use Rattle.std.specs.Prelude.{◌≡◌, ℕ, ◌+◌, ◌-◌, ◌*◌, ◌/◌, ◌%◌, ◌^◌, ◌<◌, ◌≤◌, List, Option, Some, None}
+use Rattle.std.specs.Prelude.{◌≡◌, false, ℕ, ◌+◌, ◌-◌, ◌*◌, ◌/◌, ◌%◌, ◌^◌, ◌<◌, ◌≤◌, List, Option, Some, None}
 use Rattle.std.specs.Prelude.{get_or, length, min, sum_by, slice_index}
 use Rattle.lab_fresh.specs.declared.blanks.WireEnd.{WireEnd}
 use Rattle.lab_load.specs.declared.figures.Figures.{Figures}
@@ -10,6 +10,7 @@ use Rattle.lab_load.specs.declared.spreads.Spread.{Spread}
 use Rattle.lab_load.specs.declared.spreads.Spreads.{Spreads}
 use Rattle.lab_load.specs.declared.spreads.TheConstants.{QUANTILES}
 use Rattle.lab_load.specs.declared.trials.Trial.{Trial}
+use Rattle.lab_load.specs.Counts.{no_counts}
 use Rattle.lab_load.specs.Trials.{AreFiguresOf}
 
 -- the load of the seed that comes so many behind this one
@@ -69,6 +70,7 @@ figures_with throughput = record {
   most = None;
   greatest = 0;
   deepest = 0;
+  counts = no_counts false;
 }
 
 -- ---- all of them

@@ -1,10 +1,12 @@
 -- The table of loads, as a text: numbers in columns, with a comma between them. Ours.
-use Rattle.std.specs.Prelude.{ℕ, ◌/◌, ◌%◌, List, [], ◌∷◌, ◌++◌, Option, Some, None, codes, decimal}
-use Rattle.std.specs.List.{flat_map}
+use Rattle.std.specs.Prelude.{ℕ, ◌/◌, ◌%◌, List, [], ◌∷◌, ◌++◌, Option, Some, None, codes, decimal, min, slice_index_or}
+use Rattle.std.specs.List.{flat_map, range_with_len}
 use Rattle.cm_bits.specs.Text.{number_cell, last_number_cell}
+use Rattle.lab_load.specs.declared.crossings.Crossings.{Crossings}
 use Rattle.lab_load.specs.declared.figures.Figures.{Figures}
 use Rattle.lab_load.specs.declared.spreads.Spread.{Spread}
 use Rattle.lab_load.specs.declared.spreads.Spreads.{Spreads}
+use Rattle.lab_load.specs.Crossings.{no_crossings, in_all}
 
 -- ---- numbers
 
@@ -55,6 +57,48 @@ load_line figures =
 -- the table: a line of names, and a line for each load
 unfoldable pub loads_table : List Figures → List ℕ
 loads_table loads = loads_header ++ flat_map load_line loads
+
+-- ---- what is counted beside
+
+-- the names of its columns: those of loads, and others behind them
+abbrev pub crossing_header : List ℕ
+crossing_header =
+    codes "rate,offered,taken,delivered,throughput,mean,p95,greatest,deepest,crossed,referred,refused,quiet\n"
+
+-- how often messages crossed a dimension, were referred over one, and were refused
+abbrev pub crossing_columns : Crossings → List ℕ
+crossing_columns crossings =
+    number_cell crossings.crossed ++ number_cell crossings.referred ++ number_cell crossings.refused
+
+-- the line of a load
+unfoldable pub crossing_line : Figures → List ℕ
+crossing_line figures =
+    offer_columns figures ++ message_columns figures ++ latency_columns figures ++ number_cell figures.deepest
+    ++ crossing_columns (in_all figures.counts.dims) ++ last_number_cell figures.counts.quiet
+
+-- the table: a line of names, and a line for each load
+unfoldable pub crossing_table_of : List Figures → List ℕ
+crossing_table_of loads = crossing_header ++ flat_map crossing_line loads
+
+-- the names of the columns by dimension
+abbrev pub dimension_header : List ℕ
+dimension_header = codes "rate,dimension,crossed,referred,refused\n"
+
+-- the line of a dimension under a load of this rate
+unfoldable pub dimension_line : ℕ → ℕ → Crossings → List ℕ
+dimension_line rate d crossings =
+    hundredths_text rate ++ number_cell d ++ number_cell crossings.crossed ++ number_cell crossings.referred
+    ++ last_number_cell crossings.refused
+
+-- those of a load on a cube of n dimensions, at most twelve
+abbrev pub dimension_lines : ℕ → Figures → List ℕ
+dimension_lines n figures =
+    flat_map (λ d. dimension_line figures.rate d (slice_index_or figures.counts.dims d no_crossings))
+    (range_with_len 0 (min n 12))
+
+-- the table: a line of names, and for each load a line for each dimension
+unfoldable pub dimension_table_of : ℕ → List Figures → List ℕ
+dimension_table_of n loads = dimension_header ++ flat_map (dimension_lines n) loads
 
 -- ---- loads of many seeds
 

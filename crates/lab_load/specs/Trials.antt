@@ -1,5 +1,6 @@
 -- Loads as they are asked for, and which there are. Ours.
-use Rattle.std.specs.Prelude.{ℕ, ◌==◌, ◌||◌, List, Option, Some, None, nat_le, nat_lt, if◌then◌else◌}
+use Rattle.std.specs.Prelude.{ℕ, ◌==◌, ◌||◌, ◌&&◌, Bool, true, false, not, List, Option, Some, None, nat_le, nat_lt}
+use Rattle.std.specs.Prelude.{if◌then◌else◌}
 use Rattle.std.specs.List.{find}
 use Rattle.cm_model.specs.Wiring.{Routing}
 use Rattle.cm_image_format.specs.Cuts.{rule_of}
@@ -9,7 +10,10 @@ use Rattle.lab_load.specs.declared.offers.Load.{Load}
 use Rattle.lab_load.specs.declared.figures.Figures.{Figures}
 use Rattle.lab_load.specs.declared.trials.Trial.{Trial}
 use Rattle.lab_load.specs.declared.trials.LoadFault.{LoadFault}
-use Rattle.lab_load.specs.declared.trials.LoadFault.TheVariants.{Dimension, Room, Wire, Rate, Cycles, Skip, Seeds, Rule, Background}
+use Rattle.lab_load.specs.declared.trials.LoadTable.{LoadTable}
+use Rattle.lab_load.specs.declared.trials.LoadTable.TheVariants.{Plain, Crossings, Dimensions}
+use Rattle.lab_load.specs.declared.trials.LoadFault.TheVariants.{Dimension, Room, Wire, Rate, Cycles, Skip, Seeds, Rule, Background, Table}
+use Rattle.lab_load.specs.Counts.{counts_for}
 use Rattle.lab_load.specs.Loaded.{loaded_for}
 use Rattle.lab_load.specs.Figures.{AreFigures}
 
@@ -34,10 +38,17 @@ cycles_fault trial =
     else if nat_le trial.cycles trial.skip then Some (Skip trial.skip trial.cycles)
     else if trial.seeds == 0 || nat_lt 1000 trial.seeds then Some (Seeds trial.seeds)
     else if nat_lt 1 trial.rule then Some (Rule trial.rule)
-    else if nat_lt 100 trial.background then Some (Background trial.background) else None
+    else if nat_lt 100 trial.background then Some (Background trial.background)
+    else if nat_lt 1 trial.seeds && not (is_plain trial.table) then Some (Table trial.seeds) else None
+
+-- the table of loads
+abbrev pub is_plain : LoadTable → Bool
+is_plain Plain = true
+is_plain Crossings = false
+is_plain Dimensions = false
 
 -- the first fault: of the dimension, the room, the ends of cut wires and the rates in their order, the petit cycles,
--- those that are left out, the seeds, the rule, the background
+-- those that are left out, the seeds, the rule, the background, the table
 abbrev pub trial_fault : Trial → List WireEnd → List ℕ → Option LoadFault
 trial_fault trial cuts rates =
     if nat_lt 12 trial.n then Some (Dimension trial.n)
@@ -56,6 +67,12 @@ load_of trial rate = record {
   seed = trial.seed;
 }
 
+-- a table that tells what is counted beside
+abbrev pub is_counted : LoadTable → Bool
+is_counted Plain = false
+is_counted Crossings = true
+is_counted Dimensions = true
+
 -- how the machine of a trial routes, of which the wires with these ends are cut
 abbrev pub trial_routing : Trial → List WireEnd → Routing
 trial_routing trial cuts = fresh_routing cuts (rule_of trial.rule)
@@ -64,4 +81,6 @@ trial_routing trial cuts = fresh_routing cuts (rule_of trial.rule)
 abbrev pub AreFiguresOf : Trial → List WireEnd → ℕ → Figures → Type 0
 AreFiguresOf trial cuts rate figures =
     AreFigures (load_of trial rate) trial.skip trial.cycles
-    (loaded_for trial.room (load_of trial rate) (trial_routing trial cuts) trial.skip trial.cycles) figures
+    (loaded_for trial.room (load_of trial rate) (trial_routing trial cuts) trial.skip trial.cycles)
+    (counts_for (is_counted trial.table) trial.room (load_of trial rate) (trial_routing trial cuts) trial.skip trial.cycles)
+    figures

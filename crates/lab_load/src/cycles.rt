@@ -6,8 +6,10 @@ ghost use Rattle.cm_petit.specs.Routers.{AreRouters};
 ghost use Rattle.lab_load.specs.Offers.{places};
 ghost use Rattle.lab_load.specs.Loaded.{after_one, after_cycles};
 ghost use Rattle.lab_load.specs.Kept.{loaded_of};
+ghost use Rattle.lab_load.specs.Counts.{no_counts, counts_after, counts_after_cycles};
 
 use crate::asking::ask_all;
+use crate::counts::{Counts, count_quiet, watched_cycle};
 use crate::logs::{empty_logs, fetch_all};
 use crate::offers::Load;
 use crate::sources::Source;
@@ -15,7 +17,6 @@ use crate::telling::{push_latencies, taken_in};
 use cm_bits::NoMemory;
 use cm_element::Run;
 use cm_message::Event;
-use cm_petit::cycle;
 use cm_router::Routing;
 use cm_router_engine::{RouterEngine, Shape};
 
@@ -28,18 +29,21 @@ pub(crate) struct Told {
     pub(crate) taken: u128,
     /// Of each message that was delivered, how many petit cycles it took.
     pub(crate) latencies: Vec<u32>,
+    pub(crate) counts: Counts,
 }
 
 impl Told {
-    /// Nothing was told so far.
-    pub(crate) fn forget(&mut self)
+    /// Nothing was told so far, and from now on is counted, or is not.
+    pub(crate) fn forget(&mut self, counting: bool)
         ensures deepest { self.new.deepest ≡ 0 }
         ensures taken { self.new.taken ≡ 0 }
         ensures latencies { self.new.latencies.items ≡ [] }
+        ensures counts { self.new.counts ≡ no_counts counting }
     {
         self.deepest = 0;
         self.taken = 0;
         self.latencies.clear();
+        self.counts = Counts::none(counting);
     }
 }
 
@@ -67,6 +71,9 @@ pub(crate) fn go_through(
         told.new
         ≡ after_cycles sizes.room load.now (loaded_of (routing_of routing.now) run.old crossing.old.buffers logs.old
         from sources.old told.old) (to - from)) }
+    ensures counts { OnOk result (told.new.counts
+        ≡ counts_after_cycles sizes.room load.now (loaded_of (routing_of routing.now) run.old crossing.old.buffers
+        logs.old from sources.old told.old) told.old.counts (to - from)) }
     ensures routers { OnOk result (AreRouters (2 ^ sizes.dims) sizes.room run.new crossing.new.buffers logs.new) }
     ensures sources { length sources.new ≡ length sources.old }
 {
@@ -98,15 +105,27 @@ fn go_on(
         sources.new told.new
         ≡ after_one sizes.room load.now (loaded_of (routing_of routing.now) run.old crossing.old.buffers logs.old t
         sources.old told.old)) }
+    ensures counts { OnOk result (told.new.counts
+        ≡ counts_after sizes.room load.now (loaded_of (routing_of routing.now) run.old crossing.old.buffers logs.old t
+        sources.old told.old) told.old.counts) }
     ensures routers { OnOk result (AreRouters (2 ^ sizes.dims) sizes.room run.new crossing.new.buffers logs.new) }
     ensures taken { OnOk result (told.new.taken ≤ (t + 1) * 2 ^ 76) }
 {
     empty_logs(logs, 4 + usize::from(sizes.room))?;
     ask_all(load, t, run, sources, &mut told.deepest);
     let mut clock = u64::from(t);
-    cycle(sizes, routing, run, crossing, logs, &mut clock);
+    watched_cycle(
+        sizes,
+        routing,
+        run,
+        crossing,
+        logs,
+        &mut clock,
+        &mut told.counts,
+    );
     told.taken += taken_in(logs);
     push_latencies(&mut told.latencies, t, logs)?;
     fetch_all(run, 1 << sizes.dims);
+    count_quiet(run, crossing, sources, &mut told.counts);
     Ok(())
 }

@@ -10,8 +10,11 @@ ghost use Rattle.lab_load.specs.Offers.{places};
 ghost use Rattle.lab_load.specs.Asking.{no_source};
 ghost use Rattle.lab_load.specs.Loaded.{Loaded, offered_by, offered_in, loaded_for};
 ghost use Rattle.lab_load.specs.Kept.{IsToldOf};
+ghost use Rattle.lab_load.specs.declared.counts.Counts.{Counts as Counted};
+ghost use Rattle.lab_load.specs.Counts.{counts_for};
 ghost use Rattle.lab_load.specs.Figures.{throughput_of, mean_of, is_reached, most_of, greatest_latency, AreFigures};
 
+use crate::counts::Counts;
 use crate::cycles::{Told, go_through};
 use crate::offers::Load;
 use crate::sources::Source;
@@ -44,6 +47,18 @@ pub struct Figures {
     pub greatest: u32,
     /// The most offers that waited at one processor, behind the one that it asked for.
     pub deepest: u32,
+    pub counts: Counts,
+}
+
+/// Which petit cycles of a load are told of.
+#[derive(Clone, Copy, Debug, PartialEq, Eq)]
+pub struct Period {
+    /// So many first ones are not.
+    pub skip: u32,
+    /// So many there are in all.
+    pub cycles: u32,
+    /// Whether their crossings are counted, and those behind which nothing is left.
+    pub counting: bool,
 }
 
 /// How many messages are offered in the petit cycles from this one on, before that one.
@@ -155,18 +170,18 @@ pub fn measure(
     room: u8,
     routing: &Routing,
     load: &Load,
-    skip: u32,
-    cycles: u32,
+    period: Period,
 ) -> Result<Figures, NoMemory>
     requires sizes { AreSizes load.now.dims room }
     requires cube { routing.now.cuts.dims ≡ load.now.dims }
-    requires few { cycles ≤ 1000000 }
-    requires skip { skip ≤ cycles }
-    ensures value { IfOk result
-        (AreFigures load.now skip cycles (loaded_for room load.now (routing_of routing.now) skip cycles)) }
+    requires few { period.cycles ≤ 1000000 }
+    requires skip { period.skip ≤ period.cycles }
+    ensures value { IfOk result (AreFigures load.now period.skip period.cycles
+        (loaded_for room load.now (routing_of routing.now) period.skip period.cycles)
+        (counts_for period.counting room load.now (routing_of routing.now) period.skip period.cycles)) }
 {
-    let told = tell(alloc, room, routing, load, skip, cycles)?;
-    Ok(figures_of(load, skip, cycles, &told))
+    let told = tell(alloc, room, routing, load, period)?;
+    Ok(figures_of(load, period.skip, period.cycles, &told))
 }
 
 /// The numbers of a load after so many petit cycles, of which these were told without the first so many.
@@ -174,7 +189,8 @@ fn figures_of(load: &Load, skip: u32, cycles: u32, told: &Told) -> Figures
     requires dimension { load.now.dims ≤ 12 }
     requires few { cycles ≤ 1000000 }
     requires skip { skip ≤ cycles }
-    ensures value { (loaded : Loaded) → IsToldOf loaded told.now → AreFigures load.now skip cycles loaded result }
+    ensures value { (loaded : Loaded) (counts : Counted) → IsToldOf loaded counts told.now
+        → AreFigures load.now skip cycles loaded counts result }
 {
     let latencies = told.latencies.as_slice();
     let delivered = latencies.len();
@@ -189,6 +205,7 @@ fn figures_of(load: &Load, skip: u32, cycles: u32, told: &Told) -> Figures
         most: most_of(latencies, cycles),
         greatest: greatest_of(latencies),
         deepest: told.deepest,
+        counts: told.counts,
     }
 }
 
@@ -198,14 +215,15 @@ fn tell(
     room: u8,
     routing: &Routing,
     load: &Load,
-    skip: u32,
-    cycles: u32,
+    period: Period,
 ) -> Result<Told, NoMemory>
     requires sizes { AreSizes load.now.dims room }
     requires cube { routing.now.cuts.dims ≡ load.now.dims }
-    requires few { cycles ≤ 1000000 }
-    requires skip { skip ≤ cycles }
-    ensures value { IfOk result (IsToldOf (loaded_for room load.now (routing_of routing.now) skip cycles)) }
+    requires few { period.cycles ≤ 1000000 }
+    requires skip { period.skip ≤ period.cycles }
+    ensures value { IfOk result (IsToldOf
+        (loaded_for room load.now (routing_of routing.now) period.skip period.cycles)
+        (counts_for period.counting room load.now (routing_of routing.now) period.skip period.cycles)) }
 {
     let chips = chip_count(load.dims);
     let mut logs = blank_logs(alloc, usize::from(chips))?;
@@ -216,8 +234,7 @@ fn tell(
         room,
         routing,
         load,
-        skip,
-        cycles,
+        period,
         &mut logs,
         &mut sources,
     )
@@ -230,20 +247,21 @@ fn begin(
     room: u8,
     routing: &Routing,
     load: &Load,
-    skip: u32,
-    cycles: u32,
+    period: Period,
     logs: &mut [Vec<Event>],
     sources: &mut [Source],
 ) -> Result<Told, NoMemory>
     requires sizes { AreSizes load.now.dims room }
     requires cube { routing.now.cuts.dims ≡ load.now.dims }
-    requires few { cycles ≤ 1000000 }
-    requires skip { skip ≤ cycles }
+    requires few { period.cycles ≤ 1000000 }
+    requires skip { period.skip ≤ period.cycles }
     requires chips { chips ≡ 2 ^ load.now.dims }
     requires all { chips ≤ 4096 }
     requires logs { events_of logs.old ≡ tabulate 0 chips (λ c. []) }
     requires sources { sources.old ≡ replicate (places load.now.dims) no_source }
-    ensures value { IfOk result (IsToldOf (loaded_for room load.now (routing_of routing.now) skip cycles)) }
+    ensures value { IfOk result (IsToldOf
+        (loaded_for room load.now (routing_of routing.now) period.skip period.cycles)
+        (counts_for period.counting room load.now (routing_of routing.now) period.skip period.cycles)) }
 {
     let mut rows = Run::blank(alloc, chips)?;
     let mut crossing = RouterEngine::new(alloc, usize::from(chips))?;
@@ -252,6 +270,7 @@ fn begin(
         deepest: 0,
         taken: 0,
         latencies,
+        counts: Counts::none(false),
     };
     let sizes = Shape {
         dims: load.dims,
@@ -262,20 +281,20 @@ fn begin(
         routing,
         load,
         0,
-        skip,
+        period.skip,
         &mut rows,
         &mut crossing,
         logs,
         sources,
         &mut told,
     )?;
-    told.forget();
+    told.forget(period.counting);
     go_through(
         sizes,
         routing,
         load,
-        skip,
-        cycles,
+        period.skip,
+        period.cycles,
         &mut rows,
         &mut crossing,
         logs,

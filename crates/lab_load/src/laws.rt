@@ -1,8 +1,9 @@
 //! Laws over the definitions: values that are known from elsewhere, so that a wrong rule is not proved.
 
-ghost use Rattle.std.specs.Prelude.{◌≡◌, ◌%◌, [], ◌∷◌, codes, None, Some};
+ghost use Rattle.std.specs.Prelude.{◌≡◌, ◌%◌, [], ◌∷◌, codes, false, None, Some};
 ghost use Rattle.lab_load.specs.declared.offers.Pattern.TheVariants as pattern;
 ghost use Rattle.lab_load.specs.Offers.{aimed};
+ghost use Rattle.lab_load.specs.Counts.{no_counts};
 ghost use Rattle.lab_load.specs.Figures.{greatest_latency, mean_of, most_of, throughput_of};
 ghost use Rattle.lab_load.specs.declared.spreads.Column.TheVariants.{Throughput};
 ghost use Rattle.lab_load.specs.Spreads.{quantile_of, half_squared, figures_with};
@@ -35,6 +36,7 @@ pub fn loads_are_told_so()
       most = Some 2;
       greatest = 5;
       deepest = 0;
+      counts = no_counts false;
     }) ≡ codes "0.50,51084,51083,51010,0.498,1.40,2,5,0\n" }
 {}
 

@@ -2,6 +2,8 @@
 #![tactic(auto)]
 
 mod asking;
+mod counts;
+mod crossings;
 mod cycles;
 mod figures;
 mod laws;
@@ -13,9 +15,11 @@ mod tables;
 mod telling;
 mod trials;
 
-pub use figures::{Figures, measure};
+pub use counts::Counts;
+pub use crossings::Crossings;
+pub use figures::{Figures, Period, measure};
 pub use laws::{loads_are_told_so, patterns_aim_so, spreads_are_told_so};
 pub use offers::{Load, Pattern};
 pub use spreads::{Column, Spread, Spreads};
-pub use tables::{spread_table, table};
-pub use trials::{LoadFault, Trial};
+pub use tables::{crossing_table, dimension_table, spread_table, table};
+pub use trials::{LoadFault, LoadTable, Trial};

@@ -4,9 +4,12 @@ ghost use Rattle.std.specs.Prelude.{◌≡◌, ◌++◌, ◌∷◌, [], ◌/◌,
 ghost use Rattle.lab_load.specs.Tables.{last_digit, last_two, hundredths_text, thousandths, column_if};
 ghost use Rattle.lab_load.specs.Tables.{loads_header, offer_columns, message_columns, latency_columns, load_line};
 ghost use Rattle.lab_load.specs.Tables.{loads_table};
+ghost use Rattle.lab_load.specs.Tables.{crossing_header, crossing_columns, crossing_line, crossing_table_of};
+ghost use Rattle.lab_load.specs.Tables.{dimension_header, dimension_line, dimension_lines, dimension_table_of};
 ghost use Rattle.lab_load.specs.Tables.{last_hundredths, spread_header, spread_columns, throughput_columns};
 ghost use Rattle.lab_load.specs.Tables.{spread_line, spread_table_of};
 
+use crate::crossings::{Crossings, in_all};
 use crate::figures::Figures;
 use crate::spreads::{Spread, Spreads};
 use cm_bits::NoMemory;
@@ -70,6 +73,100 @@ fn push_latencies(text: &mut Vec<u8>, figures: &Figures) -> Result<(), NoMemory>
     push_hundredths(text, figures.mean)?;
     push_if(text, figures.most)?;
     push_number(text, figures.greatest, b',')
+}
+
+/// The table of these loads with columns for what is counted: a line of names, and a line for each load.
+#[tactic(auto, unfolding(crate::specs::Tables::crossing_table_of))]
+pub fn crossing_table(alloc: Global, loads: &[Figures]) -> Result<Vec<u8>, NoMemory>
+    ensures value { IfOk result (λ text. text.items ≡ crossing_table_of loads.now) }
+{
+    let mut text = crossing_opening(alloc)?;
+    for figures in loads {
+        push_crossing_line(&mut text, figures)?;
+    }
+    Ok(text)
+}
+
+/// Its first line.
+fn crossing_opening(alloc: Global) -> Result<Vec<u8>, NoMemory>
+    ensures value { IfOk result (λ text. text.items ≡ crossing_header) }
+{
+    Ok(Vec::from_slice(
+        alloc,
+        b"rate,offered,taken,delivered,throughput,mean,p95,greatest,deepest,crossed,referred,refused,quiet\n",
+    )?)
+}
+
+/// The line of a load.
+#[tactic(auto, unfolding(crate::specs::Tables::crossing_line))]
+fn push_crossing_line(text: &mut Vec<u8>, figures: &Figures) -> Result<(), NoMemory>
+    ensures ok { OnOk result (text.new.items ≡ text.old.items ++ crossing_line figures.now) }
+{
+    push_offers(text, figures)?;
+    push_messages(text, figures)?;
+    push_latencies(text, figures)?;
+    push_number(text, figures.deepest, b',')?;
+    push_crossings(text, in_all(&figures.counts.dims))?;
+    push_number(text, figures.counts.quiet, b'\n')
+}
+
+/// How often messages crossed a dimension, were referred over one, and were refused.
+fn push_crossings(text: &mut Vec<u8>, crossings: Crossings) -> Result<(), NoMemory>
+    ensures ok { OnOk result (text.new.items ≡ text.old.items ++ crossing_columns crossings) }
+{
+    push_number(text, crossings.crossed, b',')?;
+    push_number(text, crossings.referred, b',')?;
+    push_number(text, crossings.refused, b',')
+}
+
+/// The table by dimension of these loads on a cube of n dimensions: a line of names, and for each load a line for each
+/// dimension.
+#[tactic(auto, unfolding(crate::specs::Tables::dimension_table_of))]
+pub fn dimension_table(alloc: Global, n: u16, loads: &[Figures]) -> Result<Vec<u8>, NoMemory>
+    ensures value { IfOk result (λ text. text.items ≡ dimension_table_of n loads.now) }
+{
+    let mut text = dimension_opening(alloc)?;
+    for figures in loads {
+        push_dimensions(&mut text, n, figures)?;
+    }
+    Ok(text)
+}
+
+/// Its first line.
+fn dimension_opening(alloc: Global) -> Result<Vec<u8>, NoMemory>
+    ensures value { IfOk result (λ text. text.items ≡ dimension_header) }
+{
+    Ok(Vec::from_slice(
+        alloc,
+        b"rate,dimension,crossed,referred,refused\n",
+    )?)
+}
+
+/// The lines of a load.
+fn push_dimensions(text: &mut Vec<u8>, n: u16, figures: &Figures) -> Result<(), NoMemory>
+    ensures ok { OnOk result (text.new.items ≡ text.old.items ++ dimension_lines n figures.now) }
+{
+    for d in 0..n.min(12) {
+        push_dimension(text, figures.rate, d, figures.counts.dims[usize::from(d)])?;
+    }
+    Ok(())
+}
+
+/// The line of a dimension.
+#[tactic(auto, unfolding(crate::specs::Tables::dimension_line))]
+fn push_dimension(
+    text: &mut Vec<u8>,
+    rate: u16,
+    d: u16,
+    crossings: Crossings,
+) -> Result<(), NoMemory>
+    ensures ok { OnOk result (text.new.items ≡ text.old.items ++ dimension_line rate d crossings) }
+{
+    push_hundredths(text, u128::from(rate))?;
+    push_number(text, d, b',')?;
+    push_number(text, crossings.crossed, b',')?;
+    push_number(text, crossings.referred, b',')?;
+    push_number(text, crossings.refused, b'\n')
 }
 
 /// The table of loads of many seeds: a line of names, and a line for each rate.

@@ -8,9 +8,9 @@ ghost use Rattle.cm_router.specs.Routes.{routing_of};
 ghost use Rattle.lab_fresh.specs.Fresh.{is_stray};
 ghost use Rattle.lab_load.specs.declared.figures.Figures.{Figures};
 ghost use Rattle.lab_load.specs.Spreads.{seeded, AreSpreadsOf};
-ghost use Rattle.lab_load.specs.Trials.{trial_fault, trial_routing, AreFiguresOf};
+ghost use Rattle.lab_load.specs.Trials.{is_counted, is_plain, trial_fault, trial_routing, AreFiguresOf};
 
-use crate::figures::{Figures, measure};
+use crate::figures::{Figures, Period, measure};
 use crate::offers::{Load, Pattern};
 use crate::spreads::{Spreads, spreads_of};
 use cm_bits::NoMemory;
@@ -40,6 +40,34 @@ pub struct Trial {
     pub skip: u32,
     /// Of so many seeds, from its own on, means and intervals are told; of 1 the figures.
     pub seeds: u16,
+    pub table: LoadTable,
+}
+
+/// Which table is told of loads.
+#[derive(Clone, Copy, Debug, PartialEq, Eq)]
+pub enum LoadTable {
+    /// A line for each load.
+    Plain,
+    /// The same with columns for what is counted.
+    Crossings,
+    /// A line for each dimension.
+    Dimensions,
+}
+
+impl LoadTable {
+    /// Whether it is the plain one.
+    fn is_plain(self) -> bool
+        ensures value { result ≡ is_plain self }
+    {
+        matches!(self, LoadTable::Plain)
+    }
+
+    /// Whether it tells what is counted beside.
+    fn is_counted(self) -> bool
+        ensures value { result ≡ is_counted self }
+    {
+        matches!(self, LoadTable::Crossings | LoadTable::Dimensions)
+    }
 }
 
 /// Why there is no such load.
@@ -65,6 +93,9 @@ pub enum LoadFault {
     Rule(u16),
     #[error("of a hundred messages 0 to 100 go to a place that is drawn, not {0}")]
     Background(u16),
+    /// A table that is of one seed.
+    #[error("with --table a load has one seed, not {0}")]
+    Table(u16),
     #[error("out of memory")]
     Memory,
 }
@@ -114,6 +145,9 @@ impl Trial {
         }
         if self.background > 100 {
             return Some(LoadFault::Background(self.background));
+        }
+        if self.seeds > 1 && !self.table.is_plain() {
+            return Some(LoadFault::Table(self.seeds));
         }
         None
     }
@@ -199,14 +233,18 @@ impl Trial {
             until: self.until,
             seed: self.seed,
         };
+        let period = Period {
+            skip: self.skip,
+            cycles: self.cycles,
+            counting: self.table.is_counted(),
+        };
         let routing = self.routing(alloc, cuts)?;
         measure(
             alloc,
             self.room as u8,
             &routing,
             &load,
-            self.skip,
-            self.cycles,
+            period,
         )
     }
 

@@ -3,6 +3,9 @@ use Rattle.cm_router.specs.Routes.{routing_of}
 use Rattle.lab_load.specs.declared.offers.Load.{Load}
 use Rattle.lab_load.specs.Loaded.{Loaded, after_one, after_cycles}
 use Rattle.lab_load.specs.Kept.{loaded_of}
+use Rattle.lab_load.specs.declared.counts.Counts.{Counts}
+use Rattle.lab_load.specs.Counts.{counts_after_cycles}
+use Rattle.lab_load.proofs.Counting.{none_counted, one_more_counted}
 use Rattle.lab_load.proofs.cycles.go_through.Goals as goal
 
 none_yet : (cap : ℕ) (load : Load) (first : Loaded) (t : ℕ) → first ≡ after_cycles cap load first (t - t)
@@ -21,6 +24,7 @@ one_more cap load first now next from t order before is =
 pub loop-t-init : goal.loop-t-init
 loop-t-init c = record {
   value = none_yet c.args.sizes.room c.args.load.now _ c.args.from;
+  counts = none_counted c.args.sizes.room c.args.load.now _ c.args.told.now.counts c.args.from;
   routers = c.requires.routers;
   taken = omega (arith, c.requires.taken);
 }
@@ -29,6 +33,8 @@ pub loop-t-preserved : goal.loop-t-preserved
 loop-t-preserved c = record {
   value = one_more c.args.sizes.room c.args.load.now _ _ _ c.args.from c.loop-t.t (omega arith)
       c.loop-t.invariant.value c.in_ok-go_on.ensures.ok;
+  counts = one_more_counted c.args.sizes.room c.args.load.now _ _ c.args.told.now.counts _ _ c.args.from c.loop-t.t
+      (omega arith) c.loop-t.invariant.value c.loop-t.invariant.counts c.in_ok-go_on.ensures.counts;
   routers = c.in_ok-go_on.ensures.routers;
   taken = c.in_ok-go_on.ensures.taken;
 }
@@ -47,3 +53,11 @@ returns-clause-ok c =
     (λ (k : ℕ). loaded_of (routing_of c.args.routing.now) c.loop-t.run c.loop-t.crossing.buffers c.loop-t.logs k
     c.loop-t.sources c.loop-t.told)
     c.args.from c.loop-t.t c.args.to all c.loop-t.invariant.value
+
+pub returns-clause-counts : goal.returns-clause-counts
+returns-clause-counts c =
+    let all : c.loop-t.t ≡ c.args.to = omega arith in
+    let first = loaded_of (routing_of c.args.routing.now) c.args.run.now c.args.crossing.now.buffers c.args.logs.now
+    c.args.from c.args.sources.now c.args.told.now in
+    c.loop-t.invariant.counts
+    ∙ ap (λ (k : ℕ). counts_after_cycles c.args.sizes.room c.args.load.now first c.args.told.now.counts (k - c.args.from)) all

@@ -10,7 +10,7 @@ overflow_mul-turns c =
 
 pub returns : goal.returns
 returns c = record {
-  value = λ loaded told. let is = c.as_slice-latencies.ensures.value ∙ told.latencies in record {
+  value = λ loaded counts told. let is = c.as_slice-latencies.ensures.value ∙ told.latencies in record {
     rate = refl;
     offered = c.offered_from.ensures.value;
     taken = told.taken;
@@ -24,5 +24,6 @@ returns c = record {
     most = c.most_of.ensures.value ∙ ap (most_of c.args.cycles) is;
     greatest = c.greatest_of.ensures.value ∙ ap greatest_latency is;
     deepest = told.deepest;
+    counts_are = told.counts_are;
   };
 }

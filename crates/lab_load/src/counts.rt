@@ -1,0 +1,112 @@
+//! What is counted of a load, if it is asked for: crossings by dimension, and petit cycles behind which nothing is left.
+
+ghost use Rattle.std.specs.Prelude.{◌≡◌, ◌+◌, ◌==◌, ◌^◌, ◌<◌, length};
+ghost use Rattle.std.specs.List.{list_all};
+ghost use Rattle.cm_model.specs.declared.act.Act.TheVariants as act;
+ghost use Rattle.cm_model.specs.Buffers.{after_act};
+ghost use Rattle.cm_router.specs.Routes.{routing_of};
+ghost use Rattle.cm_router.specs.Logs.{log_rooms_of, HaveLogRoom};
+ghost use Rattle.cm_petit.specs.Routers.{machine_from_logs, AreRouters};
+ghost use Rattle.lab_load.specs.Counts.{no_counts, with_crossed, is_quiet, with_quiet};
+
+use crate::crossings::{Crossings, counted_cycle};
+use crate::sources::Source;
+use cm_element::Run;
+use cm_message::Event;
+use cm_petit::cycle;
+use cm_router::{Routing, may_ask};
+use cm_router_engine::{RouterEngine, Shape};
+
+/// What is counted.
+#[derive(Clone, Copy, Debug, PartialEq, Eq)]
+pub struct Counts {
+    /// Whether anything is.
+    pub is_on: bool,
+    /// By dimension.
+    pub dims: [Crossings; 12],
+    /// Petit cycles behind which no message stood in a router, nobody asked to send, and no offer waited.
+    pub quiet: u32,
+}
+
+impl Counts {
+    /// Nothing was counted so far.
+    pub(crate) fn none(is_on: bool) -> Counts
+        ensures value { result ≡ no_counts is_on }
+    {
+        Counts {
+            is_on,
+            dims: [Crossings::NONE; 12],
+            quiet: 0,
+        }
+    }
+}
+
+/// One petit cycle, of which the crossings are counted if they are asked for.
+pub(crate) fn watched_cycle(
+    sizes: Shape,
+    routing: &Routing,
+    run: &mut Run,
+    crossing: &mut RouterEngine,
+    logs: &mut [Vec<Event>],
+    clock: &mut u64,
+    counts: &mut Counts,
+)
+    requires cube { routing.now.cuts.dims ≡ sizes.dims }
+    requires routers { AreRouters (2 ^ sizes.dims) sizes.room run.old crossing.old.buffers logs.old }
+    requires log_room { HaveLogRoom (4 + sizes.room) (log_rooms_of logs.old) }
+    requires counter { clock.old < 2 ^ 63 }
+    ensures value { machine_from_logs (routing_of routing.now) run.new crossing.new.buffers logs.new clock.new
+        ≡ after_act sizes.dims sizes.room
+        (machine_from_logs (routing_of routing.now) run.old crossing.old.buffers logs.old clock.old) act.Cycle }
+    ensures counter { clock.new ≡ clock.old + 1 }
+    ensures routers { AreRouters (2 ^ sizes.dims) sizes.room run.new crossing.new.buffers logs.new }
+    ensures counts { counts.new ≡ with_crossed sizes.dims sizes.room
+        (machine_from_logs (routing_of routing.now) run.old crossing.old.buffers logs.old clock.old) counts.old }
+{
+    if !counts.is_on {
+        cycle(sizes, routing, run, crossing, logs, clock);
+        return;
+    }
+    counted_cycle(
+        sizes,
+        routing,
+        run,
+        crossing,
+        logs,
+        clock,
+        &mut counts.dims,
+    );
+}
+
+/// Counts a petit cycle behind which this is left, if it is nothing.
+pub(crate) fn count_quiet(
+    run: &Run,
+    crossing: &RouterEngine,
+    sources: &[Source],
+    counts: &mut Counts,
+)
+    ensures value { counts.new ≡ with_quiet (is_quiet run.now crossing.now.buffers sources.now) counts.old }
+{
+    if counts.is_on && is_quiet(run, crossing, sources) {
+        counts.quiet = counts.quiet.saturating_add(1);
+    }
+}
+
+/// Whether nothing is left.
+fn is_quiet(run: &Run, crossing: &RouterEngine, sources: &[Source]) -> bool
+    ensures value { result ≡ is_quiet run.now crossing.now.buffers sources.now }
+{
+    none_stands(crossing) && !may_ask(run) && none_waits(sources)
+}
+
+fn none_stands(crossing: &RouterEngine) -> bool
+    ensures value { result ≡ list_all (λ here. length here == 0) crossing.now.buffers }
+{
+    crossing.is_empty()
+}
+
+fn none_waits(sources: &[Source]) -> bool
+    ensures value { result ≡ list_all (λ source. source.waiting == 0) sources.now }
+{
+    sources.iter().all(|source| source.waiting == 0)
+}
