@@ -9,7 +9,7 @@ use lab_data::{
 };
 use lab_fresh::{FreshFault, WireEnd, cut_wires, fresh};
 use lab_front::{FrontFault, ImageFault, SessionFault, front_image};
-use lab_load::{Figures, LoadFault, Pattern, Spreads, Trial, spread_table, table};
+use lab_load::{Figures, LoadFault, LoadTable, Pattern, Spreads, Trial, spread_table, table};
 use lab_source::{AsmKind, SourceKind, expand};
 use std::alloc::Global;
 use test_generators::{Call, first_not_so};
@@ -61,6 +61,7 @@ static TRIAL: Trial = Trial {
     cycles: 40,
     skip: 0,
     seeds: 3,
+    table: LoadTable::Plain,
 };
 
 static LOAD: &str =
