@@ -32,6 +32,12 @@ abbrev pub or_load_fault : Option LoadFault → Option LoadFault → Option Load
 or_load_fault None later = later
 or_load_fault (Some fault) later = Some fault
 
+-- the table of loads
+abbrev pub is_plain : LoadTable → Bool
+is_plain Plain = true
+is_plain Crossings = false
+is_plain Dimensions = false
+
 abbrev pub cycles_fault : Trial → Option LoadFault
 cycles_fault trial =
     if trial.cycles == 0 || nat_lt 1000000 trial.cycles then Some (Cycles trial.cycles)
@@ -40,12 +46,6 @@ cycles_fault trial =
     else if nat_lt 1 trial.rule then Some (Rule trial.rule)
     else if nat_lt 100 trial.background then Some (Background trial.background)
     else if nat_lt 1 trial.seeds && not (is_plain trial.table) then Some (Table trial.seeds) else None
-
--- the table of loads
-abbrev pub is_plain : LoadTable → Bool
-is_plain Plain = true
-is_plain Crossings = false
-is_plain Dimensions = false
 
 -- the first fault: of the dimension, the room, the ends of cut wires and the rates in their order, the petit cycles,
 -- those that are left out, the seeds, the rule, the background, the table
