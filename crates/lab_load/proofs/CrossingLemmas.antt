@@ -15,7 +15,7 @@ machine_before-is n cap m zero = refl
 machine_before-is n cap m (suc d) =
     ap (machine_after_dimension n cap d) (machine_before-is n cap m d)
     ∙ (sym (after_crossings-more n cap (machine_after_injection n cap m) d)
-    ∙ ap (under_way n cap m) (sym (add-one d)))
+    ∙ ap (under_way n cap m) (add-one d))
 
 -- one dimension more
 pub before_more : (n cap : ℕ) (m : Machine) (d : ℕ) {now : Machine} {next : List (List Message)}

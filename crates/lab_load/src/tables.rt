@@ -1,6 +1,7 @@
 //! The table of loads, as a text.
 
-ghost use Rattle.std.specs.Prelude.{◌≡◌, ◌++◌, ◌∷◌, [], ◌/◌, ◌%◌, OnOk, IfOk, decimal};
+ghost use Rattle.std.specs.Prelude.{◌≡◌, ◌++◌, ◌∷◌, [], ◌/◌, ◌%◌, ◌<◌, OnOk, IfOk, decimal, slice_index_or};
+ghost use Rattle.lab_load.specs.Crossings.{no_crossings};
 ghost use Rattle.lab_load.specs.Tables.{last_digit, last_two, hundredths_text, thousandths, column_if};
 ghost use Rattle.lab_load.specs.Tables.{loads_header, offer_columns, message_columns, latency_columns, load_line};
 ghost use Rattle.lab_load.specs.Tables.{loads_table};
@@ -147,9 +148,17 @@ fn push_dimensions(text: &mut Vec<u8>, n: u16, figures: &Figures) -> Result<(), 
     ensures ok { OnOk result (text.new.items ≡ text.old.items ++ dimension_lines n figures.now) }
 {
     for d in 0..n.min(12) {
-        push_dimension(text, figures.rate, d, figures.counts.dims[usize::from(d)])?;
+        push_dimension(text, figures.rate, d, crossings_in(&figures.counts.dims, d))?;
     }
     Ok(())
+}
+
+/// What was counted in a dimension.
+fn crossings_in(dims: &[Crossings; 12], d: u16) -> Crossings
+    requires d { d < 12 }
+    ensures value { result ≡ slice_index_or dims.now d no_crossings }
+{
+    dims[usize::from(d)]
 }
 
 /// The line of a dimension.

@@ -1,9 +1,9 @@
-use Rattle.std.proofs.Common.{◌≡◌, ℕ, ◌^◌, refl, sym, ap, ◌∙◌, arith}
+use Rattle.std.proofs.Common.{◌≡◌, ℕ, ◌^◌, get_or, set, refl, sym, ap, ◌∙◌, arith}
 use Rattle.cm_model.specs.Machine.{Machine}
 use Rattle.cm_model.specs.Buffers.{buffers_after_dimension}
 use Rattle.cm_router.specs.Routes.{routing_of}
 use Rattle.cm_petit.proofs.Cycling.{injected_whole, delivered_whole, crossed_by_one_way, cycle_is}
-use Rattle.lab_load.specs.Crossings.{machine_before, crossings_through}
+use Rattle.lab_load.specs.Crossings.{no_crossings, machine_before, crossings_through}
 use Rattle.lab_load.proofs.CrossingLemmas.{machine_before-is, before_more, through_more}
 use Rattle.lab_load.proofs.crossings.counted_cycle.Goals as goal
 
@@ -28,7 +28,10 @@ loop-dim-preserved c =
           (c.cross.ensures.value
           ∙ (crossed_by_one_way routing n room d c.crossings_over-more.new.crossing.buffers
           ∙ ap (buffers_after_dimension routing n room d) c.crossings_over-more.ensures.same));
-      counted = through_more n room _ c.args.dims.now c.loop-dim.dims d _ _ _ c.loop-dim.invariant.counted ?
+      counted = (λ i. set c.loop-dim.dims (c.from-d.ensures i) (c.added.ensures.value i))
+          ∙ through_more n room _ c.args.dims.now c.loop-dim.dims d
+          (get_or c.loop-dim.dims c.from-d.result no_crossings) _ _ c.loop-dim.invariant.counted
+          (ap (λ (k : ℕ). get_or c.loop-dim.dims k no_crossings) c.from-d.ensures)
           c.crossings_over-more.ensures.value (ap (λ (m : Machine). m.buffers) c.loop-dim.invariant.crossed);
       count = c.cross.ensures.count;
       within = c.cross.ensures.within;
