@@ -6,7 +6,8 @@ use cm_bits::NoMemory;
 use lab_args::Loads;
 use lab_fresh::{FreshFault, WireEnd, cut_wires};
 use lab_load::{
-    Figures, LoadFault, LoadTable, Spreads, Trial, crossing_table, dimension_table, spread_table, table,
+    Figures, LoadFault, LoadTable, Spreads, Trial, crossing_table, dimension_table, latency_table,
+    spread_table, table,
 };
 use std::alloc::Global;
 use std::rt::Clock;
@@ -25,6 +26,8 @@ pub fn measure_all<R: Eprint + Clock>(
     }
     if trial.seeds > 1 {
         spread_all(rt, alloc, loads, &cuts)
+    } else if trial.table == LoadTable::Latencies {
+        time_each(rt, alloc, loads, &cuts)
     } else {
         measure_each(rt, alloc, loads, &cuts)
     }
@@ -55,10 +58,35 @@ fn measure_each<R: Eprint + Clock>(
     }
 }
 
-/// The table that is asked for.
+/// The table of latencies.
+fn time_each<R: Eprint + Clock>(
+    rt: &R,
+    alloc: Global,
+    loads: &Loads,
+    cuts: &[WireEnd],
+) -> Result<Vec<u8>, Fault> {
+    let began = Instant::now(rt).ok();
+    let mut measured = Vec::new(alloc);
+    for rate in &loads.rates {
+        let latencies = match loads.trial.latencies(alloc, cuts, *rate) {
+            Ok(latencies) => latencies,
+            Err(fault) => return Err(told(fault)),
+        };
+        if measured.push(latencies).is_err() {
+            return Err(Fault::Memory);
+        }
+        tell_progress(rt, began, *rate, measured.len(), loads.rates.len());
+    }
+    match latency_table(alloc, &measured) {
+        Ok(text) => Ok(text),
+        Err(_) => Err(Fault::Memory),
+    }
+}
+
+/// The table by figures that is asked for.
 fn table_of(alloc: Global, trial: &Trial, loads: &[Figures]) -> Result<Vec<u8>, NoMemory> {
     match trial.table {
-        LoadTable::Plain => table(alloc, loads),
+        LoadTable::Plain | LoadTable::Latencies => table(alloc, loads),
         LoadTable::Crossings => crossing_table(alloc, loads),
         LoadTable::Dimensions => dimension_table(alloc, trial.n, loads),
     }

@@ -1,5 +1,5 @@
 -- Loads as they are asked for, and which there are. Ours.
-use Rattle.std.specs.Prelude.{ℕ, ◌==◌, ◌||◌, ◌&&◌, Bool, true, false, not, List, Option, Some, None, nat_le, nat_lt}
+use Rattle.std.specs.Prelude.{◌≡◌, ℕ, ◌==◌, ◌||◌, ◌&&◌, Bool, true, false, not, List, Option, Some, None, nat_le, nat_lt}
 use Rattle.std.specs.Prelude.{if◌then◌else◌}
 use Rattle.std.specs.List.{find}
 use Rattle.cm_model.specs.Wiring.{Routing}
@@ -8,14 +8,16 @@ use Rattle.lab_fresh.specs.declared.blanks.WireEnd.{WireEnd}
 use Rattle.lab_fresh.specs.Fresh.{is_stray, fresh_routing}
 use Rattle.lab_load.specs.declared.offers.Load.{Load}
 use Rattle.lab_load.specs.declared.figures.Figures.{Figures}
+use Rattle.lab_load.specs.declared.latencies.Latencies.{Latencies as Told}
 use Rattle.lab_load.specs.declared.trials.Trial.{Trial}
 use Rattle.lab_load.specs.declared.trials.LoadFault.{LoadFault}
 use Rattle.lab_load.specs.declared.trials.LoadTable.{LoadTable}
-use Rattle.lab_load.specs.declared.trials.LoadTable.TheVariants.{Plain, Crossings, Dimensions}
+use Rattle.lab_load.specs.declared.trials.LoadTable.TheVariants.{Plain, Crossings, Dimensions, Latencies}
 use Rattle.lab_load.specs.declared.trials.LoadFault.TheVariants.{Dimension, Room, Wire, Rate, Cycles, Skip, Seeds, Rule, Background, Table}
 use Rattle.lab_load.specs.Counts.{counts_for}
 use Rattle.lab_load.specs.Loaded.{loaded_for}
 use Rattle.lab_load.specs.Figures.{AreFigures}
+use Rattle.lab_load.specs.Latencies.{histogram}
 
 -- the fault of an end that the cube has not, if there is one
 abbrev pub end_fault : ℕ → Option WireEnd → Option LoadFault
@@ -37,6 +39,7 @@ abbrev pub is_plain : LoadTable → Bool
 is_plain Plain = true
 is_plain Crossings = false
 is_plain Dimensions = false
+is_plain Latencies = false
 
 abbrev pub cycles_fault : Trial → Option LoadFault
 cycles_fault trial =
@@ -72,6 +75,7 @@ abbrev pub is_counted : LoadTable → Bool
 is_counted Plain = false
 is_counted Crossings = true
 is_counted Dimensions = true
+is_counted Latencies = false
 
 -- how the machine of a trial routes, of which the wires with these ends are cut
 abbrev pub trial_routing : Trial → List WireEnd → Routing
@@ -84,3 +88,9 @@ AreFiguresOf trial cuts rate figures =
     (loaded_for trial.room (load_of trial rate) (trial_routing trial cuts) trial.skip trial.cycles)
     (counts_for (is_counted trial.table) trial.room (load_of trial rate) (trial_routing trial cuts) trial.skip trial.cycles)
     figures
+
+-- what it tells of latencies at a rate: how many messages of its load took how long
+abbrev pub AreLatenciesOf : Trial → List WireEnd → ℕ → Told → Type 0
+AreLatenciesOf trial cuts rate latencies =
+    (latencies.rate ≡ rate) × (latencies.counts.items
+    ≡ histogram (loaded_for trial.room (load_of trial rate) (trial_routing trial cuts) trial.skip trial.cycles).latencies)

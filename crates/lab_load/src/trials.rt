@@ -7,10 +7,14 @@ ghost use Rattle.cm_model.specs.Keeping.{AreSizes};
 ghost use Rattle.cm_router.specs.Routes.{routing_of};
 ghost use Rattle.lab_fresh.specs.Fresh.{is_stray};
 ghost use Rattle.lab_load.specs.declared.figures.Figures.{Figures};
+ghost use Rattle.lab_load.specs.Latencies.{histogram};
+ghost use Rattle.lab_load.specs.Loaded.{loaded_for};
 ghost use Rattle.lab_load.specs.Spreads.{seeded, AreSpreadsOf};
-ghost use Rattle.lab_load.specs.Trials.{is_counted, is_plain, trial_fault, trial_routing, AreFiguresOf};
+ghost use Rattle.lab_load.specs.Trials.{is_counted, is_plain, load_of, trial_fault, trial_routing};
+ghost use Rattle.lab_load.specs.Trials.{AreFiguresOf, AreLatenciesOf};
 
-use crate::figures::{Figures, Period, measure};
+use crate::figures::{Figures, Period, measure, measure_latencies};
+use crate::latencies::Latencies;
 use crate::offers::{Load, Pattern};
 use crate::spreads::{Spreads, spreads_of};
 use cm_bits::NoMemory;
@@ -52,6 +56,8 @@ pub enum LoadTable {
     Crossings,
     /// A line for each dimension.
     Dimensions,
+    /// A line for each number of petit cycles that a message took.
+    Latencies,
 }
 
 impl LoadTable {
@@ -178,6 +184,21 @@ impl Trial {
         }
     }
 
+    /// How many messages of its load at this rate took how long, on such a machine.
+    pub fn latencies(&self, alloc: Global, cuts: &[WireEnd], rate: u16) -> Result<Latencies, LoadFault>
+        ensures value { IfOk result (AreLatenciesOf self.now cuts.now rate) }
+        ensures refused { IfErr result (λ fault. fault ≢ LoadFault.Memory
+            → trial_fault self.now cuts.now (rate ∷ []) ≡ Some fault) }
+    {
+        match self.fault(cuts, &[rate]) {
+            Some(fault) => Err(fault),
+            None => match self.measured_latencies(alloc, cuts, rate) {
+                Ok(counts) => Ok(Latencies { rate, counts }),
+                Err(_) => Err(LoadFault::Memory),
+            },
+        }
+    }
+
     /// The means and intervals of its loads of all seeds at this rate, on such a machine.
     pub fn spreads(&self, alloc: Global, cuts: &[WireEnd], rate: u16) -> Result<Spreads, LoadFault>
         requires some { 2 ≤ self.now.seeds }
@@ -225,27 +246,58 @@ impl Trial {
         requires skip { self.now.skip ≤ self.now.cycles }
         ensures value { IfOk result (λ figures. AreFiguresOf self.now cuts.now rate figures) }
     {
-        let load = Load {
+        let load = self.load(rate);
+        let routing = self.routing(alloc, cuts)?;
+        measure(alloc, self.room as u8, &routing, &load, self.period())
+    }
+
+    /// The same of how long messages took.
+    fn measured_latencies(
+        &self,
+        alloc: Global,
+        cuts: &[WireEnd],
+        rate: u16,
+    ) -> Result<Vec<u64>, NoMemory>
+        requires sizes { AreSizes self.now.n self.now.room }
+        requires wires { find (is_stray self.now.n) cuts.now ≡ None }
+        requires few { self.now.cycles ≤ 1000000 }
+        requires skip { self.now.skip ≤ self.now.cycles }
+        ensures value { IfOk result (λ counts. counts.items ≡ histogram (loaded_for self.now.room
+            (load_of self.now rate) (trial_routing self.now cuts.now) self.now.skip self.now.cycles).latencies) }
+    {
+        let load = self.load(rate);
+        let routing = self.routing(alloc, cuts)?;
+        measure_latencies(alloc, self.room as u8, &routing, &load, self.period())
+    }
+
+    /// Its load at a rate.
+    fn load(&self, rate: u16) -> Load
+        requires dimension { self.now.n ≤ 12 }
+        ensures value { result ≡ load_of self.now rate }
+    {
+        Load {
             dims: self.n as u8,
             pattern: self.pattern,
             background: self.background,
             rate,
             until: self.until,
             seed: self.seed,
-        };
-        let period = Period {
+        }
+    }
+
+    /// Which of its petit cycles are told of.
+    fn period(&self) -> Period
+        ensures value { result ≡ record {
+          skip = self.now.skip;
+          cycles = self.now.cycles;
+          counting = is_counted self.now.table;
+        } }
+    {
+        Period {
             skip: self.skip,
             cycles: self.cycles,
             counting: self.table.is_counted(),
-        };
-        let routing = self.routing(alloc, cuts)?;
-        measure(
-            alloc,
-            self.room as u8,
-            &routing,
-            &load,
-            period,
-        )
+        }
     }
 
     /// How its machine routes.
