@@ -12,7 +12,7 @@ took latencies k = count_by (λ x. x == k) latencies
 
 -- how many took one petit cycle, two, and so on up to the most that one took
 unfoldable pub histogram : List ℕ → List ℕ
-histogram latencies = tabulate 1 (greatest_latency latencies) (took latencies)
+histogram latencies = tabulate 0 (greatest_latency latencies) (λ k. took latencies (k + 1))
 
 -- ---- the table
 

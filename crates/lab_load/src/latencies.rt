@@ -1,7 +1,9 @@
 //! How many messages took how long, and the table that tells it.
 
-ghost use Rattle.std.specs.Prelude.{◌≡◌, ◌++◌, ◌<◌, ◌^◌, IfOk, OnOk, slice_index};
+ghost use Rattle.std.specs.Prelude.{◌≡◌, ℕ, ◌+◌, ◌==◌, ◌++◌, ◌<◌, ◌^◌, IfOk, OnOk, length, slice_index};
 ghost use Rattle.std.specs.List.{flat_map};
+ghost use Rattle.cm_bits.specs.Bit.{bit_number};
+ghost use Rattle.lab_load.specs.Crossings.{capped_sum};
 ghost use Rattle.lab_load.specs.Latencies.{histogram, rate_name, latency_header, took_cell, latency_line, longest};
 ghost use Rattle.lab_load.specs.Latencies.{latency_table_of};
 
@@ -32,11 +34,15 @@ pub(crate) fn histogram(alloc: Global, latencies: &[u32]) -> Result<Vec<u64>, No
 }
 
 /// Counts one that took so long.
-fn count_one(counts: &mut [u64], latency: u32) {
+fn count_one(counts: &mut [u64], latency: u32)
+    ensures value { (k : ℕ) → k < length counts.old
+        → slice_index counts.new k ≡ capped_sum (slice_index counts.old k) (bit_number (latency == k + 1)) }
+{
     if latency == 0 || latency as usize > counts.len() {
         return;
     }
-    counts[latency as usize - 1] += 1;
+    let index = latency as usize - 1;
+    counts[index] = counts[index].saturating_add(1);
 }
 
 /// The table of these loads: a line of names, and a line for each number of petit cycles that a message took.
