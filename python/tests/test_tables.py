@@ -78,6 +78,13 @@ def test_what_is_said_of_a_load_is_told(given):
     assert load_curve(6, 2, 3, 60, **given).csv == told != load_curve(6, 2, 3, 60).csv
 
 
+def test_places_of_ones_own():
+    transposed = [place // 8 + place % 8 * 8 for place in range(64)]
+    assert load_curve(2, 7, 2, 60, places=transposed).csv == load_curve(2, 7, 2, 60, pattern="transpose").csv
+    with pytest.raises(Failed, match="places: only 63 numbers"):
+        load_curve(2, 7, 2, 60, places=transposed[1:])
+
+
 @pytest.mark.parametrize("rate", [0.125, 0.001, -1, float("nan"), float("inf")])
 def test_other_rates_are_refused(rate):
     with pytest.raises(ValueError, match="at most two digits behind the point"):

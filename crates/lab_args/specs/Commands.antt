@@ -32,9 +32,16 @@ abbrev pub freshening : List Text → Result Request Refusal
 freshening (n ∷ room ∷ rest) = blank n room rest >>= λ machine. Ok (Fresh machine)
 freshening _ = Err Words
 
--- `load`: N CAP RATE,.. CYCLES, and what is behind
+-- two ways to say to whom messages go
+abbrev pub says_both : List Text → Bool
+says_both options =
+    list_any (λ other. bytes_eq other (codes "--pattern")) options
+    && list_any (λ other. bytes_eq other (codes "--places")) options
+
+-- `load`: N CAP RATE,.. CYCLES, and what is behind, with a pattern or places
 abbrev pub loading : List Text → Result Request Refusal
-loading (n ∷ room ∷ rates ∷ cycles ∷ options) = load n room rates cycles options >>= λ loads. Ok (Load loads)
+loading (n ∷ room ∷ rates ∷ cycles ∷ options) =
+    if says_both options then Err Words else load n room rates cycles options >>= (λ loads. Ok (Load loads))
 loading _ = Err Words
 
 -- `plot`: FILE, or nothing
@@ -95,7 +102,7 @@ abbrev pub is_load_option : Text → Bool
 is_load_option word =
     is_fresh_option word || (bytes_eq word (codes "--pattern") || (bytes_eq word (codes "--background")
     || (bytes_eq word (codes "--until") || (bytes_eq word (codes "--skip") || (bytes_eq word (codes "--seeds")
-    || bytes_eq word (codes "--table"))))))
+    || (bytes_eq word (codes "--table") || bytes_eq word (codes "--places")))))))
 
 -- an option of the command of this name
 abbrev pub is_option_of : Text → Text → Bool

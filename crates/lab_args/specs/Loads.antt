@@ -1,5 +1,5 @@
 -- What the words behind `load` ask for: ours.
-use Rattle.std.specs.Prelude.{◌^◌, if◌then◌else◌, Result, Ok, Err, List, [], ◌∷◌, ◌++◌, codes, bytes_eq}
+use Rattle.std.specs.Prelude.{◌^◌, if◌then◌else◌, Some, None, Result, Ok, Err, List, [], ◌∷◌, ◌++◌, codes, bytes_eq}
 use Rattle.lab_load.specs.declared.trials.Trial.{Trial}
 use Rattle.lab_load.specs.declared.offers.Pattern.TheVariants as pattern
 use Rattle.lab_load.specs.declared.trials.LoadTable.TheVariants as load_table
@@ -31,12 +31,14 @@ with_option trial option word =
     then operand_below (2 ^ 64) operand.Seed word >>= (λ seed. Ok (record trial { seed = seed }))
     else Err Words)))))))
 
--- the same, or so many wires that are to be drawn
+-- the same, or so many wires that are to be drawn, or the file with places of one's own
 abbrev pub with_choice : LoadsAsked → Text → Text → Result LoadsAsked Refusal
 with_choice loads option word =
     if bytes_eq option (codes "--cut-random")
     then operand_below (2 ^ 16) operand.Count word >>= (λ count. Ok (record loads { drawn = count }))
-    else with_option loads.trial option word >>= (λ trial. Ok (record loads { trial = trial }))
+    else (if bytes_eq option (codes "--places")
+    then Ok (record loads { trial = record loads.trial { pattern = pattern.Own }; places = Some word })
+    else with_option loads.trial option word >>= (λ trial. Ok (record loads { trial = trial })))
 
 -- the loads of a machine with this wire cut too
 abbrev pub load_with_cut : LoadsAsked → Text → Text → Result LoadsAsked Refusal
@@ -75,4 +77,5 @@ load n room rates' cycles options =
       cuts = [];
       drawn = 0;
       rates = offered;
+      places = None;
     }) options

@@ -62,11 +62,12 @@ cm1lab fresh N CAP [--cut CHIP DIM].. [--cut-random K] [--seed S] [--rule R] FIL
     1 to 15, into FILE; the wire of CHIP over dimension DIM is cut, by whichever end it is
     named, and K wires are that are drawn, others by another S; rule 0, who came first goes
     first, or rule 1, the oldest
-cm1lab load N CAP RATE,.. CYCLES [--cut CHIP DIM].. [--cut-random K] [--seed S] [--rule R] [--pattern P] [--background H] [--until T] [--skip T] [--seeds K] [--table NAME]
+cm1lab load N CAP RATE,.. CYCLES [--cut CHIP DIM].. [--cut-random K] [--seed S] [--rule R] [--pattern P | --places FILE] [--background H] [--until T] [--skip T] [--seeds K] [--table NAME]
     tells a table, a line for each RATE of messages that the processors of a chip offer in a
     petit cycle, as 0.5: what was offered, taken in and delivered on such a blank machine, and
     how many petit cycles that took; S draws other messages too; P is uniform, transpose,
-    reversal or hotspot; of a hundred messages H go to a processor that is drawn, and the
+    reversal or hotspot, or FILE has a number for each place, the place that its messages go
+    to; of a hundred messages H go to a processor that is drawn, and the
     rest by P; with --until only the first T petit cycles offer, with --skip the first T are
     not told of; with --seeds means of K loads, and half their 95 % intervals; --table
     crossings tells more columns, how often messages crossed a dimension, were referred, were
@@ -204,4 +205,5 @@ fn is_load_option(word: &str) -> bool
         || word == "--skip"
         || word == "--seeds"
         || word == "--table"
+        || word == "--places"
 }

@@ -16,24 +16,26 @@ use std::alloc::Global;
 
 /// Loads of one pattern on one machine, at these rates.
 #[derive(Drop)]
-pub struct Loads {
+pub struct Loads<'a> {
     pub trial: Trial,
     pub cuts: Vec<WireEnd>,
     /// So many wires more are drawn, by the trial's seed.
     pub drawn: u16,
     /// Hundredths of a message that a chip offers in a petit cycle.
     pub rates: Vec<u16>,
+    /// The file with the places to which messages go, if the pattern is one's own.
+    pub places: Option<&'a str>,
 }
 
 /// Reads the words behind `load`.
-pub(crate) fn read_loads(
+pub(crate) fn read_loads<'a>(
     alloc: Global,
     n: &str,
     room: &str,
     rates: &str,
     cycles: &str,
-    options: &[&str],
-) -> Result<Loads, CommandFault>
+    options: &[&'a str],
+) -> Result<Loads<'a>, CommandFault>
     ensures value { IfOk result
         (λ loads. load n.now room.now rates.now cycles.now (texts options.now) ≡ Ok (loads_asked loads)) }
     ensures refused { IfErr result (Reports (load n.now room.now rates.now cycles.now (texts options.now))) }
@@ -60,12 +62,17 @@ pub(crate) fn read_loads(
         cuts: Vec::new(alloc),
         drawn: 0,
         rates,
+        places: None,
     };
     with_options(alloc, plain, options)
 }
 
 /// Takes what the options say, each with the word behind it, or the two.
-fn with_options(alloc: Global, loads: Loads, options: &[&str]) -> Result<Loads, CommandFault>
+fn with_options<'a>(
+    alloc: Global,
+    loads: Loads<'a>,
+    options: &[&'a str],
+) -> Result<Loads<'a>, CommandFault>
     ensures value { IfOk result
         (λ found. with_options (loads_asked loads) (texts options.now) ≡ Ok (loads_asked found)) }
     ensures refused { IfErr result (Reports (with_options (loads_asked loads) (texts options.now))) }
@@ -89,7 +96,12 @@ fn with_options(alloc: Global, loads: Loads, options: &[&str]) -> Result<Loads, 
 }
 
 /// Takes what an option says that has one word behind it.
-fn with_choice(alloc: Global, loads: Loads, option: &str, word: &str) -> Result<Loads, CommandFault>
+fn with_choice<'a>(
+    alloc: Global,
+    loads: Loads<'a>,
+    option: &str,
+    word: &'a str,
+) -> Result<Loads<'a>, CommandFault>
     ensures value { IfOk result
         (λ changed. with_choice (loads_asked loads) option.now word.now ≡ Ok (loads_asked changed)) }
     ensures refused { IfErr result (Reports (with_choice (loads_asked loads) option.now word.now)) }
@@ -98,12 +110,28 @@ fn with_choice(alloc: Global, loads: Loads, option: &str, word: &str) -> Result<
         let drawn = number(alloc, Operand::Count, word)?;
         return Ok(Loads { drawn, ..loads });
     }
+    if option == "--places" {
+        let trial = Trial {
+            pattern: Pattern::Own,
+            ..loads.trial
+        };
+        return Ok(Loads {
+            trial,
+            places: Some(word),
+            ..loads
+        });
+    }
     let trial = with_option(alloc, loads.trial, option, word)?;
     Ok(Loads { trial, ..loads })
 }
 
 /// The loads of a machine with this wire cut too.
-fn with_cut(alloc: Global, loads: Loads, chip: &str, dim: &str) -> Result<Loads, CommandFault>
+fn with_cut<'a>(
+    alloc: Global,
+    loads: Loads<'a>,
+    chip: &str,
+    dim: &str,
+) -> Result<Loads<'a>, CommandFault>
     ensures value { IfOk result
         (λ cut. load_with_cut (loads_asked loads) chip.now dim.now ≡ Ok (loads_asked cut)) }
     ensures refused { IfErr result (Reports (load_with_cut (loads_asked loads) chip.now dim.now)) }

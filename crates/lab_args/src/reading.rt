@@ -46,7 +46,7 @@ pub enum Command<'a> {
     /// A blank machine.
     Fresh(Blank<'a>),
     /// Loads of the router.
-    Load(Loads),
+    Load(Loads<'a>),
     /// The picture of a table, which is in this file or on standard input.
     Plot {
         file: Option<&'a str>,
@@ -228,6 +228,9 @@ fn read_loading<'a>(alloc: Global, words: &[&'a str]) -> Result<Command<'a>, Com
 {
     match words {
         [n, room, rates, cycles, options @ ..] => {
+            if stands_in("--pattern", options) && stands_in("--places", options) {
+                return Err(CommandFault::Words);
+            }
             let loads = read_loads(alloc, n, room, rates, cycles, options)?;
             Ok(Command::Load(loads))
         }

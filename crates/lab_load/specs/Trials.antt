@@ -59,16 +59,15 @@ trial_fault trial cuts rates =
     else or_load_fault (end_fault trial.n (find (is_stray trial.n) cuts))
     (or_load_fault (rate_fault (find (nat_lt 1600) rates)) (cycles_fault trial))
 
--- the load of a trial at a rate
-abbrev pub load_of : Trial → ℕ → Load
-load_of trial rate = record {
-  dims = trial.n;
-  pattern = trial.pattern;
-  background = trial.background;
-  rate = rate;
-  until = trial.until;
-  seed = trial.seed;
-}
+-- the load of a trial at a rate, with these targets of one's own
+pub record IsLoadOf (trial : Trial) (targets : List ℕ) (rate : ℕ) (load : Load) : Type 0 where
+  pub dims : load.dims ≡ trial.n
+  pub pattern : load.pattern ≡ trial.pattern
+  pub background : load.background ≡ trial.background
+  pub rate_is : load.rate ≡ rate
+  pub until : load.until ≡ trial.until
+  pub seed : load.seed ≡ trial.seed
+  pub targets_are : load.targets.items ≡ targets
 
 -- a table that tells what is counted beside
 abbrev pub is_counted : LoadTable → Bool
@@ -82,15 +81,19 @@ abbrev pub trial_routing : Trial → List WireEnd → Routing
 trial_routing trial cuts = fresh_routing cuts (rule_of trial.rule)
 
 -- what a trial answers at a rate: the numbers of its load on a blank machine
-abbrev pub AreFiguresOf : Trial → List WireEnd → ℕ → Figures → Type 0
-AreFiguresOf trial cuts rate figures =
-    AreFigures (load_of trial rate) trial.skip trial.cycles
-    (loaded_for trial.room (load_of trial rate) (trial_routing trial cuts) trial.skip trial.cycles)
-    (counts_for (is_counted trial.table) trial.room (load_of trial rate) (trial_routing trial cuts) trial.skip trial.cycles)
-    figures
+pub record AreFiguresOf (trial : Trial) (targets : List ℕ) (cuts : List WireEnd) (rate : ℕ) (figures : Figures)
+    : Type 0 where
+  pub load : Load
+  pub is : IsLoadOf trial targets rate load
+  pub are : AreFigures load trial.skip trial.cycles
+      (loaded_for trial.room load (trial_routing trial cuts) trial.skip trial.cycles)
+      (counts_for (is_counted trial.table) trial.room load (trial_routing trial cuts) trial.skip trial.cycles) figures
 
 -- what it tells of latencies at a rate: how many messages of its load took how long
-abbrev pub AreLatenciesOf : Trial → List WireEnd → ℕ → Told → Type 0
-AreLatenciesOf trial cuts rate latencies =
-    (latencies.rate ≡ rate) × (latencies.counts.items
-    ≡ histogram (loaded_for trial.room (load_of trial rate) (trial_routing trial cuts) trial.skip trial.cycles).latencies)
+pub record AreLatenciesOf (trial : Trial) (targets : List ℕ) (cuts : List WireEnd) (rate : ℕ) (latencies : Told)
+    : Type 0 where
+  pub load : Load
+  pub is : IsLoadOf trial targets rate load
+  pub rate_is : latencies.rate ≡ rate
+  pub are : latencies.counts.items
+      ≡ histogram (loaded_for trial.room load (trial_routing trial cuts) trial.skip trial.cycles).latencies

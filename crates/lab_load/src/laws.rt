@@ -11,10 +11,12 @@ ghost use Rattle.lab_load.specs.Tables.{load_line, spread_line};
 
 /// On four chips a place has six bits, on eight seven: of these places messages go to those, whatever is drawn.
 pub fn patterns_aim_so()
-    ensures halves { aimed pattern.Transpose 2 0 0b000_110 % 64 ≡ 0b110_000 }
-    ensures long_half { aimed pattern.Transpose 3 0 0b0001_011 % 128 ≡ 0b011_0001 }
-    ensures turned { aimed pattern.Reversal 2 0 0b000110 ≡ 0b011000 }
-    ensures hot { aimed pattern.HotSpot 2 0 0b10_1101 ≡ 0b1101 }
+    ensures halves { aimed pattern.Transpose [] 2 0 0b000_110 % 64 ≡ 0b110_000 }
+    ensures long_half { aimed pattern.Transpose [] 3 0 0b0001_011 % 128 ≡ 0b011_0001 }
+    ensures turned { aimed pattern.Reversal [] 2 0 0b000110 ≡ 0b011000 }
+    ensures hot { aimed pattern.HotSpot [] 2 0 0b10_1101 ≡ 0b1101 }
+    ensures own { aimed pattern.Own (7 ∷ 0 ∷ 5 ∷ []) 0 9 2 ≡ 5 }
+    ensures behind { aimed pattern.Own (7 ∷ 0 ∷ 5 ∷ []) 0 9 3 ≡ 0 }
 {}
 
 /// Of three messages, and of none: how long they took; and the line of a load.

@@ -1,6 +1,6 @@
 //! What is offered: who offers a message in which petit cycle, and to whom.
 
-ghost use Rattle.std.specs.Prelude.{◌≡◌, ◌+◌, ◌-◌, ◌*◌, ◌/◌, ◌%◌, ◌<◌, ◌≤◌, ◌^◌};
+ghost use Rattle.std.specs.Prelude.{◌≡◌, ◌+◌, ◌-◌, ◌*◌, ◌/◌, ◌%◌, ◌<◌, ◌≤◌, ◌^◌, slice_index};
 ghost use Rattle.std.specs.Int.{w32, reverse_bits};
 ghost use Rattle.lab_fresh.specs.Draws.{draw_of};
 ghost use Rattle.lab_load.specs.Offers.{places, draw_number, offers, background_number, pattern_for, aimed, target_of};
@@ -21,10 +21,12 @@ pub enum Pattern {
     Reversal,
     /// To the processor of the same number on chip 0.
     HotSpot,
+    /// By a list of one's own.
+    Own,
 }
 
 /// What is offered to a machine.
-#[derive(Clone, Copy, Debug, PartialEq, Eq)]
+#[derive(Debug, Drop)]
 pub struct Load {
     /// Of how many dimensions its cube is.
     pub dims: u8,
@@ -36,6 +38,8 @@ pub struct Load {
     /// In so many first petit cycles something is offered, and in none behind them.
     pub until: u32,
     pub seed: u64,
+    /// By place, to which place messages of it go by a list of one's own; to place 0 where it ends before.
+    pub targets: Vec<u64>,
 }
 
 impl Load {
@@ -71,7 +75,7 @@ impl Load {
     fn aimed(&self, t: u32, place: u32) -> u64
         requires dimension { self.now.dims ≤ 12 }
         requires place { place < 65536 }
-        ensures value { result ≡ aimed (pattern_for self.now t place) self.now.dims
+        ensures value { result ≡ aimed (pattern_for self.now t place) self.now.targets.items self.now.dims
             (draw_of self.now.seed (draw_number t place + 1)) place }
     {
         match self.pattern_for(t, place) {
@@ -79,6 +83,7 @@ impl Load {
             Pattern::Transpose => u64::from(transposed(self.dims, place)),
             Pattern::Reversal => u64::from(reversed(self.dims, place)),
             Pattern::HotSpot => u64::from(place % 16),
+            Pattern::Own => target_at(&self.targets, place),
         }
     }
 
@@ -102,6 +107,18 @@ fn draw_number(t: u32, place: u32) -> u64
     ensures early { result < 2 ^ 62 }
 {
     2 * (u64::from(t) * 65536 + u64::from(place))
+}
+
+/// The target of a place by a list; 0 where it ends before.
+fn target_at(targets: &[u64], place: u32) -> u64
+    ensures value { result ≡ slice_index targets.now place }
+{
+    let index = place as usize;
+    if index < targets.len() {
+        targets[index]
+    } else {
+        0
+    }
 }
 
 /// The number of the draw by which an offer of petit cycle t goes by the pattern or to a place that is drawn.

@@ -7,10 +7,8 @@ ghost use Rattle.cm_model.specs.Keeping.{AreSizes};
 ghost use Rattle.cm_router.specs.Routes.{routing_of};
 ghost use Rattle.lab_fresh.specs.Fresh.{is_stray};
 ghost use Rattle.lab_load.specs.declared.figures.Figures.{Figures};
-ghost use Rattle.lab_load.specs.Latencies.{histogram};
-ghost use Rattle.lab_load.specs.Loaded.{loaded_for};
 ghost use Rattle.lab_load.specs.Spreads.{seeded, AreSpreadsOf};
-ghost use Rattle.lab_load.specs.Trials.{is_counted, is_plain, load_of, trial_fault, trial_routing};
+ghost use Rattle.lab_load.specs.Trials.{is_counted, is_plain, trial_fault, trial_routing, IsLoadOf};
 ghost use Rattle.lab_load.specs.Trials.{AreFiguresOf, AreLatenciesOf};
 
 use crate::figures::{Figures, Period, measure, measure_latencies};
@@ -168,16 +166,23 @@ impl Trial {
         }
     }
 
-    /// The numbers of its load at this rate, on a machine of which the wires with these ends are cut.
-    pub fn figures(&self, alloc: Global, cuts: &[WireEnd], rate: u16) -> Result<Figures, LoadFault>
-        ensures value { IfOk result (λ figures. AreFiguresOf self.now cuts.now rate figures) }
+    /// The numbers of its load at this rate, with these targets of one's own, on a machine of which the wires with these
+    /// ends are cut.
+    pub fn figures(
+        &self,
+        alloc: Global,
+        targets: &[u64],
+        cuts: &[WireEnd],
+        rate: u16,
+    ) -> Result<Figures, LoadFault>
+        ensures value { IfOk result (λ figures. AreFiguresOf self.now targets.now cuts.now rate figures) }
         ensures accepted { IfOk result (λ figures. trial_fault self.now cuts.now (rate ∷ []) ≡ None) }
         ensures refused { IfErr result (λ fault. fault ≢ LoadFault.Memory
             → trial_fault self.now cuts.now (rate ∷ []) ≡ Some fault) }
     {
         match self.fault(cuts, &[rate]) {
             Some(fault) => Err(fault),
-            None => match self.measured(alloc, cuts, rate) {
+            None => match self.measured(alloc, targets, cuts, rate) {
                 Ok(figures) => Ok(figures),
                 Err(_) => Err(LoadFault::Memory),
             },
@@ -185,30 +190,42 @@ impl Trial {
     }
 
     /// How many messages of its load at this rate took how long, on such a machine.
-    pub fn latencies(&self, alloc: Global, cuts: &[WireEnd], rate: u16) -> Result<Latencies, LoadFault>
-        ensures value { IfOk result (AreLatenciesOf self.now cuts.now rate) }
+    pub fn latencies(
+        &self,
+        alloc: Global,
+        targets: &[u64],
+        cuts: &[WireEnd],
+        rate: u16,
+    ) -> Result<Latencies, LoadFault>
+        ensures value { IfOk result (AreLatenciesOf self.now targets.now cuts.now rate) }
         ensures refused { IfErr result (λ fault. fault ≢ LoadFault.Memory
             → trial_fault self.now cuts.now (rate ∷ []) ≡ Some fault) }
     {
         match self.fault(cuts, &[rate]) {
             Some(fault) => Err(fault),
-            None => match self.measured_latencies(alloc, cuts, rate) {
-                Ok(counts) => Ok(Latencies { rate, counts }),
+            None => match self.measured_latencies(alloc, targets, cuts, rate) {
+                Ok(latencies) => Ok(latencies),
                 Err(_) => Err(LoadFault::Memory),
             },
         }
     }
 
     /// The means and intervals of its loads of all seeds at this rate, on such a machine.
-    pub fn spreads(&self, alloc: Global, cuts: &[WireEnd], rate: u16) -> Result<Spreads, LoadFault>
+    pub fn spreads(
+        &self,
+        alloc: Global,
+        targets: &[u64],
+        cuts: &[WireEnd],
+        rate: u16,
+    ) -> Result<Spreads, LoadFault>
         requires some { 2 ≤ self.now.seeds }
-        ensures value { IfOk result (AreSpreadsOf self.now cuts.now rate) }
+        ensures value { IfOk result (AreSpreadsOf self.now targets.now cuts.now rate) }
         ensures refused { IfErr result (λ fault. fault ≢ LoadFault.Memory
             → trial_fault self.now cuts.now (rate ∷ []) ≡ Some fault) }
     {
         match self.fault(cuts, &[rate]) {
             Some(fault) => Err(fault),
-            None => match self.all_measured(alloc, cuts, rate) {
+            None => match self.all_measured(alloc, targets, cuts, rate) {
                 Ok(loads) => Ok(spreads_of(rate, &loads)),
                 Err(_) => Err(LoadFault::Memory),
             },
@@ -219,6 +236,7 @@ impl Trial {
     fn all_measured(
         &self,
         alloc: Global,
+        targets: &[u64],
         cuts: &[WireEnd],
         rate: u16,
     ) -> Result<Vec<Figures>, NoMemory>
@@ -228,61 +246,71 @@ impl Trial {
         requires skip { self.now.skip ≤ self.now.cycles }
         ensures count { IfOk result (λ loads. length loads.items ≡ self.now.seeds) }
         ensures each { IfOk result (λ loads. (k : ℕ) (d : Figures) → k < length loads.items
-            → AreFiguresOf (seeded self.now k) cuts.now rate (get_or loads.items k d)) }
+            → AreFiguresOf (seeded self.now k) targets.now cuts.now rate (get_or loads.items k d)) }
     {
         let mut loads = Vec::new(alloc);
         for k in 0..self.seeds {
-            let figures = self.seeded(k).measured(alloc, cuts, rate)?;
+            let figures = self.seeded(k).measured(alloc, targets, cuts, rate)?;
             push_load(&mut loads, figures)?;
         }
         Ok(loads)
     }
 
     /// The same, where all of it is in its range.
-    fn measured(&self, alloc: Global, cuts: &[WireEnd], rate: u16) -> Result<Figures, NoMemory>
+    fn measured(
+        &self,
+        alloc: Global,
+        targets: &[u64],
+        cuts: &[WireEnd],
+        rate: u16,
+    ) -> Result<Figures, NoMemory>
         requires sizes { AreSizes self.now.n self.now.room }
         requires wires { find (is_stray self.now.n) cuts.now ≡ None }
         requires few { self.now.cycles ≤ 1000000 }
         requires skip { self.now.skip ≤ self.now.cycles }
-        ensures value { IfOk result (λ figures. AreFiguresOf self.now cuts.now rate figures) }
+        ensures value { IfOk result (λ figures. AreFiguresOf self.now targets.now cuts.now rate figures) }
     {
-        let load = self.load(rate);
+        let load = self.load(alloc, targets, rate)?;
         let routing = self.routing(alloc, cuts)?;
-        measure(alloc, self.room as u8, &routing, &load, self.period())
+        let figures = measure(alloc, self.room as u8, &routing, &load, self.period())?;
+        Ok(figures)
     }
 
     /// The same of how long messages took.
     fn measured_latencies(
         &self,
         alloc: Global,
+        targets: &[u64],
         cuts: &[WireEnd],
         rate: u16,
-    ) -> Result<Vec<u64>, NoMemory>
+    ) -> Result<Latencies, NoMemory>
         requires sizes { AreSizes self.now.n self.now.room }
         requires wires { find (is_stray self.now.n) cuts.now ≡ None }
         requires few { self.now.cycles ≤ 1000000 }
         requires skip { self.now.skip ≤ self.now.cycles }
-        ensures value { IfOk result (λ counts. counts.items ≡ histogram (loaded_for self.now.room
-            (load_of self.now rate) (trial_routing self.now cuts.now) self.now.skip self.now.cycles).latencies) }
+        ensures value { IfOk result (AreLatenciesOf self.now targets.now cuts.now rate) }
     {
-        let load = self.load(rate);
+        let load = self.load(alloc, targets, rate)?;
         let routing = self.routing(alloc, cuts)?;
-        measure_latencies(alloc, self.room as u8, &routing, &load, self.period())
+        let counts = measure_latencies(alloc, self.room as u8, &routing, &load, self.period())?;
+        Ok(Latencies { rate, counts })
     }
 
-    /// Its load at a rate.
-    fn load(&self, rate: u16) -> Load
+    /// Its load at a rate, with these targets of one's own.
+    fn load(&self, alloc: Global, targets: &[u64], rate: u16) -> Result<Load, NoMemory>
         requires dimension { self.now.n ≤ 12 }
-        ensures value { result ≡ load_of self.now rate }
+        ensures value { IfOk result (IsLoadOf self.now targets.now rate) }
     {
-        Load {
+        let targets = Vec::from_slice(alloc, targets)?;
+        Ok(Load {
             dims: self.n as u8,
             pattern: self.pattern,
             background: self.background,
             rate,
             until: self.until,
             seed: self.seed,
-        }
+            targets,
+        })
     }
 
     /// Which of its petit cycles are told of.

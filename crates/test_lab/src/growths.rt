@@ -291,8 +291,8 @@ fn is_expanded(alloc: Global) -> bool {
 /// Whether a load has its line.
 fn is_measured(alloc: Global) -> Option<bool> {
     let wire = [WireEnd { chip: 0, dim: 0 }];
-    let figures = match TRIAL.figures(alloc, &wire, 200) {
-        Err(LoadFault::Memory) => TRIAL.figures(alloc, &wire, 200).ok()?,
+    let figures = match TRIAL.figures(alloc, &[], &wire, 200) {
+        Err(LoadFault::Memory) => TRIAL.figures(alloc, &[], &wire, 200).ok()?,
         figures => figures.ok()?,
     };
     let loads: [Figures; 1] = [figures];
@@ -300,8 +300,8 @@ fn is_measured(alloc: Global) -> Option<bool> {
         Err(NoMemory) => table(alloc, &loads).ok()?,
         Ok(told) => told,
     };
-    let means = match TRIAL.spreads(alloc, &wire, 200) {
-        Err(LoadFault::Memory) => TRIAL.spreads(alloc, &wire, 200).ok()?,
+    let means = match TRIAL.spreads(alloc, &[], &wire, 200) {
+        Err(LoadFault::Memory) => TRIAL.spreads(alloc, &[], &wire, 200).ok()?,
         means => means.ok()?,
     };
     let rates: [Spreads; 1] = [means];
