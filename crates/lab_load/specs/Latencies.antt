@@ -1,5 +1,5 @@
 -- How many messages took how long, and the table that tells it. Ours.
-use Rattle.std.specs.Prelude.{ℕ, ◌+◌, ◌/◌, ◌==◌, List, [], ◌∷◌, ◌++◌, codes, decimal, fold, length, max, slice_index}
+use Rattle.std.specs.Prelude.{ℕ, ◌+◌, ◌-◌, ◌/◌, ◌==◌, List, [], ◌∷◌, ◌++◌, codes, decimal, fold, length, max, slice_index}
 use Rattle.std.specs.List.{count_by, flat_map, range_with_len}
 use Rattle.cm_model.specs.Each.{tabulate}
 use Rattle.lab_load.specs.declared.latencies.Latencies.{Latencies}
@@ -10,9 +10,9 @@ use Rattle.lab_load.specs.Tables.{last_two}
 abbrev pub took : List ℕ → ℕ → ℕ
 took latencies k = count_by (λ x. x == k) latencies
 
--- how many took one petit cycle, two, and so on up to the most that one took
+-- how many took no petit cycle, one, two, and so on up to the most that one took
 unfoldable pub histogram : List ℕ → List ℕ
-histogram latencies = tabulate 0 (greatest_latency latencies) (λ k. took latencies (k + 1))
+histogram latencies = tabulate 0 (greatest_latency latencies + 1) (took latencies)
 
 -- ---- the table
 
@@ -24,18 +24,19 @@ rate_name load = codes ",rate " ++ decimal (load.rate / 100) ++ 46 ∷ [] ++ las
 unfoldable pub latency_header : List Latencies → List ℕ
 latency_header loads = codes "latency" ++ flat_map rate_name loads ++ 10 ∷ []
 
--- the number at a place of a load's counts, behind a comma
+-- how many took k petit cycles under a load, behind a comma
 abbrev pub took_cell : ℕ → Latencies → List ℕ
-took_cell i load = 44 ∷ decimal (slice_index load.counts.items i)
+took_cell k load = 44 ∷ decimal (slice_index load.counts.items k)
 
--- the line of this place, which is of one petit cycle more
+-- the line of k petit cycles
 unfoldable pub latency_line : List Latencies → ℕ → List ℕ
-latency_line loads i = decimal (i + 1) ++ flat_map (took_cell i) loads ++ 10 ∷ []
+latency_line loads k = decimal k ++ flat_map (took_cell k) loads ++ 10 ∷ []
 
--- the most petit cycles that a message took under any of these loads
+-- how many counts the longest of these loads has
 abbrev pub longest : List Latencies → ℕ
 longest loads = fold (λ most load. max most (length load.counts.items)) 0 loads
 
 -- the table: a line of names, and a line for each number of petit cycles from one on
 unfoldable pub latency_table_of : List Latencies → List ℕ
-latency_table_of loads = latency_header loads ++ flat_map (latency_line loads) (range_with_len 0 (longest loads))
+latency_table_of loads =
+    latency_header loads ++ flat_map (λ i. latency_line loads (i + 1)) (range_with_len 0 (longest loads - 1))

@@ -1,6 +1,6 @@
 //! How many messages took how long, and the table that tells it.
 
-ghost use Rattle.std.specs.Prelude.{◌≡◌, ℕ, ◌+◌, ◌==◌, ◌++◌, ◌<◌, ◌^◌, IfOk, OnOk, length, slice_index};
+ghost use Rattle.std.specs.Prelude.{◌≡◌, ℕ, ◌==◌, ◌++◌, ◌<◌, IfOk, OnOk, length, slice_index};
 ghost use Rattle.std.specs.List.{flat_map};
 ghost use Rattle.cm_bits.specs.Bit.{bit_number};
 ghost use Rattle.lab_load.specs.Crossings.{capped_sum};
@@ -18,7 +18,7 @@ use std::alloc::Global;
 pub struct Latencies {
     /// Hundredths of a message that a chip was to offer in a petit cycle.
     pub rate: u16,
-    /// How many took one petit cycle, two, and so on.
+    /// How many took no petit cycle, one, two, and so on.
     pub counts: Vec<u64>,
 }
 
@@ -26,7 +26,7 @@ pub struct Latencies {
 pub(crate) fn histogram(alloc: Global, latencies: &[u32]) -> Result<Vec<u64>, NoMemory>
     ensures value { IfOk result (λ counts. counts.items ≡ histogram latencies.now) }
 {
-    let mut counts = vec![in alloc; 0u64; greatest_of(latencies) as usize]?;
+    let mut counts = vec![in alloc; 0u64; greatest_of(latencies) as usize + 1]?;
     for latency in latencies {
         count_one(&mut counts, *latency);
     }
@@ -36,13 +36,12 @@ pub(crate) fn histogram(alloc: Global, latencies: &[u32]) -> Result<Vec<u64>, No
 /// Counts one that took so long.
 fn count_one(counts: &mut [u64], latency: u32)
     ensures value { (k : ℕ) → k < length counts.old
-        → slice_index counts.new k ≡ capped_sum (slice_index counts.old k) (bit_number (latency == k + 1)) }
+        → slice_index counts.new k ≡ capped_sum (slice_index counts.old k) (bit_number (latency == k)) }
 {
-    if latency == 0 || latency as usize > counts.len() {
-        return;
+    let index = latency as usize;
+    if index < counts.len() {
+        counts[index] = counts[index].saturating_add(1);
     }
-    let index = latency as usize - 1;
-    counts[index] = counts[index].saturating_add(1);
 }
 
 /// The table of these loads: a line of names, and a line for each number of petit cycles that a message took.
@@ -52,8 +51,8 @@ pub fn latency_table(alloc: Global, loads: &[Latencies]) -> Result<Vec<u8>, NoMe
 {
     let mut text = Vec::new(alloc);
     push_header(&mut text, loads)?;
-    for index in 0..longest(loads) {
-        push_line(&mut text, loads, index)?;
+    for index in 0..longest(loads).saturating_sub(1) {
+        push_line(&mut text, loads, index + 1)?;
     }
     Ok(text)
 }
@@ -87,7 +86,7 @@ fn push_name(text: &mut Vec<u8>, load: &Latencies) -> Result<(), NoMemory>
     push_last_two(text, u128::from(load.rate))
 }
 
-/// The most petit cycles that a message took under any of these loads.
+/// How many counts the longest of these loads has.
 fn longest(loads: &[Latencies]) -> usize
     ensures value { result ≡ longest loads.now }
 {
@@ -98,31 +97,30 @@ fn longest(loads: &[Latencies]) -> usize
     most
 }
 
-/// The line of a place, which is of one petit cycle more.
+/// The line of so many petit cycles.
 #[tactic(auto, unfolding(crate::specs::Latencies::latency_line))]
-fn push_line(text: &mut Vec<u8>, loads: &[Latencies], index: usize) -> Result<(), NoMemory>
-    requires few { index < 2 ^ 63 }
-    ensures ok { OnOk result (text.new.items ≡ text.old.items ++ latency_line loads.now index) }
+fn push_line(text: &mut Vec<u8>, loads: &[Latencies], cycles: usize) -> Result<(), NoMemory>
+    ensures ok { OnOk result (text.new.items ≡ text.old.items ++ latency_line loads.now cycles) }
 {
-    push_piece(text, b"", index + 1)?;
-    push_cells(text, loads, index)?;
+    push_piece(text, b"", cycles)?;
+    push_cells(text, loads, cycles)?;
     push_byte(text, b'\n')
 }
 
-/// The numbers of that place.
-fn push_cells(text: &mut Vec<u8>, loads: &[Latencies], index: usize) -> Result<(), NoMemory>
-    ensures ok { OnOk result (text.new.items ≡ text.old.items ++ flat_map (took_cell index) loads.now) }
+/// How many took so long under each load.
+fn push_cells(text: &mut Vec<u8>, loads: &[Latencies], cycles: usize) -> Result<(), NoMemory>
+    ensures ok { OnOk result (text.new.items ≡ text.old.items ++ flat_map (took_cell cycles) loads.now) }
 {
     for load in loads {
-        push_cell(text, load, index)?;
+        push_cell(text, load, cycles)?;
     }
     Ok(())
 }
 
-fn push_cell(text: &mut Vec<u8>, load: &Latencies, index: usize) -> Result<(), NoMemory>
-    ensures ok { OnOk result (text.new.items ≡ text.old.items ++ took_cell index load.now) }
+fn push_cell(text: &mut Vec<u8>, load: &Latencies, cycles: usize) -> Result<(), NoMemory>
+    ensures ok { OnOk result (text.new.items ≡ text.old.items ++ took_cell cycles load.now) }
 {
-    push_piece(text, b",", count_at(&load.counts, index))
+    push_piece(text, b",", count_at(&load.counts, cycles))
 }
 
 /// The number at a place, or 0.

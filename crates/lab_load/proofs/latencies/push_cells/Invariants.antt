@@ -5,4 +5,4 @@ use Rattle.lab_load.proofs.latencies.push_cells.Given as goal
 
 -- those of so many loads
 abbrev pub invariant-loop-load : goal.invariant-loop-load
-invariant-loop-load l = l.text.items ≡ l.fn.text.items ++ flat_map (took_cell l.index) (take l.load-index l.loads)
+invariant-loop-load l = l.text.items ≡ l.fn.text.items ++ flat_map (took_cell l.cycles) (take l.load-index l.loads)
