@@ -6,7 +6,8 @@ use cm_bits::NoMemory;
 use lab_args::Loads;
 use lab_fresh::{FreshFault, WireEnd, cut_wires};
 use lab_load::{
-    Figures, LoadFault, LoadTable, Spreads, Trial, crossing_table, dimension_table, spread_table, table,
+    Figures, LoadFault, LoadTable, Spreads, Trial, crossing_table, dimension_table, spread_table,
+    table,
 };
 use std::alloc::Global;
 use std::rt::Clock;

@@ -239,13 +239,7 @@ impl Trial {
             counting: self.table.is_counted(),
         };
         let routing = self.routing(alloc, cuts)?;
-        measure(
-            alloc,
-            self.room as u8,
-            &routing,
-            &load,
-            period,
-        )
+        measure(alloc, self.room as u8, &routing, &load, period)
     }
 
     /// How its machine routes.

@@ -26,10 +26,7 @@ table_kind number header =
     else (if has_names header (codes "chip,processor,taken,to chip,to processor,delivered,crossed,referred")
     then Ok Messages
     else (if has_names header (codes "rate,offered,taken,delivered,throughput,mean,p95,greatest,deepest")
-    then Ok Loads
-    else (if has_names header
-    (codes "rate,offered,taken,delivered,throughput,mean,p95,greatest,deepest,crossed,referred,refused,quiet")
-    then Ok Loads else (if is_of_rates header then compared number (width_of header) else Err (Unknown number)))))
+    then Ok Loads else (if is_of_rates header then compared number (width_of header) else Err (Unknown number))))
 
 -- a point of a column, where two numbers are there
 abbrev pub point_of : ℕ → Option ℕ → Option ℕ → List Point

@@ -57,12 +57,6 @@ pub(crate) fn kind_of(number: u64, header: &[u8]) -> Result<Kind, PlotFault>
     ) {
         return Ok(Kind::Loads);
     }
-    if has_names(
-        header,
-        b"rate,offered,taken,delivered,throughput,mean,p95,greatest,deepest,crossed,referred,refused,quiet",
-    ) {
-        return Ok(Kind::Loads);
-    }
     if is_of_rates(header) {
         return compared(number, width(header));
     }
