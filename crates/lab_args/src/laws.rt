@@ -114,9 +114,10 @@ pub fn lines_ask_for()
         })) }
     ensures load_with_options { request_of
         (codes "cm1lab" ∷ codes "load" ∷ codes "8" ∷ codes "7" ∷ codes "2" ∷ codes "400" ∷ codes "--until"
-        ∷ codes "10" ∷ codes "--pattern" ∷ codes "hotspot" ∷ codes "--background" ∷ codes "10" ∷ codes "--cut" ∷ codes "5" ∷ codes "0" ∷ codes "--seed"
-        ∷ codes "9" ∷ codes "--cut-random" ∷ codes "6" ∷ codes "--skip" ∷ codes "50" ∷ codes "--rule" ∷ codes "1"
-        ∷ codes "--seeds" ∷ codes "5" ∷ codes "--table" ∷ codes "dimensions" ∷ [])
+        ∷ codes "10" ∷ codes "--pattern" ∷ codes "hotspot" ∷ codes "--background" ∷ codes "10" ∷ codes "--cut"
+        ∷ codes "5" ∷ codes "0" ∷ codes "--seed" ∷ codes "9" ∷ codes "--cut-random" ∷ codes "6" ∷ codes "--skip"
+        ∷ codes "50" ∷ codes "--rule" ∷ codes "1" ∷ codes "--seeds" ∷ codes "5" ∷ codes "--table"
+        ∷ codes "dimensions" ∷ [])
         ≡ Ok (Load (record {
           trial = record {
             n = 8;

@@ -7,7 +7,7 @@ use Rattle.cm_model.specs.Buffers.{buffers_after_dimension, machine_after_inject
 use Rattle.cm_model.proofs.Cycles.{after_crossings-more}
 use Rattle.cm_petit.proofs.Cycling.{under_way, crossed_more}
 use Rattle.lab_load.specs.declared.crossings.Crossings.{Crossings}
-use Rattle.lab_load.specs.Crossings.{added, no_crossings, crossings_to, machine_before, crossings_through}
+use Rattle.lab_load.specs.Crossings.{crossings_added, no_crossings, crossings_to, machine_before, crossings_through}
 
 pub machine_before-is : (n cap : ℕ) (m : Machine) (d : ℕ) → machine_before n cap m d ≡ under_way n cap m d
 unfolding machine_before
@@ -27,9 +27,9 @@ before_more n cap m d was is =
 pub through_more : (n cap : ℕ) (m : Machine) (dims old : List Crossings) (d : ℕ) (entry more : Crossings)
     (buffers : List (List Message)) → old ≡ crossings_through n cap m dims d → entry ≡ get_or old d no_crossings
     → more ≡ crossings_to m.routing cap d buffers (2 ^ n) → buffers ≡ (machine_before n cap m d).buffers
-    → set old d (added entry more) ≡ crossings_through n cap m dims (d + 1)
+    → set old d (crossings_added entry more) ≡ crossings_through n cap m dims (d + 1)
 unfolding crossings_through
 through_more n cap m dims old d entry more buffers was reads counts stand =
-    (λ i. set old d (added (reads i) (counts i)))
-    ∙ ((λ i. set (was i) d (added (get_or (was i) d no_crossings) (crossings_to m.routing cap d (stand i) (2 ^ n))))
+    (λ i. set old d (crossings_added (reads i) (counts i)))
+    ∙ ((λ i. set (was i) d (crossings_added (get_or (was i) d no_crossings) (crossings_to m.routing cap d (stand i) (2 ^ n))))
     ∙ ap (λ (k : ℕ). crossings_through n cap m dims k) (sym (add-one d)))

@@ -60,7 +60,8 @@ module _ (n cap : ℕ) (load : Load) (routing : Routing) (chips asked_chips left
       → record { chips = asked_chips; sources = next; deepest = deeper }
       ≡ asking_after_places load t (record { chips = chips; sources = sources; deepest = deepest }) (places load.dims)
       → events_of emptied ≡ tabulate {X = List Event} 0 (2 ^ n) (λ c. [])
-      → machine_from_logs routing left crossed told ended ≡ after_act n cap (machine_from_logs routing asked_chips buffers emptied begun) Cycle
+      → machine_from_logs routing left crossed told ended
+      ≡ after_act n cap (machine_from_logs routing asked_chips buffers emptied begun) Cycle
       → begun ≡ t → ended ≡ begun + 1 → more ≡ injected_count (events_of told)
       → all ≡ latencies ++ latencies_in t (events_of told)
       → ready ≡ tabulate 0 (2 ^ n) (λ c. with_flag_plane (chip_at left c) RECV (bit 0))

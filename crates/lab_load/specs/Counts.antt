@@ -15,8 +15,8 @@ use Rattle.lab_load.specs.Crossings.{no_crossings, crossings_through}
 use Rattle.lab_load.specs.Loaded.{Loaded, asking_of, machine_asked, after_one, after_cycles, unloaded, untold}
 
 -- nothing was counted so far
-abbrev pub no_counts : Bool → Counts
-no_counts is_on = record { is_on = is_on; dims = replicate 12 no_crossings; quiet = 0 }
+abbrev pub nothing_counted : Bool → Counts
+nothing_counted is_on = record { is_on = is_on; dims = replicate 12 no_crossings; quiet = 0 }
 
 -- ---- one petit cycle
 
@@ -59,5 +59,5 @@ counts_after_cycles cap load loaded counts (suc cycles) =
 -- of a blank machine after so many petit cycles, those behind the first so many
 abbrev pub counts_for : Bool → ℕ → Load → Routing → ℕ → ℕ → Counts
 counts_for is_on cap load routing skip cycles =
-    counts_after_cycles cap load (untold (after_cycles cap load (unloaded load.dims routing) skip)) (no_counts is_on)
+    counts_after_cycles cap load (untold (after_cycles cap load (unloaded load.dims routing) skip)) (nothing_counted is_on)
     (cycles - skip)

@@ -21,8 +21,8 @@ abbrev pub capped_sum : ℕ → ℕ → ℕ
 capped_sum these more = min (these + more) (2 ^ 64 - 1)
 
 -- those of both
-abbrev pub added : Crossings → Crossings → Crossings
-added these more = record {
+abbrev pub crossings_added : Crossings → Crossings → Crossings
+crossings_added these more = record {
   crossed = capped_sum these.crossed more.crossed;
   referred = capped_sum these.referred more.referred;
   refused = capped_sum these.refused more.refused;
@@ -30,21 +30,21 @@ added these more = record {
 
 -- those of all dimensions
 abbrev pub in_all : List Crossings → Crossings
-in_all dims = fold added no_crossings dims
+in_all dims = fold crossings_added no_crossings dims
 
 -- ---- one chip
 
 -- a message that crossed dimension d had not to: it has to now
-abbrev pub is_referral : ℕ → Option Message → Bool
-is_referral d None = false
-is_referral d (Some m) = has_to_cross d m
+abbrev pub was_referred : ℕ → Option Message → Bool
+was_referred d None = false
+was_referred d (Some m) = has_to_cross d m
 
 -- those of a chip with this way and room for cap, where these stand, in dimension d: one that goes across, if one does,
 -- and those that have to and stay
 abbrev pub crossings_at : Way → ℕ → ℕ → List Message → Crossings
 crossings_at way cap d here = record {
   crossed = bit_number (is_some (outgoing way cap d here));
-  referred = bit_number (is_referral d (outgoing way cap d here));
+  referred = bit_number (was_referred d (outgoing way cap d here));
   refused = count_by (has_to_cross d) (without here (leaving_place way cap d here));
 }
 
@@ -54,7 +54,7 @@ crossings_at way cap d here = record {
 unfoldable pub crossings_to : Routing → ℕ → ℕ → List (List Message) → ℕ → Crossings
 crossings_to routing cap d buffers zero = no_crossings
 crossings_to routing cap d buffers (suc c) =
-    added (crossings_to routing cap d buffers c) (crossings_at (way_of routing c d) cap d (nth_or_nil buffers c))
+    crossings_added (crossings_to routing cap d buffers c) (crossings_at (way_of routing c d) cap d (nth_or_nil buffers c))
 
 -- ---- a petit cycle
 
@@ -70,7 +70,7 @@ crossings_in n cap machine d =
 
 -- those known by dimension, and more in dimension d
 abbrev pub with_crossings : List Crossings → ℕ → Crossings → List Crossings
-with_crossings dims d more = slice_set dims d (added (slice_index_or dims d no_crossings) more)
+with_crossings dims d more = slice_set dims d (crossings_added (slice_index_or dims d no_crossings) more)
 
 -- those known by dimension, and those of the first so many dimensions of a petit cycle
 unfoldable pub crossings_through : ℕ → ℕ → Machine → List Crossings → ℕ → List Crossings

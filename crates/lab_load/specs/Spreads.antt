@@ -10,7 +10,7 @@ use Rattle.lab_load.specs.declared.spreads.Spread.{Spread}
 use Rattle.lab_load.specs.declared.spreads.Spreads.{Spreads}
 use Rattle.lab_load.specs.declared.spreads.TheConstants.{QUANTILES}
 use Rattle.lab_load.specs.declared.trials.Trial.{Trial}
-use Rattle.lab_load.specs.Counts.{no_counts}
+use Rattle.lab_load.specs.Counts.{nothing_counted}
 use Rattle.lab_load.specs.Trials.{AreFiguresOf}
 
 -- the load of the seed that comes so many behind this one
@@ -70,7 +70,7 @@ figures_with throughput = record {
   most = None;
   greatest = 0;
   deepest = 0;
-  counts = no_counts false;
+  counts = nothing_counted false;
 }
 
 -- ---- all of them

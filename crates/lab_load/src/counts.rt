@@ -1,4 +1,4 @@
-//! What is counted of a load, if it is asked for: crossings by dimension, and petit cycles behind which nothing is left.
+//! What is counted of a load, if it is asked for: crossings by dimension, and petit cycles that leave nothing.
 
 ghost use Rattle.std.specs.Prelude.{◌≡◌, ◌+◌, ◌==◌, ◌^◌, ◌<◌, length};
 ghost use Rattle.std.specs.List.{list_all};
@@ -7,7 +7,7 @@ ghost use Rattle.cm_model.specs.Buffers.{after_act};
 ghost use Rattle.cm_router.specs.Routes.{routing_of};
 ghost use Rattle.cm_router.specs.Logs.{log_rooms_of, HaveLogRoom};
 ghost use Rattle.cm_petit.specs.Routers.{machine_from_logs, AreRouters};
-ghost use Rattle.lab_load.specs.Counts.{no_counts, with_crossed, is_quiet, with_quiet};
+ghost use Rattle.lab_load.specs.Counts.{nothing_counted, with_crossed, is_quiet, with_quiet};
 
 use crate::crossings::{Crossings, counted_cycle};
 use crate::sources::Source;
@@ -31,7 +31,7 @@ pub struct Counts {
 impl Counts {
     /// Nothing was counted so far.
     pub(crate) fn none(is_on: bool) -> Counts
-        ensures value { result ≡ no_counts is_on }
+        ensures value { result ≡ nothing_counted is_on }
     {
         Counts {
             is_on,
@@ -67,15 +67,7 @@ pub(crate) fn watched_cycle(
         cycle(sizes, routing, run, crossing, logs, clock);
         return;
     }
-    counted_cycle(
-        sizes,
-        routing,
-        run,
-        crossing,
-        logs,
-        clock,
-        &mut counts.dims,
-    );
+    counted_cycle(sizes, routing, run, crossing, logs, clock, &mut counts.dims);
 }
 
 /// Counts a petit cycle behind which this is left, if it is nothing.

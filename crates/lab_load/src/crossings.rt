@@ -8,7 +8,8 @@ ghost use Rattle.cm_model.specs.Buffers.{after_act};
 ghost use Rattle.cm_router.specs.Routes.{routing_of};
 ghost use Rattle.cm_router.specs.Logs.{log_rooms_of, HaveLogRoom};
 ghost use Rattle.cm_petit.specs.Routers.{machine_from_logs, AreRouters};
-ghost use Rattle.lab_load.specs.Crossings.{added, in_all, is_referral, crossings_at, crossings_to, crossings_through};
+ghost use Rattle.lab_load.specs.Crossings.{crossings_added, in_all, was_referred, crossings_at, crossings_to};
+ghost use Rattle.lab_load.specs.Crossings.{crossings_through};
 
 use cm_element::Run;
 use cm_message::{Event, Message, Rule};
@@ -37,7 +38,7 @@ impl Crossings {
 
     /// Those of both.
     fn added(self, more: Crossings) -> Crossings
-        ensures value { result ≡ added self more }
+        ensures value { result ≡ crossings_added self more }
     {
         Crossings {
             crossed: self.crossed.saturating_add(more.crossed),
@@ -93,7 +94,12 @@ pub(crate) fn counted_cycle(
 }
 
 /// Those of all chips in a dimension, before it is crossed.
-fn crossings_over(sizes: Shape, routing: &Routing, crossing: &mut RouterEngine, dim: u8) -> Crossings
+fn crossings_over(
+    sizes: Shape,
+    routing: &Routing,
+    crossing: &mut RouterEngine,
+    dim: u8,
+) -> Crossings
     requires cube { routing.now.cuts.dims ≡ sizes.dims }
     requires dim { dim < sizes.dims }
     requires count { length crossing.old.buffers ≡ 2 ^ sizes.dims }
@@ -136,7 +142,7 @@ fn crossings_at(room: u8, cut: bool, rule: Rule, here: &[Message], dim: u8) -> C
 /// Whether a message that crossed a dimension had not to.
 fn is_referral(dim: u8, leaver: Option<Message>) -> bool
     requires dim { dim < 12 }
-    ensures value { result ≡ is_referral dim leaver }
+    ensures value { result ≡ was_referred dim leaver }
 {
     match leaver {
         Some(message) => has_to_cross(dim, &message),

@@ -6,7 +6,7 @@ ghost use Rattle.cm_petit.specs.Routers.{AreRouters};
 ghost use Rattle.lab_load.specs.Offers.{places};
 ghost use Rattle.lab_load.specs.Loaded.{after_one, after_cycles};
 ghost use Rattle.lab_load.specs.Kept.{loaded_of};
-ghost use Rattle.lab_load.specs.Counts.{no_counts, counts_after, counts_after_cycles};
+ghost use Rattle.lab_load.specs.Counts.{nothing_counted, counts_after, counts_after_cycles};
 
 use crate::asking::ask_all;
 use crate::counts::{Counts, count_quiet, watched_cycle};
@@ -38,7 +38,7 @@ impl Told {
         ensures deepest { self.new.deepest ≡ 0 }
         ensures taken { self.new.taken ≡ 0 }
         ensures latencies { self.new.latencies.items ≡ [] }
-        ensures counts { self.new.counts ≡ no_counts counting }
+        ensures counts { self.new.counts ≡ nothing_counted counting }
     {
         self.deepest = 0;
         self.taken = 0;

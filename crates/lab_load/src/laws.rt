@@ -3,7 +3,7 @@
 ghost use Rattle.std.specs.Prelude.{◌≡◌, ◌%◌, [], ◌∷◌, codes, false, None, Some};
 ghost use Rattle.lab_load.specs.declared.offers.Pattern.TheVariants as pattern;
 ghost use Rattle.lab_load.specs.Offers.{aimed};
-ghost use Rattle.lab_load.specs.Counts.{no_counts};
+ghost use Rattle.lab_load.specs.Counts.{nothing_counted};
 ghost use Rattle.lab_load.specs.Figures.{greatest_latency, mean_of, most_of, throughput_of};
 ghost use Rattle.lab_load.specs.declared.spreads.Column.TheVariants.{Throughput};
 ghost use Rattle.lab_load.specs.Spreads.{quantile_of, half_squared, figures_with};
@@ -38,7 +38,7 @@ pub fn loads_are_told_so()
       most = Some 2;
       greatest = 5;
       deepest = 0;
-      counts = no_counts false;
+      counts = nothing_counted false;
     }) ≡ codes "0.50,51084,51083,51010,0.498,1.40,2,5,0\n" }
 {}
 

@@ -137,10 +137,7 @@ pub fn dimension_table(alloc: Global, n: u16, loads: &[Figures]) -> Result<Vec<u
 fn dimension_opening(alloc: Global) -> Result<Vec<u8>, NoMemory>
     ensures value { IfOk result (λ text. text.items ≡ dimension_header) }
 {
-    Ok(Vec::from_slice(
-        alloc,
-        b"rate,dimension,crossed,referred,refused\n",
-    )?)
+    Ok(Vec::from_slice(alloc, b"rate,dimension,crossed,referred,refused\n")?)
 }
 
 /// The lines of a load.

@@ -3,7 +3,7 @@ use Rattle.cm_model.specs.declared.message.Message.{Message}
 use Rattle.cm_model.specs.Array.{nth_or_nil}
 use Rattle.cm_model.specs.Wiring.{way_of}
 use Rattle.cm_router.specs.Routes.{routing_of}
-use Rattle.lab_load.specs.Crossings.{added, crossings_at, crossings_to}
+use Rattle.lab_load.specs.Crossings.{crossings_added, crossings_at, crossings_to}
 use Rattle.lab_load.proofs.crossings.crossings_over.Goals as goal
 
 pub loop-chip-init : goal.loop-chip-init
@@ -24,7 +24,7 @@ loop-chip-preserved c =
     c.crossings_at.ensures.value
     ∙ (λ i. crossings_at (record { cut = c.has-cut.ensures.value i; rule = c.args.routing.now.rule }) room d (here i)) in
     c.added-all.ensures.value
-    ∙ ((λ i. added (c.loop-chip.invariant i) (at i))
+    ∙ ((λ i. crossings_added (c.loop-chip.invariant i) (at i))
     ∙ ap (λ (k : ℕ). crossings_to routing room d buffers k) (sym (add-one chip)))
 
 pub returns-clause-value : goal.returns-clause-value
