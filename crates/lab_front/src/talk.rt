@@ -58,15 +58,7 @@ pub fn front<const N: usize, const CAP: usize, R: Runner<N, CAP>, I: Source, O: 
         let rest = &heard[place..];
         let len = line_len(rest, seen);
         if len < rest.len() {
-            match tell_line(
-                alloc,
-                &mut front,
-                machine,
-                runner,
-                &rest[..len],
-                &mut answers,
-                out,
-            ) {
+            match front.tell_line(alloc, machine, runner, &rest[..len], &mut answers, out) {
                 Ok(()) => {}
                 Err(fault) => return Err(fault),
             }
@@ -96,15 +88,7 @@ pub fn front<const N: usize, const CAP: usize, R: Runner<N, CAP>, I: Source, O: 
         return Ok(());
     }
     // the end of the bytes ends the line that is open
-    match tell_line(
-        alloc,
-        &mut front,
-        machine,
-        runner,
-        heard.as_slice(),
-        &mut answers,
-        out,
-    ) {
+    match front.tell_line(alloc, machine, runner, heard.as_slice(), &mut answers, out) {
         Ok(()) => {}
         Err(fault) => return Err(fault),
     }
@@ -123,41 +107,44 @@ fn is_too_much(bytes: usize, taken: u64) -> bool
     bytes > LIMIT || taken >= ALL
 }
 
-/// Does a line, and its answer is gathered.
-fn tell_line<const N: usize, const CAP: usize, R: Runner<N, CAP>, O: Sink>(
-    alloc: Global,
-    front: &mut FrontEnd,
-    machine: &mut Machine<N, CAP>,
-    runner: &mut R,
-    line: &[u8],
-    answers: &mut BufferedOutput,
-    out: &mut O,
-) -> Result<(), SessionFault>
-    requires runner { R.ready }
-    requires writer { O.has_failed out.old ≡ false }
-    requires room { answered_bytes answers.old + 2 ^ 64 < 2 ^ 128 }
-    ensures front { OnOk result (front_of machine.new.machine front.new
-        ≡ (front_after_line N CAP (front_of machine.old.machine front.old) line.now).front) }
-    ensures written { OnOk result (Appends (with_gathered (O.contents out.old) answers.old)
-        (with_gathered (O.contents out.new) answers.new)
-        (front_after_line N CAP (front_of machine.old.machine front.old) line.now).answer) }
-    ensures count { OnOk result (answered_bytes answers.new ≡ answered_bytes answers.old
-        + length (front_after_line N CAP (front_of machine.old.machine front.old) line.now).answer) }
-    ensures few { OnOk result (answered_bytes answers.new ≤ answered_bytes answers.old + 2 ^ 64) }
-    ensures err { IfErr result (LineAborts N CAP (front_of machine.old.machine front.old) line.now answers.old.sent
-        answers.old.bytes.items (O.contents out.old) machine.new.machine (O.contents out.new)) }
-    ensures failed { O.has_failed out.new ≡ is_write result }
-    ensures thread { OnOk result (R.threads_lacked runner.new ≡ R.threads_lacked runner.old) }
-    ensures no_thread { IsErrOf result SessionFault.NoThread
-        → R.threads_lacked runner.new ≡ one_more_lacked (R.threads_lacked runner.old) }
-    ensures memory { IsErrOf result SessionFault.Memory → R.threads_lacked runner.new ≡ R.threads_lacked runner.old }
-{
-    match front.tell(alloc, machine, runner, line, &mut answers.line) {
-        Ok(()) => match answers.add_line(out) {
-            Ok(()) => Ok(()),
-            Err(cut) => Err(SessionFault::Write(cut.0)),
-        },
-        Err(want) => Err(give_up(answers, want, out)),
+impl FrontEnd {
+    /// Does a line, and its answer is gathered.
+    fn tell_line<const N: usize, const CAP: usize, R: Runner<N, CAP>, O: Sink>(
+        &mut self,
+        alloc: Global,
+        machine: &mut Machine<N, CAP>,
+        runner: &mut R,
+        line: &[u8],
+        answers: &mut BufferedOutput,
+        out: &mut O,
+    ) -> Result<(), SessionFault>
+        requires runner { R.ready }
+        requires writer { O.has_failed out.old ≡ false }
+        requires room { answered_bytes answers.old + 2 ^ 64 < 2 ^ 128 }
+        ensures front { OnOk result (front_of machine.new.machine self.new
+            ≡ (front_after_line N CAP (front_of machine.old.machine self.old) line.now).front) }
+        ensures written { OnOk result (Appends (with_gathered (O.contents out.old) answers.old)
+            (with_gathered (O.contents out.new) answers.new)
+            (front_after_line N CAP (front_of machine.old.machine self.old) line.now).answer) }
+        ensures count { OnOk result (answered_bytes answers.new ≡ answered_bytes answers.old
+            + length (front_after_line N CAP (front_of machine.old.machine self.old) line.now).answer) }
+        ensures few { OnOk result (answered_bytes answers.new ≤ answered_bytes answers.old + 2 ^ 64) }
+        ensures err { IfErr result (LineAborts N CAP (front_of machine.old.machine self.old) line.now
+            answers.old.sent answers.old.bytes.items (O.contents out.old) machine.new.machine (O.contents out.new)) }
+        ensures failed { O.has_failed out.new ≡ is_write result }
+        ensures thread { OnOk result (R.threads_lacked runner.new ≡ R.threads_lacked runner.old) }
+        ensures no_thread { IsErrOf result SessionFault.NoThread
+            → R.threads_lacked runner.new ≡ one_more_lacked (R.threads_lacked runner.old) }
+        ensures memory { IsErrOf result SessionFault.Memory
+            → R.threads_lacked runner.new ≡ R.threads_lacked runner.old }
+    {
+        match self.tell(alloc, machine, runner, line, &mut answers.line) {
+            Ok(()) => match answers.add_line(out) {
+                Ok(()) => Ok(()),
+                Err(cut) => Err(SessionFault::Write(cut.0)),
+            },
+            Err(want) => Err(give_up(answers, want, out)),
+        }
     }
 }
 

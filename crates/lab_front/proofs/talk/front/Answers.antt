@@ -84,7 +84,7 @@ loop-front-preserved-then-len-rest g c =
           (a_line_on heard so.given rest line place len is refl inside (c.line_len-len.ensures.ends inside)) so.consumed;
       told = told_line g.row.N g.row.CAP c.args.machine.now.machine (g.O.Sink.contents c.args.out.now) so.done
           (front_of c.loop-front.machine.machine c.loop-front.front)
-          (front_of c.tell_line.new.machine.machine c.tell_line.new.front) (g.O.Sink.contents c.loop-front.out)
+          (front_of c.tell_line.new.machine.machine c.tell_line.new.self) (g.O.Sink.contents c.loop-front.out)
           (g.O.Sink.contents c.tell_line.new.out) c.loop-front.answers.sent c.tell_line.new.answers.sent
           c.loop-front.answers.bytes.items c.tell_line.new.answers.bytes.items line so.told ended.front ended.written
           ended.count;
@@ -277,7 +277,7 @@ returns-in-Ok-send-2-clause-ends g c =
     let len = c.line_len-len.result in
     let now = c.hear.new.heard.items in
     let front = front_of c.loop-front.machine.machine c.loop-front.front in
-    let last = front_of c.tell_line-2.new.machine.machine c.tell_line-2.new.front in
+    let last = front_of c.tell_line-2.new.machine.machine c.tell_line-2.new.self in
     let out_before = g.O.Sink.contents c.args.out.now in
     let start = c.args.machine.now.machine in
     let more = c.in-Ok-hear.ensures.ok in
@@ -333,7 +333,7 @@ returns-clause-ends g c =
     let len = c.line_len-len.result in
     let now = c.hear.new.heard.items in
     let front = front_of c.loop-front.machine.machine c.loop-front.front in
-    let last = front_of c.tell_line-2.new.machine.machine c.tell_line-2.new.front in
+    let last = front_of c.tell_line-2.new.machine.machine c.tell_line-2.new.self in
     let out_before = g.O.Sink.contents c.args.out.now in
     let start = c.args.machine.now.machine in
     let more = c.in-Ok-hear.ensures.ok in
