@@ -2,14 +2,15 @@
 
 ghost use Rattle.std.specs.Thread.{IsSync};
 
-use crate::gates::{Listed, NOBODY, gate_of, listed, no_calls};
+use crate::gates::{Calls, Listed, NOBODY, gate_of, listed, no_calls};
 use crate::rows::sent_on;
 use cm_array::Machine;
 use cm_bits::{Dir, FlagNo};
 use cm_model::Act;
 use cm_resident::Chooser;
+use cm_workers::Passage;
 use std::alloc::Global;
-use std::sync::Wait;
+use std::sync::{Arc, Wait};
 use std::test::Fail;
 use std::thread::Threads;
 use test_generators::{flag, poke_plane};
@@ -120,6 +121,23 @@ fn machine_of(alloc: Global, asking: u16) -> Option<Machine<12, 7>> {
     Some(machine)
 }
 
+/// What a machine tells that a program's runner takes through these acts.
+fn run_by_chooser<R: Threads + Wait + Sync>(
+    rt: &R,
+    alloc: Global,
+    passage: Passage,
+    machine: &mut Machine<12, 7>,
+    acts: &[Act],
+    calls: &Arc<Calls, Global>,
+) -> Option<Listed>
+    requires threads { IsSync R.row }
+{
+    let Ok(mut runner) = Chooser::new::<12>(rt, alloc, 2, 4, passage) else {
+        return None;
+    };
+    listed(&mut runner, alloc, machine, acts, 4096, calls)
+}
+
 /// What a machine tells that goes through a list.
 fn chosen<R: Threads + Wait + Sync>(
     rt: &R,
@@ -132,10 +150,7 @@ fn chosen<R: Threads + Wait + Sync>(
     let acts = list_of(alloc, choice.kind, choice.count)?;
     let calls = no_calls(alloc)?;
     let passage = gate_of(alloc, NOBODY, &calls)?;
-    let Ok(mut runner) = Chooser::new::<12>(rt, alloc, 2, 4, passage) else {
-        return None;
-    };
-    listed(&mut runner, alloc, machine, &acts, 4096, &calls)
+    run_by_chooser(rt, alloc, passage, machine, &acts, &calls)
 }
 
 /// The same of a machine of its own.

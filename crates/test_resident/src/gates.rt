@@ -224,23 +224,58 @@ fn a_worker_that_is_not_admitted_leaves_the_machine_as_it_was_and_may_be_admitte
     Ok(())
 }
 
-/// What a petit cycle of two chips tells, which a runner of four workers for sixteen chips runs.
+/// What a petit cycle of two chips tells, which four workers for sixteen chips run, who are joined at each round.
+fn cycle_of_forked<R: Threads + Wait>(
+    rt: &R,
+    alloc: Global,
+    passage: Passage,
+    machine: &mut Machine<1, 7>,
+    calls: &Arc<Calls, Global>,
+) -> Option<Listed>
+    requires threads { IsSync R.row }
+{
+    let mut forked = Forked::new::<4>(rt, alloc, 2, 4, passage).ok()?;
+    listed(&mut forked, alloc, machine, &[Act::Cycle], 2, calls)
+}
+
+/// The same by four that run on.
+fn cycle_of_resident<R: Threads + Wait + Sync>(
+    rt: &R,
+    alloc: Global,
+    passage: Passage,
+    machine: &mut Machine<1, 7>,
+    calls: &Arc<Calls, Global>,
+) -> Option<Listed>
+    requires threads { IsSync R.row }
+{
+    let mut resident = Resident::new::<4>(rt, alloc, 2, 4, passage).ok()?;
+    listed(&mut resident, alloc, machine, &[Act::Cycle], 2, calls)
+}
+
+/// The same by either, of a machine that is lent to them.
+fn cycle_of_two<R: Threads + Wait + Sync>(
+    rt: &R,
+    alloc: Global,
+    kind: Kind,
+    machine: &mut Machine<1, 7>,
+    calls: &Arc<Calls, Global>,
+) -> Option<Listed>
+    requires threads { IsSync R.row }
+{
+    let passage = gate_of(alloc, NOBODY, calls)?;
+    match kind {
+        Kind::Forked => cycle_of_forked(rt, alloc, passage, machine, calls),
+        Kind::Resident => cycle_of_resident(rt, alloc, passage, machine, calls),
+    }
+}
+
+/// The same of a machine of its own.
 fn of_two_chips<R: Threads + Wait + Sync>(rt: &R, alloc: Global, kind: Kind) -> Option<Listed>
     requires threads { IsSync R.row }
 {
     let calls = no_calls(alloc)?;
-    let passage = gate_of(alloc, NOBODY, &calls)?;
     let mut machine = Machine::<1, 7>::blank(alloc).ok()?;
-    match kind {
-        Kind::Forked => {
-            let mut forked = Forked::new::<4>(rt, alloc, 2, 4, passage).ok()?;
-            listed(&mut forked, alloc, &mut machine, &[Act::Cycle], 2, &calls)
-        }
-        Kind::Resident => {
-            let mut resident = Resident::new::<4>(rt, alloc, 2, 4, passage).ok()?;
-            listed(&mut resident, alloc, &mut machine, &[Act::Cycle], 2, &calls)
-        }
-    }
+    cycle_of_two(rt, alloc, kind, &mut machine, &calls)
 }
 
 #[test]
@@ -278,13 +313,24 @@ impl Gate for Slow {
 }
 
 /// How four workers that run on end a petit cycle, and whether the machine is then as one thread leaves it.
-fn woken<R: Threads + Wait + Sync>(rt: &R, alloc: Global) -> Option<(Option<RunFault>, bool)>
+fn woken_for<R: Threads + Wait + Sync>(
+    rt: &R,
+    alloc: Global,
+    machine: &mut Machine<4, 7>,
+) -> Option<(Option<RunFault>, bool)>
     requires threads { IsSync R.row }
 {
     let passage = Passage::Gated(Box::new(alloc, Slow).ok()?);
     let mut resident = Resident::new::<4>(rt, alloc, 2, 4, passage).ok()?;
+    run_beside_plain(&mut resident, alloc, machine, &[Act::Cycle], 16)
+}
+
+/// The same of a machine of their own.
+fn woken<R: Threads + Wait + Sync>(rt: &R, alloc: Global) -> Option<(Option<RunFault>, bool)>
+    requires threads { IsSync R.row }
+{
     let mut machine = asking(alloc)?;
-    run_beside_plain(&mut resident, alloc, &mut machine, &[Act::Cycle], 16)
+    woken_for(rt, alloc, &mut machine)
 }
 
 #[test]

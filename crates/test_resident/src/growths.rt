@@ -77,16 +77,42 @@ fn is_as_forked_have_to_be(refused: Option<Listed>, last: Listed) -> bool {
     last == ((None, true), (asked + 2, passed.saturating_add(256)))
 }
 
+/// What two workers tell that are joined at each round.
+fn told_by_forked<R: Threads + Wait>(
+    rt: &R,
+    alloc: Global,
+    machine: &mut Machine<4, 7>,
+    calls: &Arc<Calls, Global>,
+) -> Option<(Option<Listed>, Listed)>
+    requires threads { IsSync R.row }
+{
+    let passage = gate_of(alloc, NOBODY, calls)?;
+    let mut forked = Forked::new::<4>(rt, alloc, 2, 2, passage).ok()?;
+    told_by(&mut forked, alloc, machine, calls)
+}
+
+/// What two tell that run on.
+fn told_by_resident<R: Threads + Wait + Sync>(
+    rt: &R,
+    alloc: Global,
+    machine: &mut Machine<4, 7>,
+    calls: &Arc<Calls, Global>,
+) -> Option<(Option<Listed>, Listed)>
+    requires threads { IsSync R.row }
+{
+    let passage = gate_of(alloc, NOBODY, calls)?;
+    let mut resident = Resident::new::<4>(rt, alloc, 2, 2, passage).ok()?;
+    told_by(&mut resident, alloc, machine, calls)
+}
+
 /// Whether two workers that are joined at each round go through the program of messages as one thread does, perhaps
 /// when they are asked once more.
 fn forked_go<R: Threads + Wait>(rt: &R, alloc: Global) -> Option<bool>
     requires threads { IsSync R.row }
 {
     let calls = no_calls(alloc)?;
-    let passage = gate_of(alloc, NOBODY, &calls)?;
-    let mut forked = Forked::new::<4>(rt, alloc, 2, 2, passage).ok()?;
     let mut machine = Machine::<4, 7>::blank(alloc).ok()?;
-    let (refused, last) = told_by(&mut forked, alloc, &mut machine, &calls)?;
+    let (refused, last) = told_by_forked(rt, alloc, &mut machine, &calls)?;
     Some(is_as_forked_have_to_be(refused, last) && has_one_of_four(alloc, &machine))
 }
 
@@ -95,10 +121,8 @@ fn workers_go<R: Threads + Wait + Sync>(rt: &R, alloc: Global) -> Option<bool>
     requires threads { IsSync R.row }
 {
     let calls = no_calls(alloc)?;
-    let passage = gate_of(alloc, NOBODY, &calls)?;
-    let mut resident = Resident::new::<4>(rt, alloc, 2, 2, passage).ok()?;
     let mut machine = Machine::<4, 7>::blank(alloc).ok()?;
-    let (refused, last) = told_by(&mut resident, alloc, &mut machine, &calls)?;
+    let (refused, last) = told_by_resident(rt, alloc, &mut machine, &calls)?;
     Some(is_as_it_has_to_be(refused, last) && has_one_of_four(alloc, &machine))
 }
 

@@ -183,6 +183,23 @@ pub(crate) fn no_notes(alloc: Global) -> Result<Arc<Notes, Global>, Fail> {
 /// Which workers meet: of which kind, who waits for whom, and how many there are.
 type Met = (Kind, Waits, u16);
 
+/// A gate of workers that wait so, in front of four blocks of four chips.
+fn passage_of(
+    alloc: Global,
+    waits: Waits,
+    workers: u16,
+    notes: &Arc<Notes, Global>,
+) -> Result<Passage, Fail> {
+    let gate = Meeting {
+        waits,
+        workers,
+        cut: FOUR,
+        notes: Arc::try_clone(notes)?,
+        letters: Some(letters_at_rounds(alloc)?),
+    };
+    Ok(Passage::Gated(Box::new(alloc, gate)?))
+}
+
 /// Whether workers that wait so go through the program of messages as one thread, and the messages are where they
 /// should be then.
 fn meet<R: Threads + Wait + Sync>(
@@ -195,15 +212,8 @@ fn meet<R: Threads + Wait + Sync>(
     requires threads { IsSync R.row }
 {
     let (kind, waits, workers) = met;
-    let gate = Meeting {
-        waits,
-        workers,
-        cut: FOUR,
-        notes: Arc::try_clone(notes)?,
-        letters: Some(letters_at_rounds(alloc)?),
-    };
-    let passage = Passage::Gated(Box::new(alloc, gate)?);
     let mut machine = Machine::<4, 7>::blank(alloc)?;
+    let passage = passage_of(alloc, waits, workers, notes)?;
     let share = Share { k: 2, workers };
     let ran = run_by(rt, alloc, kind, share, passage, &mut machine, acts, 16);
     Ok(ran == Some((None, true)) && has_one_of_four(alloc, &machine))

@@ -112,6 +112,16 @@ impl Image {
             Image::Cut(rule) => dump(alloc, &cut_in_two_places(alloc, rule)?).ok(),
         }
     }
+
+    fn opened(self, alloc: Global) -> Option<AnyMachine> {
+        let bytes = self.bytes(alloc)?;
+        open_image(alloc, &bytes).ok()
+    }
+}
+
+/// Lets a machine go, in a function of its own: its proof goes through each size.
+fn let_go(machine: AnyMachine) {
+    on_machine!(machine, machine => drop(machine));
 }
 
 /// The image of what a session by this runner leaves of a machine.
@@ -141,11 +151,10 @@ fn kept_alone<I: Source, O: Sink>(
     requires reader { I.has_failed commands.old ≡ false }
     requires writer { O.has_failed answers.old ≡ false }
 {
-    let image = row.image.bytes(alloc)?;
     let program = assemble(alloc, row.text).ok()?;
-    let mut machine = open_image(alloc, &image).ok()?;
+    let mut machine = row.image.opened(alloc)?;
     let kept = image_by(alloc, Alone, &mut machine, &program, commands, answers);
-    on_machine!(machine, machine => drop(machine));
+    let_go(machine);
     kept
 }
 
@@ -209,10 +218,9 @@ fn kept_shared<R: Threads + Wait + Sync, I: Source, O: Sink>(
     requires reader { I.has_failed commands.old ≡ false }
     requires writer { O.has_failed answers.old ≡ false }
 {
-    let image = row.image.bytes(alloc)?;
-    let mut machine = open_image(alloc, &image).ok()?;
+    let mut machine = row.image.opened(alloc)?;
     let kept = image_by_all(rt, alloc, row, passage, &mut machine, commands, answers);
-    on_machine!(machine, machine => drop(machine));
+    let_go(machine);
     kept
 }
 
