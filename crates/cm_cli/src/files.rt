@@ -135,9 +135,14 @@ fn run_any<S: SessionRunner, H: System, I: Source, O: Sink>(
         commands,
         answers,
     );
-    // Taken apart, since the borrow checker counts each variant where one of another crate is dropped as it stands.
-    on_machine!(machine, machine => drop(machine));
+    let_go(machine);
     ended
+}
+
+/// Lets a machine go. It is taken apart, since the borrow checker counts each variant where one of another crate is
+/// dropped as it stands; and here, since a proof goes through each of its sizes with all that the function owns.
+fn let_go(machine: AnyMachine) {
+    on_machine!(machine, machine => drop(machine));
 }
 
 /// The same on a machine that is lent to it.
