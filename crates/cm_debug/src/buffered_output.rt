@@ -1,6 +1,6 @@
 //! Answers on their way to a sink: those of many lines go out in one write.
 
-ghost use Rattle.std.specs.Prelude.{◌≡◌, ◌+◌, ◌<◌, ◌^◌, ◌++◌, [], false, length, is_err, OnOk, IfErr, Err};
+ghost use Rattle.std.specs.Prelude.{◌≡◌, ◌+◌, ◌<◌, ◌≤◌, ◌^◌, ◌++◌, [], false, length, is_err, OnOk, IfErr, Err};
 ghost use Rattle.std.specs.Prelude.{if◌then◌else◌};
 ghost use Rattle.std.specs.Io.KnownBytes.{Appends};
 ghost use Rattle.cm_session.specs.Ends.{is_session_no_thread, is_write};
@@ -53,6 +53,7 @@ impl BufferedOutput {
         ensures err { IfErr result (λ cut. IsShortWriteAfter self.old.sent (self.old.bytes.items ++ self.old.line.items)
             (O.contents out.old) (O.contents out.new) cut.0) }
         ensures failed { O.has_failed out.new ≡ is_err result }
+        ensures few { length self.old.bytes.items ≤ 65536 → OnOk result (length self.new.bytes.items ≤ 65536) }
     {
         if self.takes_line() {
             return Ok(());
@@ -76,6 +77,7 @@ impl BufferedOutput {
             ≡ (if result then self.old.bytes.items ++ self.old.line.items else self.old.bytes.items) }
         ensures line { self.new.line.items ≡ self.old.line.items }
         ensures sent { self.new.sent ≡ self.old.sent }
+        ensures few { length self.old.bytes.items ≤ 65536 → length self.new.bytes.items ≤ 65536 }
     {
         self.line.len() <= ROOM.saturating_sub(self.bytes.len())
             && self.bytes.extend_from_slice(&self.line).is_ok()
