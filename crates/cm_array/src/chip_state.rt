@@ -174,7 +174,8 @@ pub(crate) fn blank_logs(alloc: Global, count: usize) -> Result<Vec<Vec<Event>>,
     Ok((0..count).map(|_| Vec::new(alloc)).collect(alloc)?)
 }
 
-/// Makes logs the same as others, in the room that they have or in more.
+/// Makes logs the same as others, in the room that they have or in more: those of a part, which may have taken over the
+/// room of an earlier part (`part_in`). Where memory is refused the first of them are the same already.
 pub(crate) fn lay_logs(logs: &mut [Vec<Event>], others: &[Vec<Event>]) -> Result<(), NoMemory>
     requires count { length others.now ≡ length logs.old }
     ensures value { OnOk result (events_of logs.new ≡ events_of others.now) }
