@@ -125,6 +125,8 @@ fn push_event(text: &mut Vec<u8>, event: &Event) -> Result<(), AllocError>
     }
 }
 
+/// A line that tells a message behind a word: `msg` where it stands, `in` where it was injected, `out` where it was
+/// delivered.
 #[tactic(auto, unfolding(cm_session::specs::Answer::line))]
 fn push_message(text: &mut Vec<u8>, word: &[u8], message: &Message) -> Result<(), AllocError>
     ensures ok { OnOk result (text.new.items ≡ text.old.items ++ line (message_words word.now message.now)) }
