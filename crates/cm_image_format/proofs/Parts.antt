@@ -155,10 +155,12 @@ pub record IsListed (least : ℕ) (x : Listed) : Type 0 where
   pub fits : x.plane < 2 ^ 16
   pub some : (x.plane == 0) ≡ false
 
+-- a check that tells `Value` where b holds, and else `Order` where c holds, tells nothing where neither holds
 pub value_pass : (b c : Bool) → b ≡ false → c ≡ false
     → ◌≡◌ {A = Option ImageFault} (if b then Some Value else if c then Some Order else None) None
 value_pass b c p q = rw (p, q) refl
 
+-- and where it tells nothing neither holds
 pub value_hold : (b c : Bool) → ◌≡◌ {A = Option ImageFault}
     (if b then Some Value else if c then Some Order else None) None → (b ≡ false) × (c ≡ false)
 value_hold true c is = absurd (cc)
