@@ -51,6 +51,7 @@ ends_are_wires c d chip dim = record { dim = dim; chip = omega (arith, chip); lo
 
 -- ---- many
 
+-- the wires with one end more are those with the ends before it, and the wire of that end: a turn of the loop of `cut`
 pub wires_more : (ends : List WireEnd) (wires : List Wire) (i : ℕ) (d : WireEnd) → i < length ends
     → wires_with wires (take (suc i) ends)
     ≡ with_wire (wire_of (get_or ends i d).chip (get_or ends i d).dim) (wires_with wires (take i ends))
