@@ -107,7 +107,8 @@ module _ (order : Order) (d room at : ℕ) (slots : ℕ → ℕ) (xs : List ℕ)
 -- slots of which so many are looked at: all for which there is room, or more than are taken
 module _ (d room reach : ℕ) (slots : ℕ → ℕ) (xs : List ℕ) (are : AreSlots slots xs) (some : 0 < reach)
     (less : reach ≤ room) (most : room ≤ 15) (fits : length xs ≤ reach) (full : length xs ≡ reach → reach ≡ room) where
-  -- in the order of arrival: who leaves as it arrives across, and who stays
+  -- in the order of arrival: the first that has to cross goes, or the last of a full chip. It is written down as it
+  -- arrives across, and the others close up. `Tile::let_leave` cites this.
   pub has_gone : (here leaver : ℕ) (left : ℕ → ℕ) → IsCarried (leaver_in d (reach - 1) slots) slots here left
       → leaver ≡ slot_across d here → HasTicketLeft Arrival room d xs leaver left
   unfolding place_of_leaver
