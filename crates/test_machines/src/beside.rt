@@ -224,6 +224,8 @@ fn stay_plain_in_rounds<const N: usize, const CAP: usize>(
     Some(was_full)
 }
 
+/// One round: both are poked, and go through a drawn list of acts. Whether they are the same afterwards; None where
+/// memory was refused.
 fn stay_plain_in_round<const N: usize, const CAP: usize>(
     alloc: Global,
     both: &mut Both<N, CAP>,
