@@ -33,7 +33,7 @@ memory_bit_put memory flags stride chips c p a word b rows here below p_below is
     (λ q h. is q h ∙ ap (λ (w : ℕ). if q == p then b else bit w q) old)
     ∙ ap (λ v. with_memory_bit v p a b) (sym (chip_at-chips_of memory flags stride chips c here)))
 
--- one bit where an address has a row of its own
+-- one bit where an address has a row of its own: `index` is where the word of chip c lies in all words
 pub slot_bit_put : (words slots flags : List ℕ) (capacity used stride chips c p a index word : ℕ) (b : Bool)
     → AreMemorySlots words capacity slots used stride → AreRows (spread words slots stride) flags stride chips
     → c < chips → a < 4096 → 0 < get_or slots a 0 → p < 16 → c < stride
