@@ -1,6 +1,6 @@
 //! What a chip has told, to be read.
 
-ghost use Rattle.std.specs.Prelude.{◌≡◌, ◌≤◌, ◌++◌, ◌==◌, IfSome, OnOk, length};
+ghost use Rattle.std.specs.Prelude.{◌≡◌, ◌≤◌, ◌++◌, ◌==◌, IfSome, OnErr, OnOk, length, take};
 ghost use Rattle.cm_router.specs.Rows.{events_of_chip};
 
 use crate::row::{push_told, teller, tells_of};
@@ -62,9 +62,10 @@ impl<'a> Log<'a> {
         }
     }
 
-    /// Puts its events behind others.
+    /// Puts its events behind others, which stay where memory is refused, perhaps with some of its own behind them.
     pub fn push_onto(&self, to: &mut Vec<Event>) -> Result<(), NoMemory>
         ensures ok { OnOk result (to.new.items ≡ to.old.items ++ self.now) }
+        ensures err { OnErr result (take (length to.old.items) to.new.items ≡ to.old.items) }
     {
         to.extend_from_slice(self.dealt)?;
         push_told(to, self.chip, self.row)

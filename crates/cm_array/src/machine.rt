@@ -33,7 +33,7 @@ use crate::room::Room;
 use crate::row::{deal_out, has_events, lay_told};
 use crate::saved_logs::{InTurn, LogAppender, SavedLogs};
 use cm_bits::{Addr, FlagNo, NoMemory, Plane, Proc};
-use cm_element::{ChipView, Run, ZeroFlag};
+use cm_element::{ChipView, PITCH, Run, ZeroFlag};
 use cm_message::{Event, Message, Tag};
 use cm_model::{Act, Found};
 use cm_router::{Routing, Rule};
@@ -377,14 +377,17 @@ impl<const N: usize, const CAP: usize> Machine<N, CAP> {
         to.lay(0, &self.parts.run, first, count);
     }
 
-    /// Writes the memory planes of so many chips, from `first` on, chip by chip: `PITCH` words of cm_element apart.
+    /// Writes the memory planes of so many chips, from `first` on, chip by chip: `PITCH` words of cm_element apart. What
+    /// stands behind those of the last chip stays.
     pub fn write_planes(&self, first: u16, count: u16, memory: &mut [Plane])
         requires chips { first + count ≤ 2 ^ N }
         requires memory { count * 4128 ≤ length memory.old }
         ensures value { (c a : ℕ) → c < count → a < 4096 → IsPlane (slice_index memory.new (c * 4128 + a))
             (λ p. memory_bit (processor_at (chip_at self.now.machine.chips (first + c)) p) a) }
+        ensures others { (i : ℕ) → count * 4128 ≤ i → slice_index memory.new i ≡ slice_index memory.old i }
     {
-        self.parts.run.write_planes(first, count, memory);
+        let written = usize::from(count) * PITCH;
+        self.parts.run.write_planes(first, count, &mut memory[..written]);
     }
 
     /// The messages that stand in a chip's router, in order of arrival.

@@ -105,9 +105,10 @@ pub(crate) fn tells_of(row: &[Event], chip: u16) -> bool
     row.iter().any(|event| teller(event) == chip)
 }
 
-/// Puts what a row tells of a chip behind events.
+/// Puts what a row tells of a chip behind events, which stay where memory is refused.
 pub(crate) fn push_told(to: &mut Vec<Event>, chip: u16, row: &[Event]) -> Result<(), NoMemory>
     ensures ok { OnOk result (to.new.items ≡ to.old.items ++ events_of_chip chip row.now) }
+    ensures err { OnErr result (take (length to.old.items) to.new.items ≡ to.old.items) }
 {
     for event in row {
         if teller(event) == chip {
