@@ -1,8 +1,10 @@
 -- Lists that are made or written element by element, and rows that are lent.
 use Rattle.std.proofs.Common.{◌≡◌, ◌≢◌, ℕ, suc, ◌<◌, ◌==◌, true, false, List, [], ◌∷◌, map, length, get_or, set, ◌+◌}
+use Rattle.std.proofs.Common.{◌≤◌, ◌++◌, take, Result, Ok, Err, OnErr}
 use Rattle.std.proofs.Common.{refl, sym, ap, ◌∙◌, subst, arith, ⊎_elim, get_or-set_same, get_or-set_other}
 use Rattle.std.proofs.lemmas.Bool.{cases_Bool, eqb-true, eqb-false}
-use Rattle.std.proofs.lemmas.List.{with_items_is}
+use Rattle.std.proofs.Math.Seq.{take-append_seam}
+use Rattle.std.proofs.lemmas.List.{with_items_is, take-take, length-append}
 use Rattle.std.specs.List.{range_with_len}
 use Rattle.std.specs.Vec.{with_items}
 use Rattle.std.specs.Global.{Vec}
@@ -52,3 +54,12 @@ same_readings read (x ∷ xs) (y ∷ ys) long each =
 pub items-lent : {X : Type 0} (row : Vec X) (now : List X) → length now ≡ length row.items
     → (with_items row now).items ≡ now
 items-lent row now same = with_items_is row now (same ∙ sym row.ok.0)
+
+-- what stands in front of more, and stays in front of a list after a refusal where both did
+pub kept_in_front : {R E A : Type 0} → (front more now : List A) → (r : Result R E)
+    → OnErr r (take (length (front ++ more)) now ≡ front ++ more) → OnErr r (take (length front) now ≡ front)
+kept_in_front front more now (Ok x) h = tt
+kept_in_front front more now (Err e) h =
+    sym (take-take (length front) (length (front ++ more)) now (let long : length (front ++ more) ≡ length front + length more = length-append front more in omega arith))
+    ∙ ap (take (length front)) h
+    ∙ take-append_seam front more

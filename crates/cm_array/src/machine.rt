@@ -387,7 +387,9 @@ impl<const N: usize, const CAP: usize> Machine<N, CAP> {
         ensures others { (i : ℕ) → count * 4128 ≤ i → slice_index memory.new i ≡ slice_index memory.old i }
     {
         let written = usize::from(count) * PITCH;
-        self.parts.run.write_planes(first, count, &mut memory[..written]);
+        self.parts
+            .run
+            .write_planes(first, count, &mut memory[..written]);
     }
 
     /// The messages that stand in a chip's router, in order of arrival.
