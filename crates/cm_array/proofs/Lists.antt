@@ -60,6 +60,8 @@ pub kept_in_front : {R E A : Type 0} → (front more now : List A) → (r : Resu
     → OnErr r (take (length (front ++ more)) now ≡ front ++ more) → OnErr r (take (length front) now ≡ front)
 kept_in_front front more now (Ok x) h = tt
 kept_in_front front more now (Err e) h =
-    sym (take-take (length front) (length (front ++ more)) now (let long : length (front ++ more) ≡ length front + length more = length-append front more in omega arith))
+    let long : length (front ++ more) ≡ length front + length more = length-append front more in
+    let within : length front ≤ length (front ++ more) = omega arith in
+    sym (take-take (length front) (length (front ++ more)) now within)
     ∙ ap (take (length front)) h
     ∙ take-append_seam front more

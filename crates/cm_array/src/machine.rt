@@ -377,8 +377,8 @@ impl<const N: usize, const CAP: usize> Machine<N, CAP> {
         to.lay(0, &self.parts.run, first, count);
     }
 
-    /// Writes the memory planes of so many chips, from `first` on, chip by chip: `PITCH` words of cm_element apart. What
-    /// stands behind those of the last chip stays.
+    /// Writes the memory planes of so many chips, from `first` on, chip by chip: `PITCH` words of cm_element apart. The
+    /// words behind those of the last chip stay.
     pub fn write_planes(&self, first: u16, count: u16, memory: &mut [Plane])
         requires chips { first + count ≤ 2 ^ N }
         requires memory { count * 4128 ≤ length memory.old }
