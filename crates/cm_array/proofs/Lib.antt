@@ -3,13 +3,13 @@ mod Dealing
 mod Banding
 mod Wholes
 mod Searching
-mod Rooms
+pub mod Rooms
 mod Machines
 mod Accounts
 mod Building
 mod Tagging
 pub mod Poking
-mod Laying
+pub mod Laying
 mod Cutting
 mod Putting
 pub mod Behind
