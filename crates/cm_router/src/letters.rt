@@ -153,7 +153,7 @@ pub fn tell_injected(log: &mut Vec<Event>, message: &Message)
     ensures len { vec_len log.new ≡ vec_len log.old + 1 }
     ensures capacity { vec_capacity log.old ≤ vec_capacity log.new }
 {
-    log.push(Event::Injected(*message)).unwrap();
+    log.push_reserved(Event::Injected(*message));
 }
 
 pub(crate) fn tell_delivered(log: &mut Vec<Event>, message: &Message, here: u16)
@@ -162,11 +162,10 @@ pub(crate) fn tell_delivered(log: &mut Vec<Event>, message: &Message, here: u16)
     ensures len { vec_len log.new ≡ vec_len log.old + 1 }
     ensures capacity { vec_capacity log.old ≤ vec_capacity log.new }
 {
-    log.push(Event::Delivered {
+    log.push_reserved(Event::Delivered {
         message: *message,
         chip: here,
-    })
-    .unwrap();
+    });
 }
 
 #[inline(always)]

@@ -168,7 +168,7 @@ fn keep(row: &mut Vec<Message>, message: &Message) -> u16
     ensures capacity { vec_capacity row.old ≤ vec_capacity row.new }
 {
     let number = row.len() as u16;
-    row.push(*message).unwrap();
+    row.push_reserved(*message);
     number
 }
 
