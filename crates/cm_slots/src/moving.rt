@@ -10,7 +10,9 @@ ghost use Rattle.cm_slots.specs.Moves.{ticket_over, AreFirst, HasMoved};
 use crate::rows::{Row, WIDTH};
 use crate::tile::Tile;
 
-/// All tickets move over the dimensions d of which bit d is set. Who stands at each tile is put down here meanwhile.
+/// All tickets move over the dimensions d of which bit d is set. Who stands at each tile is put down here meanwhile. It
+/// stands apart so that one look tells where no dimension was noted.
+#[inline(never)]
 pub(crate) fn move_over(tiles: &mut [Tile], firsts: &mut [Option<Row>], dims: u16)
     requires rows { length firsts.old ≡ length tiles.old }
     requires across { (t : ℕ) → t < length tiles.old → bit_xor t (dims / 64) < length tiles.old }
