@@ -3,15 +3,16 @@ use Rattle.std.proofs.Common.{◌≡◌, ◌≢◌, ℕ, ◌+◌, ◌*◌, ◌/�
 use Rattle.std.proofs.Common.{◌==◌, Bool, true, false, if◌then◌else◌, List, [], length, get_or, set}
 use Rattle.std.proofs.Common.{sym, ap, ◌∙◌, arith, length-set, refl, subst, get_or-set_other}
 use Rattle.std.proofs.lemmas.List.{set-get_or}
-use Rattle.std.proofs.Common.{div-one, add-one, pow-suc}
 use Rattle.std.proofs.Math.Nat.{div-div-eq-div-mul}
+use Rattle.std.proofs.lemmas.Nat.{pow-add}
 use Rattle.cm_bits.specs.Bit.{bit}
-use Rattle.cm_model.proofs.Bits.{bit-zero}
+use Rattle.cm_model.proofs.Bits.{bit-zero, bit_at-cut}
 use Rattle.cm_model.specs.Processor.{Processor}
 use Rattle.cm_model.specs.Chip.{IsPlane, with_memory_bit}
 use Rattle.cm_element.specs.Runs.{chip_column, chips_of, AreRows}
 use Rattle.cm_element.specs.Sparse.{spread, AreMemorySlots}
 use Rattle.cm_element.specs.Wide.{with_memory_field}
+use Rattle.cm_element.specs.Puts.{ArePut}
 use Rattle.cm_element.proofs.Columns.{length-chips_of, get_or-chip_column, chip_at-chips_of, chip_is_whole}
 use Rattle.cm_element.proofs.Poking.{put_memory}
 use Rattle.cm_element.proofs.Replacing.{memory_set, no_bits_yet, one_more_in_run}
@@ -78,16 +79,6 @@ still_rows words new slots flags stride chips rows = record {
   few = rows.few;
   zero = rows.zero;
 }
-
--- so many bits of a number stand in a field, once these rows are kept as they should be
-pub record ArePut (words slots : List ℕ) (stride c p at i number : ℕ) (new : List ℕ) : Type 0 where
-  pub kept : (capacity used : ℕ) → AreMemorySlots words capacity slots used stride → AreMemorySlots new capacity slots used stride
-  pub value : (capacity used : ℕ) → AreMemorySlots words capacity slots used stride
-      → (flags : List ℕ) (chips : ℕ) → AreRows (spread words slots stride) flags stride chips → c < chips
-      → chips_of (spread new slots stride) flags stride chips
-      ≡ set (chips_of (spread words slots stride) flags stride chips) c
-      (with_memory_field (get_or (chips_of (spread words slots stride) flags stride chips) c []) p at i number)
-  pub long : length new ≡ length words
 
 pub none_put : (words slots : List ℕ) (stride c p at number : ℕ) → ArePut words slots stride c p at 0 number words
 none_put words slots stride c p at number = record {
@@ -176,10 +167,28 @@ IsFieldPut old new stride c p at count number = (flags : List ℕ) (chips : ℕ)
     → chips_of new flags stride chips ≡ set (chips_of old flags stride chips) c
     (with_memory_field (get_or (chips_of old flags stride chips) c []) p at count number)
 
--- the next bit of a number is the lowest of what is left of it
-pub next_bit : (number i rest : ℕ) → rest ≡ number / 2 ^ i → bit rest 0 ≡ bit number i
-next_bit number i rest is = ap (λ (n : ℕ). n % 2 == 1) (div-one rest ∙ is)
+-- the next sixteen bits of a number are the lowest of what is left of it
+pub next_bits : (number i rest k : ℕ) → rest ≡ number / 2 ^ i → k < 16 → bit (rest % 65536) k ≡ bit number (i + k)
+next_bits number i rest k is below =
+    ap (λ (n : ℕ). n == 1) (bit_at-cut rest 16 k below)
+    ∙ ap (λ (n : ℕ). bit n k) is
+    ∙ ap (λ (n : ℕ). n % 2 == 1)
+    (div-div-eq-div-mul number (2 ^ i) (2 ^ k) ∙ ap (λ (n : ℕ). number / n) (sym (pow-add 2 i k)))
 
-pub rest_left : (number i rest : ℕ) → rest ≡ number / 2 ^ i → rest / 2 ≡ number / 2 ^ (i + 1)
-rest_left number i rest is =
-    ap (λ (n : ℕ). n / 2) is ∙ rw (add-one, pow-suc) (div-div-eq-div-mul number (2 ^ i) 2)
+pub bits_left : (number i rest : ℕ) → rest ≡ number / 2 ^ i → rest / 65536 ≡ number / 2 ^ (i + 16)
+bits_left number i rest is =
+    ap (λ (n : ℕ). n / 65536) is
+    ∙ div-div-eq-div-mul number (2 ^ i) (2 ^ 16)
+    ∙ ap (λ (n : ℕ). number / n) (sym (pow-add 2 i 16))
+
+-- one more bit where its address is named
+pub slot_put_at : (words slots : List ℕ) (stride c p at i number : ℕ) (now : List ℕ) (index word address : ℕ)
+    → ArePut words slots stride c p at i number now
+    → p < 16 → address ≡ at + i → address < 4096 → c < stride → 0 < get_or slots address 0
+    → index ≡ get_or slots address 0 * stride + c
+    → IsPlane word (λ q. if q == p then bit number i else bit (get_or now index 0) q)
+    → ArePut words slots stride c p at (i + 1) number (set now index word)
+slot_put_at words slots stride c p at i number now index word address put p_below address_is below inside own place is =
+    slot_put words slots stride c p at i number now index word put p_below (omega (arith, address_is, below)) inside
+    (subst (λ (n : ℕ). 0 < get_or slots n 0) address_is own)
+    (place ∙ ap (λ (n : ℕ). get_or slots n 0 * stride + c) address_is) is

@@ -2,6 +2,7 @@ pub mod Planes
 pub mod Outputs
 pub mod Wide
 pub mod Sparse
+pub mod Puts
 pub mod Runs
 pub mod Steps
 pub mod Laid

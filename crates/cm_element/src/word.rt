@@ -1,6 +1,6 @@
 //! The words of the rows: one bit for each processor of a chip.
 
-ghost use Rattle.std.specs.Prelude.{◌≡◌, ℕ, ◌<◌, ◌==◌, cond, if◌then◌else◌, length, map};
+ghost use Rattle.std.specs.Prelude.{◌≡◌, ℕ, ◌*◌, ◌^◌, ◌<◌, ◌==◌, cond, if◌then◌else◌, length, map};
 ghost use Rattle.std.specs.Bool.{beq};
 ghost use Rattle.cm_bits.specs.Bit.{bit};
 ghost use Rattle.cm_model.specs.Processor.{value};
@@ -8,6 +8,9 @@ ghost use Rattle.cm_model.specs.Chip.{IsPlane};
 
 use cm_bits::{Plane, Proc};
 use std::simd::prelude::*;
+
+/// So many planes are looked at, or bits put, at once.
+pub(crate) const SIXTEEN: usize = 16;
 
 /// Whether the bit of a processor is 1 in a plane.
 pub(crate) fn is_one(plane: Plane, proc: Proc) -> bool
@@ -24,6 +27,25 @@ pub(crate) fn with_bit(plane: Plane, proc: Proc, value: bool) -> Plane
 {
     let here: Plane = 1 << proc.get();
     if value { plane | here } else { plane & !here }
+}
+
+/// Sixteen bits, lifted to where the lowest is that of a processor.
+pub(crate) fn lift(bits: u16, proc: Proc) -> u32
+    ensures value { result ≡ bits * 2 ^ proc }
+{
+    u32::from(bits) << proc.get()
+}
+
+/// The plane with one of sixteen bits for a processor. They are lifted to where the lowest is that of the processor.
+pub(crate) fn with_lifted_bit(plane: Plane, proc: Proc, lifted: u32, i: usize) -> Plane
+    requires { i < 16 }
+    ensures value { (bits : ℕ) → lifted ≡ bits * 2 ^ proc
+        → IsPlane result (λ p. if p == proc then bit bits i else bit plane p) }
+    ensures in_range { proc < 16 }
+{
+    let here: Plane = 1 << proc.get();
+    let lit = ((lifted >> i) % 65536) as Plane;
+    plane & !here | lit & here
 }
 
 /// The bits of a processor in sixteen planes, as a number: bit k is that in plane k.

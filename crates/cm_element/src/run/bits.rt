@@ -10,11 +10,9 @@ ghost use Rattle.cm_element.specs.Wide.{with_memory_field, with_flag_plane, with
 
 use super::{FLAGS, Run};
 use crate::run::rows::word_at;
-use crate::word::{bit_of, bits_in, is_one, with_bit};
+use crate::word::{SIXTEEN, bit_of, bits_in, is_one, with_bit};
 use cm_bits::{Addr, Field, FlagNo, Plane, Proc};
 use thiserror::Error;
-
-const SIXTEEN: usize = 16;
 
 /// Flag 8 cannot be poked: it always reads 0.
 #[derive(Clone, Copy, Debug, PartialEq, Eq, Error)]

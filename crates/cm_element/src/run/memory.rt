@@ -1,9 +1,11 @@
 //! The rows of memory of a run, of which only those that are in use are kept.
 
 ghost use Rattle.std.specs.Prelude.{◌≡◌, ◌≢◌, ℕ, ◌+◌, ◌*◌, ◌<◌, ◌≤◌, ◌^◌, false, List, length, slice_index, slice_set};
-ghost use Rattle.std.specs.Prelude.{IfOk, replicate, vec_capacity};
+ghost use Rattle.std.specs.Prelude.{IfOk, IsTrue, replicate, vec_capacity};
+ghost use Rattle.cm_bits.specs.Bit.{bit};
 ghost use Rattle.cm_model.specs.Array.{chip_at};
 ghost use Rattle.cm_element.specs.Laid.{AreLaidRows, AreTurnedRows, IsRowLaid, IsRowTurned};
+ghost use Rattle.cm_element.specs.Puts.{ArePut};
 ghost use Rattle.cm_element.specs.Runs.{chips_of, AreRows};
 ghost use Rattle.cm_element.specs.Sparse.{spread, AreMemorySlots};
 ghost use Rattle.cm_element.specs.Steps.{ArePlaces, IsStored};
@@ -15,7 +17,7 @@ use crate::run::lay::{Band, turn_row, write_row};
 use crate::run::outputs::store_row;
 use crate::run::rows::put_row;
 use crate::run::{ADDRESSES, PITCH};
-use crate::word::{bit_of, with_bit};
+use crate::word::{SIXTEEN, bit_of, lift, with_bit, with_lifted_bit};
 use cm_bits::{Field, NoMemory, Plane, Proc};
 use cm_model::Nano;
 use cm_rows::{Places, compute, compute_memory};
@@ -165,15 +167,11 @@ impl MemoryRows {
         ensures within { result ≤ field.len }
         ensures words { length self.new ≡ length self.old }
     {
-        put_bits(
-            &mut self.words,
-            &self.slots,
-            self.stride,
+        let spot = Spot {
+            stride: self.stride,
             place,
-            proc,
-            field,
-            value,
-        )
+        };
+        put_bits(&mut self.words, &self.slots, spot, proc, field, value)
     }
 
     /// Both tables of an instruction over the rows of its addresses and flags, at so many words of each.
@@ -442,40 +440,38 @@ fn own(words: &mut Vec<Plane>, slots: &mut Vec<u16>, used: usize, stride: usize,
     used + 1
 }
 
+/// Where the words of a chip lie: at a place of each row, of which one begins a stride after another.
+#[derive(Clone, Copy)]
+struct Spot {
+    stride: usize,
+    place: u16,
+}
+
 /// Puts the bits of a field, as far as `put_field` says. It is given slices, so that no word that it writes
 /// can be one that tells where the words lie: nothing is looked up again for each bit.
 fn put_bits(
     words: &mut [Plane],
     slots: &[u16],
-    stride: usize,
-    place: u16,
+    spot: Spot,
     proc: Proc,
     field: Field,
     value: u64,
 ) -> usize
     requires slots { length slots.now ≡ 4096 }
-    requires few { stride < 2 ^ 20 }
-    requires rows { (i : ℕ) → i < 4096 → slice_index slots.now i * stride + stride ≤ length words.old }
-    requires place { place < stride }
-    ensures kept { (capacity used : ℕ) → AreMemorySlots words.old capacity slots.now used stride
-        → AreMemorySlots words.new capacity slots.now used stride }
-    ensures value { (capacity used : ℕ) → AreMemorySlots words.old capacity slots.now used stride
-        → (flags : List ℕ) → (chips : ℕ) → AreRows (spread words.old slots.now stride) flags stride chips
-        → place < chips
-        → chips_of (spread words.new slots.now stride) flags stride chips
-        ≡ slice_set (chips_of (spread words.old slots.now stride) flags stride chips) place (with_memory_field
-        (chip_at (chips_of (spread words.old slots.now stride) flags stride chips) place) proc field.at result value) }
+    requires few { spot.stride < 2 ^ 20 }
+    requires rows { (i : ℕ) → i < 4096 → slice_index slots.now i * spot.stride + spot.stride ≤ length words.old }
+    requires place { spot.place < spot.stride }
+    ensures value { ArePut words.old slots.now spot.stride spot.place proc field.at result value words.new }
     ensures within { result ≤ field.len }
     ensures words { length words.new ≡ length words.old }
 {
     let at = usize::from(field.at());
     let len = usize::from(field.len());
-    let mut rest = value;
-    for i in 0..len {
-        let bit = bit_of(rest, 0);
-        rest >>= 1;
+    let put = put_sixteens(words, slots, spot, proc, at, len, value);
+    for i in put..len {
+        let bit = bit_of(value, i);
         let slot = usize::from(slots[at + i]);
-        let here = slot * stride + usize::from(place);
+        let here = slot * spot.stride + usize::from(spot.place);
         let word = with_bit(words[here], proc, bit);
         if slot != 0 {
             words[here] = word;
@@ -484,4 +480,68 @@ fn put_bits(
         }
     }
     len
+}
+
+/// The same sixteen bits at once, as long as their rows are all in use; how many went.
+fn put_sixteens(
+    words: &mut [Plane],
+    slots: &[u16],
+    spot: Spot,
+    proc: Proc,
+    at: usize,
+    len: usize,
+    value: u64,
+) -> usize
+    requires slots { length slots.now ≡ 4096 }
+    requires few { spot.stride < 2 ^ 20 }
+    requires rows { (i : ℕ) → i < 4096 → slice_index slots.now i * spot.stride + spot.stride ≤ length words.old }
+    requires place { spot.place < spot.stride }
+    requires field { at + len ≤ 4096 }
+    ensures value { ArePut words.old slots.now spot.stride spot.place proc at result value words.new }
+    ensures within { result ≤ len }
+{
+    let mut put = 0;
+    let mut rest = value;
+    while put + SIXTEEN <= len && are_in_use(slots, at + put) {
+        let bits = (rest % 65536) as u16;
+        put_sixteen(words, slots, spot, proc, at + put, bits);
+        rest /= 65536;
+        put += SIXTEEN;
+    }
+    put
+}
+
+/// Whether sixteen addresses, from one on, have rows of their own. All are looked at at once.
+fn are_in_use(slots: &[u16], at: usize) -> bool
+    requires slots { length slots.now ≡ 4096 }
+    requires at { at + 16 ≤ 4096 }
+    ensures own { IsTrue result → (i : ℕ) → i < 16 → 0 < slice_index slots.now (at + i) }
+{
+    let mut lacks = false;
+    for i in 0..SIXTEEN {
+        lacks |= slots[at + i] == 0;
+    }
+    !lacks
+}
+
+/// Puts sixteen bits into rows that are in use. The compiler knows how many, so that nothing is counted.
+fn put_sixteen(words: &mut [Plane], slots: &[u16], spot: Spot, proc: Proc, at: usize, bits: u16)
+    requires slots { length slots.now ≡ 4096 }
+    requires few { spot.stride < 2 ^ 20 }
+    requires rows { (i : ℕ) → i < 4096 → slice_index slots.now i * spot.stride + spot.stride ≤ length words.old }
+    requires place { spot.place < spot.stride }
+    requires at { at + 16 ≤ 4096 }
+    requires own { (i : ℕ) → i < 16 → 0 < slice_index slots.now (at + i) }
+    ensures value { (first : List ℕ) (from put number : ℕ) → at ≡ from + put
+        → ((k : ℕ) → k < 16 → bit bits k ≡ bit number (put + k))
+        → ArePut first slots.now spot.stride spot.place proc from put number words.old
+        → ArePut first slots.now spot.stride spot.place proc from (put + 16) number words.new }
+    ensures words { length words.new ≡ length words.old }
+{
+    let lifted = lift(bits, proc);
+    for i in 0..SIXTEEN {
+        let slot = usize::from(slots[at + i]);
+        let here = slot * spot.stride + usize::from(spot.place);
+        words[here] = with_lifted_bit(words[here], proc, lifted, i);
+    }
 }

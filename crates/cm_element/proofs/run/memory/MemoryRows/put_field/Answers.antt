@@ -21,7 +21,7 @@ invariant_of-self c =
     let lent = c.deref_mut.ensures in
     let is = with_items_is rows.words new (omega (arith, c.put_bits.ensures.words, ap length lent.value, lent.len)) in
     subst (λ (ms : List ℕ). AreMemorySlots ms rows.words.cap rows.slots.items rows.used rows.stride) (sym is)
-    ((rw (c.deref_mut.ensures.value, c.deref.ensures.value) at c.put_bits.ensures.kept) _ _ c.self.invariant)
+    ((rw (c.deref_mut.ensures.value, c.deref.ensures.value) at c.put_bits.ensures.value).kept _ _ c.self.invariant)
 
 pub returns-clause-value : goal.returns-clause-value
 returns-clause-value c =
@@ -36,7 +36,7 @@ returns-clause-value c =
     c.self.view_is is
     (subst (λ (n : ℕ). IsFieldPut (spread rows.words.items rows.slots.items rows.stride)
     (spread new rows.slots.items rows.stride) n c.args.place c.args.proc c.args.field.at c.put_bits.result c.args.value)
-    same ((rw (c.deref_mut.ensures.value, c.deref.ensures.value) at c.put_bits.ensures.value) _ _ c.self.invariant))
+    same ((rw (c.deref_mut.ensures.value, c.deref.ensures.value) at c.put_bits.ensures.value).value _ _ c.self.invariant))
 
 pub returns-clause-words : goal.returns-clause-words
 returns-clause-words c =
