@@ -1,5 +1,7 @@
 pub mod Agreeing
 pub mod Going
+pub mod Lent
+pub mod RoomFaults
 pub mod Routing
 pub mod Searching
 pub mod Sending

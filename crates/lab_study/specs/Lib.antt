@@ -1,9 +1,11 @@
 pub mod Adding
 pub mod Counts
+pub mod Machines
 pub mod RouteLines
 pub mod Routes
 pub mod Study
 pub mod StudyLaws
 pub mod Tables
 pub mod Traces
+pub mod Waits
 pub mod Whereabouts
