@@ -1,10 +1,10 @@
 -- The picture of a route, as an SVG. Lengths are tenths of a dot. SVG 1.1 is W3C's; what is drawn is ours.
-use Rattle.std.specs.Prelude.{ℕ, ◌+◌, ◌/◌, ◌%◌, ◌==◌, ◌||◌, Bool, nat_eq, if◌then◌else◌, Result, Ok, Err}
+use Rattle.std.specs.Prelude.{ℕ, ◌+◌, ◌-◌, ◌/◌, ◌%◌, ◌^◌, ◌==◌, ◌&&◌, ◌||◌, Bool, nat_eq, if◌then◌else◌, Result, Ok, Err}
 use Rattle.std.specs.Prelude.{List, [], ◌∷◌, ◌++◌, codes, decimal, length}
 use Rattle.std.specs.List.{flat_map, range_with_len, starts_with}
 use Rattle.cm_bits.specs.Text.{lines_of}
 use Rattle.lab_plot.specs.declared.fault.PlotFault.{PlotFault}
-use Rattle.lab_plot.specs.declared.fault.PlotFault.TheVariants.{NoCycle}
+use Rattle.lab_plot.specs.declared.fault.PlotFault.TheVariants.{NoCycle, NoRoute}
 use Rattle.lab_plot.specs.Cells.{trimmed}
 use Rattle.lab_plot.specs.Heads.{picture_head}
 use Rattle.lab_plot.specs.Lines.{circle, colour, line_open, name_text}
@@ -12,6 +12,7 @@ use Rattle.lab_plot.specs.Panels.{place_text, sides_text}
 use Rattle.lab_plot.specs.Pictures.{table_picture}
 use Rattle.lab_plot.specs.Pieces.{piece}
 use Rattle.lab_plot.specs.Ticks.{cycle_tick, up_text}
+use Rattle.lab_route_plot.specs.declared.legs.Cycles.{Cycles}
 use Rattle.lab_route_plot.specs.declared.legs.Leg.{Leg}
 use Rattle.lab_route_plot.specs.declared.legs.Step.{Step}
 use Rattle.lab_route_plot.specs.declared.legs.Step.TheVariants.{Wanted, Referred, Delivered}
@@ -95,6 +96,12 @@ abbrev pub is_route : List ℕ → Bool
 is_route text =
     starts_with nat_eq (trimmed text) (codes "cycle ") || starts_with nat_eq (trimmed text) (codes "stands at ")
 
--- the picture of a text that is a route, or a table, or its first fault
-unfoldable pub route_or_table_picture : List ℕ → Result (List ℕ) PlotFault
-route_or_table_picture text = if is_route text then of_legs (legs_after 1 [] (lines_of text)) else table_picture text
+-- all petit cycles
+abbrev pub all_cycles : Cycles → Bool
+all_cycles cycles = cycles.from == 0 && cycles.to == 2 ^ 64 - 1
+
+-- the picture of a text that is a route, of these petit cycles alone, or a table, or its first fault
+unfoldable pub route_or_table_picture : Cycles → List ℕ → Result (List ℕ) PlotFault
+route_or_table_picture cycles text =
+    if is_route text then of_legs (legs_after cycles 1 [] (lines_of text))
+    else (if all_cycles cycles then table_picture text else Err NoRoute)
