@@ -242,11 +242,7 @@ fn read_plotting<'a>(alloc: Global, words: &[&'a str]) -> Result<Command<'a>, Co
     ensures value { IfOk result (λ command. plotting (texts words.now) ≡ Ok (requested command)) }
     ensures refused { IfErr result (Reports (plotting (texts words.now))) }
 {
-    let all = Cycles {
-        from: 0,
-        to: u64::MAX,
-    };
-    read_plotting_of(alloc, all, words)
+    read_plotting_of(alloc, Cycles::ALL, words)
 }
 
 /// The same, of the petit cycles that options have said.

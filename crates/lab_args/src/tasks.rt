@@ -434,11 +434,7 @@ fn read_routing<'a>(alloc: Global, words: &[&'a str]) -> Result<Asked<'a>, Comma
 {
     let whole = RouteAsked {
         room: None,
-        excerpt: Excerpt {
-            from: 0,
-            to: u64::MAX,
-            waits: false,
-        },
+        excerpt: Excerpt::WHOLE,
     };
     read_routed_with(alloc, whole, words)
 }

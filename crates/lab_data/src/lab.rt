@@ -44,7 +44,7 @@ pub enum Task {
     Show(Shown, Look),
     /// The dots of the picture that is given are put into a field of all processors, which begins at this address.
     Paint(u16),
-    /// The program that is given is run, with another room in each router where one is given, and a table of it is told.
+    /// The program that is given is run, with this room in each router or else its own, and a table of it is told.
     Study(Option<u16>, Table),
     /// The same, and what is asked for of the route of the message of this tag is told.
     Route(Option<u16>, Excerpt, Tag),
@@ -345,7 +345,8 @@ fn studied<W: Watch>(
     given: &[u8],
     watch: &mut W,
 ) -> Result<Vec<u8>, LabFault>
-    ensures value { IfOk result (λ text. study_made lab.old.machine table given.now lab.old.n lab.old.cap ≡ Ok text.items) }
+    ensures value { IfOk result
+        (λ text. study_made lab.old.machine table given.now lab.old.n lab.old.cap ≡ Ok text.items) }
     ensures refused { IfErr result (λ fault. fault ≢ LabFault.Memory
         → study_made lab.old.machine table given.now lab.old.n lab.old.cap ≡ Err fault) }
 {

@@ -1,5 +1,5 @@
 -- The picture of a route, as an SVG. Lengths are tenths of a dot. SVG 1.1 is W3C's; what is drawn is ours.
-use Rattle.std.specs.Prelude.{ℕ, ◌+◌, ◌-◌, ◌/◌, ◌%◌, ◌^◌, ◌==◌, ◌&&◌, ◌||◌, Bool, nat_eq, if◌then◌else◌, Result, Ok, Err}
+use Rattle.std.specs.Prelude.{ℕ, ◌+◌, ◌/◌, ◌%◌, ◌==◌, ◌||◌, Bool, nat_eq, if◌then◌else◌, Result, Ok, Err}
 use Rattle.std.specs.Prelude.{List, [], ◌∷◌, ◌++◌, codes, decimal, length}
 use Rattle.std.specs.List.{flat_map, range_with_len, starts_with}
 use Rattle.cm_bits.specs.Text.{lines_of}
@@ -13,6 +13,7 @@ use Rattle.lab_plot.specs.Pictures.{table_picture}
 use Rattle.lab_plot.specs.Pieces.{piece}
 use Rattle.lab_plot.specs.Ticks.{cycle_tick, up_text}
 use Rattle.lab_route_plot.specs.declared.legs.Cycles.{Cycles}
+use Rattle.lab_route_plot.specs.Cycles.{are_all_cycles}
 use Rattle.lab_route_plot.specs.declared.legs.Leg.{Leg}
 use Rattle.lab_route_plot.specs.declared.legs.Step.{Step}
 use Rattle.lab_route_plot.specs.declared.legs.Step.TheVariants.{Wanted, Referred, Delivered}
@@ -96,12 +97,8 @@ abbrev pub is_route : List ℕ → Bool
 is_route text =
     starts_with nat_eq (trimmed text) (codes "cycle ") || starts_with nat_eq (trimmed text) (codes "stands at ")
 
--- all petit cycles
-abbrev pub all_cycles : Cycles → Bool
-all_cycles cycles = cycles.from == 0 && cycles.to == 2 ^ 64 - 1
-
 -- the picture of a text that is a route, of these petit cycles alone, or a table, or its first fault
 unfoldable pub route_or_table_picture : Cycles → List ℕ → Result (List ℕ) PlotFault
 route_or_table_picture cycles text =
     if is_route text then of_legs (legs_after cycles 1 [] (lines_of text))
-    else (if all_cycles cycles then table_picture text else Err NoRoute)
+    else (if are_all_cycles cycles then table_picture text else Err NoRoute)

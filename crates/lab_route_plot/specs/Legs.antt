@@ -1,5 +1,5 @@
 -- The legs of a message's way, as the lines of a route tell them. Ours.
-use Rattle.std.specs.Prelude.{ℕ, ◌+◌, ◌^◌, ◌==◌, ◌&&◌, ◌||◌, Bool, false, nat_eq, nat_le, nat_lt, if◌then◌else◌}
+use Rattle.std.specs.Prelude.{ℕ, ◌+◌, ◌^◌, ◌==◌, ◌&&◌, ◌||◌, Bool, false, nat_eq, nat_lt, if◌then◌else◌}
 use Rattle.std.specs.Prelude.{Option, Some, None, is_some, Result, Ok, Err, List, [], ◌∷◌, ◌++◌, codes, drop, bit_xor}
 use Rattle.std.specs.Int.{trailing_zeros, w16}
 use Rattle.std.specs.List.{after_first, before_first, list_any, slice_split, starts_with}
@@ -9,6 +9,7 @@ use Rattle.lab_plot.specs.Rows.{◌>>=◌}
 use Rattle.lab_plot.specs.declared.fault.PlotFault.{PlotFault}
 use Rattle.lab_plot.specs.declared.fault.PlotFault.TheVariants.{Route}
 use Rattle.lab_route_plot.specs.declared.legs.Cycles.{Cycles}
+use Rattle.lab_route_plot.specs.Cycles.{is_among_cycles}
 use Rattle.lab_route_plot.specs.declared.legs.Leg.{Leg}
 use Rattle.lab_route_plot.specs.declared.legs.Step.TheVariants.{Wanted, Referred, Delivered}
 
@@ -98,10 +99,6 @@ unfoldable pub legs_from : ℕ → List ℕ → Option ℕ → List (List ℕ) �
 legs_from c line from [] = legs_end c line from
 legs_from c line from (word ∷ words) =
     legs_at c line from (chip_of_word word) ++ legs_from c line (next_chip from (chip_of_word word)) words
-
--- a petit cycle is one of these
-abbrev pub is_among_cycles : Cycles → ℕ → Bool
-is_among_cycles cycles c = nat_le cycles.from c && nat_le c cycles.to
 
 -- the legs of a petit cycle, if it is one of these: its chips stand before the first comma
 abbrev pub cycle_legs : Cycles → List ℕ → Option ℕ → List Leg

@@ -5,8 +5,7 @@ ghost use Rattle.std.specs.Prelude.{IfSome, OnOk, length};
 ghost use Rattle.std.specs.List.{after_first, before_first};
 ghost use Rattle.cm_bits.specs.Text.{lines_of, number_of, words_of};
 ghost use Rattle.lab_plot.specs.Cells.{cell, is_colon};
-ghost use Rattle.lab_route_plot.specs.Drawing.{all_cycles};
-ghost use Rattle.lab_route_plot.specs.Legs.{is_among_cycles};
+ghost use Rattle.lab_route_plot.specs.Cycles.{are_all_cycles, is_among_cycles};
 ghost use Rattle.lab_route_plot.specs.Legs.{dim_between, option_below, cycle_behind, cycle_in, chip_of_word, is_number};
 ghost use Rattle.lab_route_plot.specs.Legs.{is_referral};
 ghost use Rattle.lab_route_plot.specs.Legs.{is_referred, says_delivered, leg_to, last_leg, legs_at, next_chip};
@@ -25,6 +24,7 @@ pub struct Cycles {
 }
 
 impl Cycles {
+    /// All that there can be.
     pub const ALL: Cycles = Cycles {
         from: 0,
         to: u64::MAX,
@@ -32,7 +32,7 @@ impl Cycles {
 
     /// Whether they are all.
     pub(crate) fn are_all(self) -> bool
-        ensures value { result ≡ all_cycles self }
+        ensures value { result ≡ are_all_cycles self }
     {
         self.from == 0 && self.to == u64::MAX
     }

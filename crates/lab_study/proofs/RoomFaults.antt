@@ -1,6 +1,6 @@
 -- Which routers have not such a room.
-use Rattle.std.proofs.Common.{◌≡◌, ℕ, ◌≤◌, ◌<◌, ◌≢◌, [], ◌||◌, ◌==◌, Bool, true, false, List, length, get_or, Some, None, refl, sym, subst, arith}
-use Rattle.std.proofs.Common.{if◌then◌else◌}
+use Rattle.std.proofs.Common.{◌≡◌, ℕ, ◌≤◌, ◌<◌, ◌≢◌, [], ◌||◌, ◌==◌, Bool, true, false, List, length, get_or}
+use Rattle.std.proofs.Common.{Some, None, refl, sym, subst, arith, if◌then◌else◌}
 use Rattle.std.specs.Prelude.{◌↔◌, IsTrue, nat_lt, nat_le}
 use Rattle.std.specs.List.{All, list_all}
 use Rattle.std.proofs.lemmas.Bool.Decides.{nat_tests}

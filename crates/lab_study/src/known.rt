@@ -27,7 +27,8 @@ impl Known {
         alloc: Global,
         machine: &LabMachine,
     ) -> Result<Known, NoMemory>
-        ensures value { IfOk result (λ known. studied machine.now.machine known ≡ study_opening machine.now.n machine.now.machine) }
+        ensures value { IfOk result (λ known.
+            studied machine.now.machine known ≡ study_opening machine.now.n machine.now.machine) }
     {
         let told = log_lengths(alloc, machine)?;
         let nothing = Ways::none(alloc);
@@ -90,7 +91,8 @@ impl Known {
     ) -> Result<(), NoMemory>
         ensures ok { OnOk result (text.new.items
             ≡ text.old.items
-            ++ study_cycle_text machine.now.n machine.now.cap table clock self.now.told.items self.now.ways machine.now.machine) }
+            ++ study_cycle_text machine.now.n machine.now.cap table clock self.now.told.items self.now.ways
+            machine.now.machine) }
     {
         match table {
             Table::Cycles => push_cycle(text, clock, counts(&self.told, &self.ways, machine)),

@@ -23,7 +23,8 @@ use std::alloc::Global;
 use std::marker::Model;
 use thiserror::Error;
 
-const LAST_CLOCK: u64 = u64::MAX >> 1;
+/// The greatest count of petit cycles.
+pub(crate) const LAST_CLOCK: u64 = u64::MAX >> 1;
 
 /// Most messages that a chip takes in in a petit cycle.
 const MOST_INJECTED: usize = 4;

@@ -4,14 +4,12 @@ ghost use Rattle.std.specs.Prelude.{◌≡◌, ◌≢◌, ◌^◌, ◌-◌, Ok, 
 ghost use Rattle.lab_study.specs.Study.{table_header, act_lacks_room, study_table};
 
 use crate::known::Known;
-use crate::lab_machine::LabMachine;
+use crate::lab_machine::{LAST_CLOCK, LabMachine};
 use crate::watch::Watch;
 use cm_bits::NoMemory;
 use cm_model::Act;
 use std::alloc::Global;
 use thiserror::Error;
-
-const LAST_CLOCK: u64 = u64::MAX >> 1;
 
 /// What a study tells.
 #[derive(Clone, Copy, Debug, PartialEq, Eq)]

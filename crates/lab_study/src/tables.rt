@@ -107,7 +107,8 @@ pub(crate) fn push_standing(
     ways: &Ways,
     machine: &LabMachine,
 ) -> Result<(), NoMemory>
-    ensures ok { OnOk result (text.new.items ≡ text.old.items ++ standing_text machine.now.n ways.now machine.now.machine) }
+    ensures ok { OnOk result (text.new.items
+        ≡ text.old.items ++ standing_text machine.now.n ways.now machine.now.machine) }
 {
     for chip in 0..machine.chips() {
         push_buffer(text, ways, chip, machine.buffer(chip))?;
