@@ -422,7 +422,8 @@ class Machine:
         `first` are left out, and the source ends behind `last`. `room` is as for `study`. `Failed` where there is no
         such message.
         """
-        options = [*(["--why"] if why else []), *_words("--from", first), *_words("--to", last), *_words("--room", room)]
+        options = [*(["--why"] if why else []),
+                   *_words("--from", first), *_words("--to", last), *_words("--room", room)]
         with TextFile(expand(source), "the program") as program, TextFile(self.image(), "the machine") as image:
             return Route(command("cm1lab", "route", *options, image, program, *tag).decode())
 

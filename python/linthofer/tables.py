@@ -119,7 +119,8 @@ class Route(List[str]):
 
     def plot(self, first: Optional[int] = None, last: Optional[int] = None) -> Svg:
         """The picture that `cm1lab plot` makes of it, or of its petit cycles from one to another."""
-        words = [word for option, cycle in (("--from", first), ("--to", last)) if cycle is not None for word in (option, cycle)]
+        options = (("--from", first), ("--to", last))
+        words = [word for option, cycle in options if cycle is not None for word in (option, cycle)]
         return Svg(command("cm1lab", "plot", *words, given=self.text.encode()).decode())
 
     def __str__(self) -> str:

@@ -54,8 +54,8 @@ def test_a_part_of_a_route_and_why_the_message_waits():
 def test_studies_of_other_rooms():
     with hot_spot() as machine:
         assert [machine.study(HOT_SPOT, room=room)[0]["delivered"] for room in (1, 2, 3, 7)] == [1, 2, 3, 5]
-        assert machine.route((3, 0, 0), HOT_SPOT, room=1)[0] == ("cycle 0: 3 -> 2 -> 0 -> 4 -> 12, referred in 2, referred in 3, "
-                                                                "place 1 of 1")
+        route = machine.route((3, 0, 0), HOT_SPOT, room=1)
+        assert route[0] == "cycle 0: 3 -> 2 -> 0 -> 4 -> 12, referred in 2, referred in 3, place 1 of 1"
         with pytest.raises(Failed, match="1 to 15 messages"):
             machine.study(HOT_SPOT, room=16)
 

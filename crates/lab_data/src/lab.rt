@@ -25,8 +25,9 @@ use lab_figures::{
     Look, NumbersFault, Picture, PictureFault, read_numbers, read_picture, write_look,
     write_numbers,
 };
+use lab_machine::{LabMachine, RoomFault};
 use lab_study::{
-    Excerpt, LabMachine, RoomFault, RouteFault, StudyFault, Table, Unwatched, Watch, route, study,
+    Excerpt, RouteFault, StudyFault, Table, Unwatched, Watch, route, study,
 };
 use std::alloc::Global;
 use thiserror::Error;

@@ -1,7 +1,6 @@
 pub mod Agreeing
+pub mod Following
 pub mod Going
-pub mod Lent
-pub mod RoomFaults
 pub mod Routing
 pub mod Searching
 pub mod Sending

@@ -10,7 +10,7 @@ use Rattle.lab_study.specs.declared.routes.RouteFault.{RouteFault}
 use Rattle.lab_study.specs.declared.routes.RouteFault.TheVariants.{Clock}
 use Rattle.lab_study.specs.Study.{act_lacks_room}
 use Rattle.lab_study.specs.Whereabouts.{stand_in}
-use Rattle.lab_study.specs.Machines.{LabView, lab_after}
+use Rattle.lab_machine.specs.Machines.{LabView, lab_after}
 use Rattle.lab_study.specs.Routes.{route_preceded_by, act_then, route_end_text, route_from}
 
 -- nothing before

@@ -1,6 +1,5 @@
 pub mod Adding
 pub mod Counts
-pub mod Machines
 pub mod RouteLines
 pub mod Routes
 pub mod Study

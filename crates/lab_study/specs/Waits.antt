@@ -38,6 +38,7 @@ wait_at cap d tag machine (Some stand) =
     else wait_behind d tag (sent_across machine.routing cap d machine.buffers stand.chip))
     else None
 
+-- the same of the message of a tag
 abbrev pub crossing_wait : ℕ → ℕ → ℕ → Tag → Machine → Option Wait
 crossing_wait n cap d tag machine = wait_at cap d tag machine (stand_in n tag machine)
 
@@ -63,6 +64,7 @@ wait_for tag machine (Some stand) =
     else Some Unfetched)
     else None
 
+-- the same of the message of a tag
 abbrev pub delivery_wait : ℕ → Tag → Machine → Option Wait
 delivery_wait n tag machine = wait_for tag machine (stand_in n tag machine)
 

@@ -13,7 +13,7 @@ ghost use Rattle.lab_study.specs.Counts.{counts_of};
 ghost use Rattle.lab_study.specs.Traces.{trace_of, referrals};
 
 use crate::counts::Counts;
-use crate::lab_machine::LabMachine;
+use lab_machine::LabMachine;
 use crate::ways::Ways;
 use cm_bits::{FlagNo, NoMemory, Proc};
 use cm_element::ChipView;

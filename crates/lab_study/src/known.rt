@@ -2,11 +2,11 @@
 
 ghost use Rattle.std.specs.Prelude.{◌≡◌, ◌++◌, IfOk, OnOk};
 ghost use Rattle.cm_model.specs.declared.act.Act.TheVariants as act;
-ghost use Rattle.lab_study.specs.Machines.{lab_after};
+ghost use Rattle.lab_machine.specs.Machines.{lab_after};
 ghost use Rattle.lab_study.specs.Study.{studied, study_opening, study_cycle_text, end_text, act_text, one_act_on};
 
 use crate::counting::{counts, log_lengths};
-use crate::lab_machine::LabMachine;
+use lab_machine::LabMachine;
 use crate::studies::Table;
 use crate::tables::{push_cycle, push_delivered, push_standing};
 use crate::ways::Ways;

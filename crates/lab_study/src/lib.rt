@@ -1,12 +1,9 @@
 //! Studies of the router: what each petit cycle of a program does, and the way of each message.
 #![tactic(auto)]
 
-mod copying;
 mod counting;
 mod counts;
 mod known;
-mod lab_machine;
-mod log_room;
 mod route_lines;
 mod routes;
 mod studies;
@@ -19,7 +16,6 @@ mod ways;
 mod whereabouts;
 
 pub use counts::Counts;
-pub use lab_machine::{LabMachine, RoomFault};
 pub use routes::{Excerpt, RouteFault, route};
 pub use studies::{StudyFault, Table, study};
 pub use study_laws::{counts_agree_with_the_account, ways_are_told_so};

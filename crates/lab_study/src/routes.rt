@@ -2,7 +2,7 @@
 
 ghost use Rattle.std.specs.Prelude.{◌≡◌, ◌≢◌, ◌≤◌, ◌++◌, ◌∷◌, [], Ok, Err, IfOk, IfErr, OnOk};
 ghost use Rattle.cm_model.specs.declared.act.Act.TheVariants as act;
-ghost use Rattle.lab_study.specs.Machines.{lab_after};
+ghost use Rattle.lab_machine.specs.Machines.{lab_after};
 ghost use Rattle.lab_study.specs.RouteLines.{stand_line};
 ghost use Rattle.lab_study.specs.Routes.{route_preceded_by, origin, route_text_then, act_then, TellsRoute};
 ghost use Rattle.lab_study.specs.Routes.{excerpt_line, no_message_fault, waits_told};
@@ -10,7 +10,7 @@ ghost use Rattle.lab_study.specs.Routes.{route_end_text, route_of};
 ghost use Rattle.lab_study.specs.Whereabouts.{stand_in};
 
 use crate::counting::log_lengths;
-use crate::lab_machine::LabMachine;
+use lab_machine::LabMachine;
 use crate::route_lines::{push_delivery, push_end, push_stand};
 use crate::studies::lacks_room;
 use crate::waits::{Wait, cycle_with_waits};

@@ -4,7 +4,7 @@ ghost use Rattle.std.specs.Prelude.{◌≡◌, ◌≢◌, ◌^◌, ◌-◌, Ok, 
 ghost use Rattle.lab_study.specs.Study.{table_header, act_lacks_room, study_table};
 
 use crate::known::Known;
-use crate::lab_machine::{LAST_CLOCK, LabMachine};
+use lab_machine::{LAST_CLOCK, LabMachine};
 use crate::watch::Watch;
 use cm_bits::NoMemory;
 use cm_model::Act;

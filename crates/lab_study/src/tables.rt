@@ -10,7 +10,7 @@ ghost use Rattle.lab_study.specs.Traces.{trace_of};
 
 use crate::counting::events_behind;
 use crate::counts::Counts;
-use crate::lab_machine::LabMachine;
+use lab_machine::LabMachine;
 use crate::trace::Trace;
 use crate::ways::Ways;
 use cm_bits::NoMemory;

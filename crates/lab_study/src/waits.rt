@@ -6,11 +6,11 @@ ghost use Rattle.std.specs.Option.{option_to_list};
 ghost use Rattle.cm_model.specs.declared.act.Act.TheVariants as act;
 ghost use Rattle.cm_model.specs.Router.{has_to_cross};
 ghost use Rattle.cm_model.specs.Buffers.{sent_across};
-ghost use Rattle.lab_study.specs.Machines.{lab_after};
+ghost use Rattle.lab_machine.specs.Machines.{lab_after};
 ghost use Rattle.lab_study.specs.Waits.{wait_behind, crossing_wait, has_arrived_for, wait_second, delivery_wait};
 ghost use Rattle.lab_study.specs.Waits.{waits_in};
 
-use crate::lab_machine::LabMachine;
+use lab_machine::LabMachine;
 use crate::ways::are_same;
 use crate::whereabouts::{Stand, stand_in};
 use cm_bits::{FlagNo, NoMemory};

@@ -7,7 +7,7 @@ ghost use Rattle.cm_model.specs.Found.{same_tag};
 ghost use Rattle.lab_study.specs.declared.trace.Trace.{Trace};
 ghost use Rattle.lab_study.specs.Traces.{trace_of, trace_after, by_sender, traces_after};
 
-use crate::lab_machine::LabMachine;
+use lab_machine::LabMachine;
 use crate::trace::Trace;
 use cm_bits::NoMemory;
 use cm_model::{Message, Tag};

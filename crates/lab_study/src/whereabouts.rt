@@ -6,7 +6,7 @@ ghost use Rattle.cm_model.specs.Found.{delivery_place};
 ghost use Rattle.lab_study.specs.Whereabouts.{stands_among, stand_in, delivery_in};
 
 use crate::counting::events_behind;
-use crate::lab_machine::LabMachine;
+use lab_machine::LabMachine;
 use crate::ways::are_same;
 use cm_bits::Place;
 use cm_model::{Event, Message, Tag};

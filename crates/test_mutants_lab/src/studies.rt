@@ -5,7 +5,8 @@ ghost use Rattle.lab_study.specs.Routes.{route_of};
 ghost use Rattle.lab_study.specs.Study.{study_table};
 
 use cm_model::{Act, Tag};
-use lab_study::{Excerpt, LabMachine, RouteFault, StudyFault, Table, Watch};
+use lab_machine::LabMachine;
+use lab_study::{Excerpt, RouteFault, StudyFault, Table, Watch};
 use std::alloc::Global;
 
 /// What `lab_study::study` promises, word for word.

@@ -1,7 +1,7 @@
 use Rattle.std.proofs.Common.{ℕ, ◌++◌, ◌∷◌, [], length, sym, ap, ◌∙◌}
 use Rattle.cm_model.specs.Each.{tabulate}
 use Rattle.cm_model.specs.Array.{nth_or_nil}
-use Rattle.lab_study.proofs.Sums.{tabulate-more}
+use Rattle.lab_machine.proofs.Tabulating.{tabulate-more}
 use Rattle.lab_study.proofs.counting.log_lengths.Goals as goal
 
 pub loop-chip-init : goal.loop-chip-init

@@ -1,6 +1,6 @@
 use Rattle.std.proofs.Common.{◌≡◌, ◌++◌, codes, sym, ap, ◌∙◌, append_assoc}
 use Rattle.lab_study.specs.RouteLines.{tag_text, wait_text}
-use Rattle.lab_study.proofs.Lent.{on_ok}
+use Rattle.lab_study.proofs.Following.{on_ok}
 use Rattle.lab_study.proofs.route_lines.push_wait.Goals as goal
 
 pub returns-in_ok-push_words-in-Second : goal.returns-in_ok-push_words-in-Second

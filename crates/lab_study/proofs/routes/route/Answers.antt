@@ -6,7 +6,7 @@ use Rattle.lab_study.specs.declared.routes.RouteFault.TheVariants.{Chip}
 use Rattle.lab_study.specs.Study.{act_lacks_room}
 use Rattle.lab_study.specs.Routes.{route_preceded_by, route_from, route_of}
 use Rattle.lab_study.proofs.Going.{next_act}
-use Rattle.lab_study.proofs.Lent.{if_ok, if_err}
+use Rattle.lab_study.proofs.Following.{if_ok, if_err}
 use Rattle.lab_study.proofs.Routing.{route_preceded_by-nothing, one_act_told, no_act_told, past_act_told, end_told}
 use Rattle.lab_study.proofs.routes.route.Goals as goal
 

@@ -6,7 +6,7 @@ use Rattle.cm_model.specs.Buffers.{machine_after_injection, machine_after_dimens
 use Rattle.cm_model.proofs.Cycles.{after_crossings-more, after_cycle-is}
 use Rattle.cm_model.proofs.Runs.{run_of-one}
 use Rattle.lab_study.specs.declared.waits.Wait.{Wait}
-use Rattle.lab_study.specs.Machines.{LabView}
+use Rattle.lab_machine.specs.Machines.{LabView}
 use Rattle.lab_study.specs.Waits.{machine_in_cycle, crossing_wait, delivery_wait, crossing_waits, waits_in}
 use Rattle.lab_study.proofs.Sums.{flat_map-more}
 use Rattle.lab_study.proofs.waits.cycle_with_waits.Goals as goal

@@ -3,7 +3,7 @@ use Rattle.std.proofs.lemmas.List.{map-append}
 use Rattle.cm_model.specs.Each.{tabulate}
 use Rattle.lab_study.specs.declared.trace.Trace.{Trace}
 use Rattle.lab_study.specs.Traces.{by_sender}
-use Rattle.lab_study.proofs.Sums.{tabulate-more}
+use Rattle.lab_machine.proofs.Tabulating.{tabulate-more}
 use Rattle.lab_study.proofs.ways.Ways.blank.Goals as goal
 
 pub loop-chip-init : goal.loop-chip-init
