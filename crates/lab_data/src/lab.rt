@@ -165,11 +165,11 @@ fn work<const N: usize, const CAP: usize, W: Watch>(
         Task::Put(order, field) => filled(alloc, machine, order, field, given),
         Task::Show(shown, look) => pictured(alloc, machine, shown, look),
         Task::Paint(at) => painted(alloc, machine, at, given),
-        Task::Study(room, table) => match lab_machine(alloc, machine, room) {
+        Task::Study(room, table) => match study_machine(alloc, machine, room) {
             Ok(mut lab) => studied(alloc, &mut lab, table, given, watch),
             Err(fault) => Err(fault),
         },
-        Task::Route(room, excerpt, tag) => match lab_machine(alloc, machine, room) {
+        Task::Route(room, excerpt, tag) => match study_machine(alloc, machine, room) {
             Ok(mut lab) => routed(alloc, &mut lab, excerpt, tag, given, watch),
             Err(fault) => Err(fault),
         },
@@ -388,7 +388,7 @@ fn routed<W: Watch>(
 }
 
 /// The machine of a study: with the room that is given, or else its own.
-fn lab_machine<const N: usize, const CAP: usize>(
+fn study_machine<const N: usize, const CAP: usize>(
     alloc: Global,
     machine: &Machine<N, CAP>,
     room: Option<u16>,
