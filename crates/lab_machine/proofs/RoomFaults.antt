@@ -1,7 +1,7 @@
 -- Which routers have not such a room.
-use Rattle.std.proofs.Common.{◌≡◌, ℕ, ◌≤◌, ◌<◌, ◌≢◌, [], ◌||◌, ◌==◌, Bool, true, false, List, length, get_or}
+use Rattle.std.proofs.Common.{◌≡◌, ℕ, ◌≤◌, ◌≢◌, [], ◌||◌, ◌==◌, Bool, true, false, List, length, get_or}
 use Rattle.std.proofs.Common.{Some, None, refl, sym, subst, arith, if◌then◌else◌}
-use Rattle.std.specs.Prelude.{◌↔◌, IsTrue, nat_lt, nat_le}
+use Rattle.std.specs.Prelude.{◌↔◌, IsTrue, nat_lt}
 use Rattle.std.specs.List.{All, list_all}
 use Rattle.std.proofs.lemmas.Bool.Decides.{nat_tests}
 use Rattle.std.proofs.lemmas.List.Elements.{All-get_or, All-from_get_or}

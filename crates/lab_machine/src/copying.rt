@@ -53,10 +53,7 @@ pub(crate) fn copied_engine<const N: usize, const CAP: usize>(
 }
 
 /// The messages that stand at a chip: at most fifteen.
-fn messages_of<const N: usize, const CAP: usize>(
-    machine: &Machine<N, CAP>,
-    chip: u16,
-) -> &[Message]
+fn messages_of<const N: usize, const CAP: usize>(machine: &Machine<N, CAP>, chip: u16) -> &[Message]
     requires chip { chip < 2 ^ N }
     ensures value { result.now ≡ nth_or_nil machine.now.machine.buffers chip }
     ensures few { length result.now ≤ 15 }

@@ -259,7 +259,10 @@ impl LabMachine {
         if self.clock == LAST_CLOCK {
             return Err(NoMemory);
         }
-        make_room(&mut self.logs, EVENTS_OF_INJECTION + usize::from(self.shape.room))?;
+        make_room(
+            &mut self.logs,
+            EVENTS_OF_INJECTION + usize::from(self.shape.room),
+        )?;
         cycle(
             self.shape,
             &self.routing,

@@ -6,12 +6,17 @@ use Rattle.lab_machine.proofs.copying.copied_run.Goals as goal
 
 pub copy_chips-requires : goal.copy_chips-requires
 copy_chips-requires g c =
-    let count = c.chip_count-chips.result in
-    (lit< tt, (omega (arith, c.chip_count-chips.ensures.value), omega (
-      arith,
-      ap length c.in_ok-run.ensures.value,
-      length-tabulate 0 count (λ k. blank_chip),
-    )))
+    let count = c.chip_count-chips.result in (
+      lit< tt,
+      (
+        omega (arith, c.chip_count-chips.ensures.value),
+        omega (
+          arith,
+          ap length c.in_ok-run.ensures.value,
+          length-tabulate 0 count (λ k. blank_chip),
+        ),
+      ),
+    )
 
 pub returns : goal.returns
 returns g c =

@@ -1,6 +1,5 @@
 use Rattle.std.proofs.Common.{◌<◌, length, ◌∙◌, arith}
-use Rattle.std.proofs.lemmas.List.{length-set, length-map}
-use Rattle.cm_router.specs.Logs.{log_room}
+use Rattle.std.proofs.lemmas.List.{length-set}
 use Rattle.cm_array.proofs.Rooms.{events_of-set, room_made}
 use Rattle.lab_machine.proofs.log_room.make_room.Goals as goal
 

@@ -1,6 +1,5 @@
-use Rattle.std.proofs.Common.{◌≡◌, refl, sym, ap, ◌∙◌, List, length}
+use Rattle.std.proofs.Common.{◌≡◌, sym, ap, ◌∙◌, length}
 use Rattle.cm_model.specs.declared.act.Act.TheVariants as act
-use Rattle.cm_model.specs.Machine.{Machine}
 use Rattle.cm_model.specs.Buffers.{after_act}
 use Rattle.cm_model.proofs.Runs.{run_of-one}
 use Rattle.cm_router.specs.Routes.{routing_of}
@@ -26,9 +25,9 @@ returns c =
     let old = machine_from routing was.run was.engine.buffers (events_of was.logs.items) was.clock in
     let lab : LabView = record { n = n; cap = cap; machine = old } in
     let is = (λ i. machine_from routing now.run (c.gather.ensures.value i) (events_of (told i)) now.clock)
-        ∙ c.cycle.ensures.value
-        ∙ (λ i. after_act n cap (machine_from routing was.run was.engine.buffers (same i) was.clock) act.Cycle)
-        ∙ sym (run_of-one n cap old act.Cycle c.self.invariant.routers.buffer_count) in
+    ∙ c.cycle.ensures.value
+    ∙ (λ i. after_act n cap (machine_from routing was.run was.engine.buffers (same i) was.clock) act.Cycle)
+    ∙ sym (run_of-one n cap old act.Cycle c.self.invariant.routers.buffer_count) in
     record {
       ok = (λ i. record lab { machine = is i }) ∙ ap (λ (l : LabView). lab_after l act.Cycle) c.self.view_is;
     }

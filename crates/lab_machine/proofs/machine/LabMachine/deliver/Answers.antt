@@ -1,5 +1,4 @@
-use Rattle.std.proofs.Common.{◌≡◌, ◌+◌, refl, sym, ap, ◌∙◌, List, length}
-use Rattle.cm_model.specs.Machine.{Machine}
+use Rattle.std.proofs.Common.{◌≡◌, ◌+◌, refl, ap, ◌∙◌, length}
 use Rattle.cm_model.specs.Buffers.{machine_after_delivery}
 use Rattle.cm_router.specs.Routes.{routing_of}
 use Rattle.cm_petit.specs.Routers.{machine_from, events_of}
@@ -25,8 +24,8 @@ returns c =
     let old = machine_from routing was.run was.engine.buffers (events_of was.logs.items) was.clock in
     let lab : LabView = record { n = n; cap = cap; machine = old } in
     let is = (λ i. machine_from routing now.run (c.gather.ensures.value i) (events_of (told i)) (was.clock + 1))
-        ∙ delivered_whole n cap _ refl c.self.invariant.routers.chip_count (c.deliver.ensures.value routing was.clock)
-        ∙ (λ i. machine_after_delivery n (machine_from routing was.run was.engine.buffers (same i) was.clock)) in
+    ∙ delivered_whole n cap _ refl c.self.invariant.routers.chip_count (c.deliver.ensures.value routing was.clock)
+    ∙ (λ i. machine_after_delivery n (machine_from routing was.run was.engine.buffers (same i) was.clock)) in
     record {
       ok = (λ i. record lab { machine = is i })
           ∙ ap (λ (l : LabView). record l { machine = machine_after_delivery l.n l.machine }) c.self.view_is;

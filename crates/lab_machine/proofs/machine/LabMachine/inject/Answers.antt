@@ -1,5 +1,4 @@
-use Rattle.std.proofs.Common.{◌≡◌, refl, sym, ap, ◌∙◌, List, length}
-use Rattle.cm_model.specs.Machine.{Machine}
+use Rattle.std.proofs.Common.{◌≡◌, refl, ap, ◌∙◌, length}
 use Rattle.cm_model.specs.Buffers.{machine_after_injection}
 use Rattle.cm_router.specs.Routes.{routing_of}
 use Rattle.cm_petit.specs.Routers.{machine_from, events_of}
@@ -25,8 +24,8 @@ returns c =
     let old = machine_from routing was.run was.engine.buffers (events_of was.logs.items) was.clock in
     let lab : LabView = record { n = n; cap = cap; machine = old } in
     let is = (λ i. machine_from routing now.run (c.gather.ensures.value i) (events_of (told i)) was.clock)
-        ∙ injected_whole n cap _ refl c.self.invariant.routers.chip_count (c.inject.ensures.value routing)
-        ∙ (λ i. machine_after_injection n cap (machine_from routing was.run was.engine.buffers (same i) was.clock)) in
+    ∙ injected_whole n cap _ refl c.self.invariant.routers.chip_count (c.inject.ensures.value routing)
+    ∙ (λ i. machine_after_injection n cap (machine_from routing was.run was.engine.buffers (same i) was.clock)) in
     record {
       ok = (λ i. record lab { machine = is i })
           ∙ ap (λ (l : LabView). record l { machine = machine_after_injection l.n l.cap l.machine }) c.self.view_is;

@@ -1,4 +1,4 @@
-use Rattle.std.proofs.Common.{◌≡◌, ◌^◌, ◌∷◌, [], length, sym, ap, ◌∙◌}
+use Rattle.std.proofs.Common.{◌^◌, length, sym, ap, ◌∙◌}
 use Rattle.cm_model.specs.declared.act.Act.TheVariants as act
 use Rattle.cm_model.specs.Array.{after_nano, incoming, chip_at}
 use Rattle.cm_model.specs.Chip.{chip_after}
@@ -34,7 +34,9 @@ returns c =
     record {
       value = (λ i. lab_view was.shape.dims was.shape.room was.routing (c.step.ensures.value i) was.engine.buffers
           was.logs.items was.clock)
-          ∙ (λ i. record lab { machine = sym (run_of-one lab.n lab.cap lab.machine (act.Nano c.args.nano.now)
-          c.self.invariant.routers.buffer_count) i })
+          ∙ (λ i. record lab {
+            machine = sym (run_of-one lab.n lab.cap lab.machine (act.Nano c.args.nano.now)
+                c.self.invariant.routers.buffer_count) i;
+          })
           ∙ ap (λ (l : LabView). lab_after l (act.Nano c.args.nano.now)) c.self.view_is;
     }

@@ -1,5 +1,4 @@
 use Rattle.std.proofs.Common.{◌≡◌, ◌≢◌, ◌≤◌, true, false, sym, ap, ◌∙◌, arith}
-use Rattle.std.proofs.lemmas.Bool.Decides.{nat_tests}
 use Rattle.lab_machine.specs.Machines.{room_fault}
 use Rattle.lab_machine.proofs.RoomFaults.{all_fit, some_crowded}
 use Rattle.lab_machine.proofs.machine.LabMachine.with_room.Goals as goal
