@@ -21,30 +21,30 @@ returns-then-eq-clause-refused t c =
 pub returns-in_ok-given-in-len2-up-clause-value : goal.returns-in_ok-given-in-len2-up-clause-value
 returns-in_ok-given-in-len2-up-clause-value t c =
     let go = room_goes_on c.args.room c.in_ok-given-in-len2-up.given c.args.table c.args.words.now _
-    c.in-len2-up.len_at_least (sym c.eq.ensures ∙ c.if-eq.false) (sym c.eq-else-eq.ensures ∙ c.if-eq-else-eq.true)
+    c.in-len2-up.len_at_least (sym c.eq.ensures ∙ c.if-eq.false) (sym c.eq-else-eq.ensures ∙ c.if-eq-2.true)
     c.in_ok-given-in-len2-up.ensures.value in
-    subst (λ (r : Result TaskAsked Refusal). IfOk c.read_studied_with-else-eq.result (λ asked. r ≡ Ok (task_asked asked)))
-    (sym go) c.read_studied_with-else-eq.ensures.value
+    subst (λ (r : Result TaskAsked Refusal). IfOk c.read_studied_with-then-eq-2.result (λ asked. r ≡ Ok (task_asked asked)))
+    (sym go) c.read_studied_with-then-eq-2.ensures.value
 
 pub returns-in_ok-given-in-len2-up-clause-refused : goal.returns-in_ok-given-in-len2-up-clause-refused
 returns-in_ok-given-in-len2-up-clause-refused t c =
     let go = room_goes_on c.args.room c.in_ok-given-in-len2-up.given c.args.table c.args.words.now _
-    c.in-len2-up.len_at_least (sym c.eq.ensures ∙ c.if-eq.false) (sym c.eq-else-eq.ensures ∙ c.if-eq-else-eq.true)
+    c.in-len2-up.len_at_least (sym c.eq.ensures ∙ c.if-eq.false) (sym c.eq-else-eq.ensures ∙ c.if-eq-2.true)
     c.in_ok-given-in-len2-up.ensures.value in
-    subst (λ (r : Result TaskAsked Refusal). IfErr c.read_studied_with-else-eq.result (Reports r)) (sym go)
-    c.read_studied_with-else-eq.ensures.refused
+    subst (λ (r : Result TaskAsked Refusal). IfErr c.read_studied_with-then-eq-2.result (Reports r)) (sym go)
+    c.read_studied_with-then-eq-2.ensures.refused
 
-pub returns-else-eq-clause-value : goal.returns-else-eq-clause-value
-returns-else-eq-clause-value t c =
+pub returns-else-eq-2-clause-value : goal.returns-else-eq-2-clause-value
+returns-else-eq-2-clause-value t c =
     let go = study_comes c.args.room c.args.table c.args.words.now _ c.in-len2-up.len_at_least
-    (sym c.eq.ensures ∙ c.if-eq.false) (sym c.eq-else-eq.ensures ∙ c.if-eq-else-eq.false) in
+    (sym c.eq.ensures ∙ c.if-eq.false) (sym c.eq-else-eq.ensures ∙ c.if-eq-2.false) in
     subst (λ (r : Result TaskAsked Refusal). IfOk c.read_studying_in.result (λ asked. r ≡ Ok (task_asked asked))) (sym go)
     c.read_studying_in.ensures.value
 
-pub returns-else-eq-clause-refused : goal.returns-else-eq-clause-refused
-returns-else-eq-clause-refused t c =
+pub returns-else-eq-2-clause-refused : goal.returns-else-eq-2-clause-refused
+returns-else-eq-2-clause-refused t c =
     let go = study_comes c.args.room c.args.table c.args.words.now _ c.in-len2-up.len_at_least
-    (sym c.eq.ensures ∙ c.if-eq.false) (sym c.eq-else-eq.ensures ∙ c.if-eq-else-eq.false) in
+    (sym c.eq.ensures ∙ c.if-eq.false) (sym c.eq-else-eq.ensures ∙ c.if-eq-2.false) in
     subst (λ (r : Result TaskAsked Refusal). IfErr c.read_studying_in.result (Reports r)) (sym go)
     c.read_studying_in.ensures.refused
 
