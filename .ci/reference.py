@@ -126,10 +126,19 @@ class Machine:
         chip, proc, birth = message.tag
         return (birth, chip, proc, since) if self.rule else since
 
-    def cycle(self):
+    def cycle(self, look=lambda dim: None):
+        """A petit cycle; who looks on is told before each dimension, and before delivery None."""
+        self.inject()
+        for dim in range(self.dims):
+            look(dim)
+            self.cross(dim)
+        look(None)
+        self.deliver()
+
+    def inject(self):
         self.cycles += 1
         taken = 0
-        for chip, here in enumerate(self.buffers):                   # injection
+        for chip, here in enumerate(self.buffers):
             senders = [16 * chip + proc for proc in range(16) if self.flag(16 * chip + proc, SEND)]
             for place in senders[:min(4, self.room - len(here))]:
                 sent = Message(self.field(place, 3968, 16) % self.chips, self.field(place, 3984, 4),
@@ -139,18 +148,27 @@ class Machine:
                 taken |= 1 << place
         self.flags[SEND] &= ~taken
         self.flags[ACK] = taken
-        for dim in range(self.dims):                                 # each dimension
-            leavers = []
-            for chip, here in enumerate(self.buffers):
-                crossing = [it for it in here if it[1].rel >> dim & 1]
-                if (crossing or len(here) == self.room) and not self.is_cut(chip, dim):
-                    leavers.append((chip, min(crossing, key=self.turn) if crossing else max(here, key=self.turn)))
-            for chip, it in leavers:
+
+    def leaver(self, chip, dim):
+        """Who leaves a chip in a dimension, if anybody does."""
+        here = self.buffers[chip]
+        crossing = [it for it in here if it[1].rel >> dim & 1]
+        if (crossing or len(here) == self.room) and not self.is_cut(chip, dim):
+            return min(crossing, key=self.turn) if crossing else max(here, key=self.turn)
+        return None
+
+    def cross(self, dim):
+        leavers = [(chip, self.leaver(chip, dim)) for chip in range(self.chips)]
+        for chip, it in leavers:
+            if it:
                 self.buffers[chip].remove(it)
-            for chip, (_, message) in leavers:
-                message.rel ^= 1 << dim
-                self.buffers[chip ^ 1 << dim].append(((self.cycles, 16 + dim), message))
-        for chip, here in enumerate(self.buffers):                   # delivery
+        for chip, it in leavers:
+            if it:
+                it[1].rel ^= 1 << dim
+                self.buffers[chip ^ 1 << dim].append(((self.cycles, 16 + dim), it[1]))
+
+    def deliver(self):
+        for chip, here in enumerate(self.buffers):
             arrived = {}
             for it in here:
                 if it[1].rel == 0:

@@ -400,25 +400,37 @@ class Machine:
         with TextFile(self.image(), "the machine") as image:
             return Picture(command("cm1lab", "picture", "--png", image, *what))
 
-    def study(self, source: str, messages: bool = False) -> Table:
+    def study(self, source: str, messages: bool = False, room: Optional[int] = None) -> Table:
         """What the router would do under a source, a record for each petit cycle, or with `messages` for each message.
+
+        With `room`, 1 to 15, each router has room for so many messages, and not for as many as the machine's.
 
         The machine stays as it is: the source runs on an image of it (`cm1lab study`). Columns by petit cycle: cycle,
         taken, delivered, referred, standing, full, asking; by message: chip, processor, taken, to chip, to processor,
         delivered (None where it stands in a router), crossed, referred.
         """
-        options = ["--messages"] if messages else []
+        options = [*(["--messages"] if messages else []), *_words("--room", room)]
         with TextFile(expand(source), "the program") as program, TextFile(self.image(), "the machine") as image:
             return Table(command("cm1lab", "study", *options, image, program).decode())
 
-    def route(self, tag: Tuple[int, int, int], source: str) -> Route:
+    def route(self, tag: Tuple[int, int, int], source: str, why: bool = False, first: Optional[int] = None,
+              last: Optional[int] = None, room: Optional[int] = None) -> Route:
         """The way that a message would go under a source, on an image of the machine (`cm1lab route`).
 
         `tag` is who sends it, chip and processor, and its birth, the petit cycle in which it is taken in: `m.cycles`
-        for the next one. `Failed` where there is no such message.
+        for the next one. With `why` each line tells what the message waits for where it stays. Petit cycles before
+        `first` are left out, and the source ends behind `last`. `room` is as for `study`. `Failed` where there is no
+        such message.
         """
+        options = [*(["--why"] if why else []),
+                   *_words("--from", first), *_words("--to", last), *_words("--room", room)]
         with TextFile(expand(source), "the program") as program, TextFile(self.image(), "the machine") as image:
-            return Route(command("cm1lab", "route", image, program, *tag).decode())
+            return Route(command("cm1lab", "route", *options, image, program, *tag).decode())
+
+
+def _words(option: str, number: Optional[int]) -> List[object]:
+    """An option with its number, if there is one."""
+    return [] if number is None else [option, number]
 
 
 def _flattened(numbers: Any, shape: Tuple[int, int]) -> Tuple[List[int], bool]:

@@ -117,9 +117,11 @@ class Route(List[str]):
                         way.append(chip)
         return way
 
-    def plot(self) -> Svg:
-        """The picture that `cm1lab plot` makes of it."""
-        return plot_of(self.text)
+    def plot(self, first: Optional[int] = None, last: Optional[int] = None) -> Svg:
+        """The picture that `cm1lab plot` makes of it, or of its petit cycles from one to another."""
+        options = (("--from", first), ("--to", last))
+        words = [word for option, cycle in options if cycle is not None for word in (option, cycle)]
+        return Svg(command("cm1lab", "plot", *words, given=self.text.encode()).decode())
 
     def __str__(self) -> str:
         return self.text

@@ -40,6 +40,26 @@ def test_a_study_by_messages_and_a_route():
             machine.route((3, 1, 0), HOT_SPOT)
 
 
+def test_a_part_of_a_route_and_why_the_message_waits():
+    with hot_spot(cut=[(0, 0), (0, 1), (0, 2)]) as machine:
+        route = machine.route((15, 0, 0), HOT_SPOT, why=True, first=2, last=3)
+        assert route == ["cycle 2: 8, stays, place 2 of 3, waits in 3 behind 10 0 0",
+                         "cycle 3: 8, stays, place 1 of 2, waits in 3 behind 12 0 0",
+                         "stands at 8, for processor 15 of chip 0"]
+        assert route.chips() == [8] and route.plot(last=2).text != route.plot().text
+        with pytest.raises(Failed, match="no petit cycle"):
+            route.plot(first=4)
+
+
+def test_studies_of_other_rooms():
+    with hot_spot() as machine:
+        assert [machine.study(HOT_SPOT, room=room)[0]["delivered"] for room in (1, 2, 3, 7)] == [1, 2, 3, 5]
+        route = machine.route((3, 0, 0), HOT_SPOT, room=1)
+        assert route[0] == "cycle 0: 3 -> 2 -> 0 -> 4 -> 12, referred in 2, referred in 3, place 1 of 1"
+        with pytest.raises(Failed, match="1 to 15 messages"):
+            machine.study(HOT_SPOT, room=16)
+
+
 def test_a_route_may_come_to_a_chip_again():
     told = ["cycle 3: 5 -> 7, place 1 of 2", "cycle 4: 7, stays, place 1 of 2", "cycle 5: 7 -> 5 -> 1, place 1 of 1"]
     assert Route("\n".join(told)).chips() == [5, 7, 5, 1]

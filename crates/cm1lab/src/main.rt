@@ -20,7 +20,7 @@ use lab_args::{Asked, Blank, Command, CommandFault, Given, HELP, Loads, VERSION,
 use lab_data::{LabFault, RouteFault, perform_watched};
 use lab_fresh::{FreshFault, fresh};
 use lab_front::front_image;
-use lab_route_plot::plot;
+use lab_route_plot::{Cycles, plot};
 use lab_source::expand;
 use std::alloc::Global;
 use std::io;
@@ -101,14 +101,19 @@ fn obey<R: Input + Print + Eprint + Files + Clock + AllocGlobal>(
         Command::Expand { source } => unfold(rt, alloc, source),
         Command::Fresh(blank) => begin(rt, alloc, &blank),
         Command::Load(loads) => load(rt, alloc, &loads),
-        Command::Plot { file } => draw(rt, alloc, file),
+        Command::Plot { file, cycles } => draw(rt, alloc, file, cycles),
     }
 }
 
-/// The picture of a table or a route.
-fn draw<R: Input + Print + Files>(rt: &R, alloc: Global, file: Option<&str>) -> Result<(), Fault> {
+/// The picture of a table, or of these petit cycles of a route.
+fn draw<R: Input + Print + Files>(
+    rt: &R,
+    alloc: Global,
+    file: Option<&str>,
+    cycles: Cycles,
+) -> Result<(), Fault> {
     let table = read_table(rt, alloc, file)?;
-    match plot(alloc, table.as_slice()) {
+    match plot(alloc, table.as_slice(), cycles) {
         Ok(picture) => show(rt, picture.as_slice()),
         Err(fault) => Err(Fault::plot(alloc, file.unwrap_or("standard input"), fault)),
     }

@@ -6,7 +6,7 @@ use Rattle.lab_data.specs.declared.order.Order.{Order}
 use Rattle.lab_args.specs.Words.{texts}
 use Rattle.lab_args.specs.Refusals.{Words}
 use Rattle.lab_args.specs.Commands.{freshening, loading, request_of}
-use Rattle.lab_args.specs.Tasks.{filling_in, painting, picture_asked, routing, sender_words, telling}
+use Rattle.lab_args.specs.Tasks.{filling_in, painting, picture_asked, sender_words, telling}
 
 pub few_or_many_of_sender : (words : List (Bor (List ℕ))) → (length words < 3) ⊎ (4 ≤ length words)
     → sender_words (texts words) ≡ Err Words
@@ -49,11 +49,6 @@ few_or_many_of_picture look (a ∷ []) h = refl
 few_or_many_of_picture look (a ∷ b ∷ []) h = absurd (omega arith)
 few_or_many_of_picture look (a ∷ b ∷ c ∷ []) h = absurd (omega arith)
 few_or_many_of_picture look (a ∷ b ∷ c ∷ d ∷ rest) h = refl
-
-pub few_of_routing : (words : List (Bor (List ℕ))) → length words < 2 → routing (texts words) ≡ Err Words
-few_of_routing [] h = refl
-few_of_routing (a ∷ []) h = refl
-few_of_routing (a ∷ b ∷ rest) h = absurd (omega arith)
 
 pub few_of_freshening : (words : List (Bor (List ℕ))) → length words < 2 → freshening (texts words) ≡ Err Words
 few_of_freshening [] h = refl

@@ -2,6 +2,7 @@ pub mod Numbers
 pub mod Forms
 pub mod OptionLemmas
 pub mod LookLemmas
+pub mod StudyLemmas
 pub mod EndLemmas
 pub mod RateLemmas
 pub mod TwiceLemmas

@@ -1,5 +1,5 @@
 -- What the words of a command line ask for: ours.
-use Rattle.std.specs.Prelude.{◌≡◌, ◌≢◌, ◌⊎◌, ◌&&◌, ◌||◌, Bool, false, not, MatchOption, if◌then◌else◌, Option}
+use Rattle.std.specs.Prelude.{◌≡◌, ◌≢◌, ◌⊎◌, ◌-◌, ◌^◌, ◌&&◌, ◌||◌, Bool, false, not, MatchOption, if◌then◌else◌, Option}
 use Rattle.std.specs.Prelude.{Some, None, Result, Ok, Err}
 use Rattle.std.specs.Prelude.{List, [], ◌∷◌, ◌++◌, codes, bytes_eq}
 use Rattle.std.specs.List.{list_any}
@@ -7,8 +7,10 @@ use Rattle.std.specs.Bool.{MatchBool}
 use Rattle.lab_args.specs.Refusals.{Text, Refusal, Help, Memory, Twice, UnknownCommand, UnknownOption, Usage}
 use Rattle.lab_args.specs.Refusals.{Version, Words, ◌>>=◌}
 use Rattle.lab_args.specs.Requests.{Do, Expand, Fresh, Front, Load, Plot, Request}
-use Rattle.lab_args.specs.Operands.{file_named, is_option}
-use Rattle.lab_args.specs.Tasks.{is_setting, is_sign, task_of}
+use Rattle.lab_route_plot.specs.declared.legs.Cycles.{Cycles}
+use Rattle.lab_args.specs.declared.operands.Operand.TheVariants as operand
+use Rattle.lab_args.specs.Operands.{file_named, is_option, operand_below}
+use Rattle.lab_args.specs.Tasks.{is_route_setting, is_setting, is_sign, task_of}
 use Rattle.lab_args.specs.Blanks.{blank}
 use Rattle.lab_args.specs.Loads.{load}
 use Rattle.lab_args.specs.Usage.{usage_of}
@@ -37,11 +39,24 @@ abbrev pub loading : List Text → Result Request Refusal
 loading (n ∷ room ∷ rates ∷ cycles ∷ options) = load n room rates cycles options >>= λ loads. Ok (Load loads)
 loading _ = Err Words
 
--- `plot`: FILE, or nothing
+-- the petit cycles with what an option says, by the word behind it
+abbrev pub with_bound : Cycles → Text → Text → Result Cycles Refusal
+with_bound cycles option word =
+    if bytes_eq option (codes "--from")
+    then operand_below (2 ^ 64) operand.Bound word >>= (λ from. Ok (record cycles { from = from }))
+    else (if bytes_eq option (codes "--to")
+    then operand_below (2 ^ 64) operand.Bound word >>= (λ to. Ok (record cycles { to = to }))
+    else Err Words)
+
+-- FILE, or nothing, before which options may stand
+abbrev pub plotting_of : Cycles → List Text → Result Request Refusal
+plotting_of cycles [] = Ok (Plot None cycles)
+plotting_of cycles (file ∷ []) = Ok (Plot (Some file) cycles)
+plotting_of cycles (option ∷ word ∷ rest) = with_bound cycles option word >>= λ changed. plotting_of changed rest
+
+-- `plot`: the same, of all petit cycles where nothing else is said
 abbrev pub plotting : List Text → Result Request Refusal
-plotting [] = Ok (Plot None)
-plotting (file ∷ []) = Ok (Plot (Some file))
-plotting _ = Err Words
+plotting words = plotting_of (record { from = 0; to = 2 ^ 64 - 1 }) words
 
 -- what the words behind a command's name ask for; behind a call for help or the version they do not matter
 abbrev pub request_named : Text → List Text → Result Request Refusal
@@ -102,10 +117,13 @@ abbrev pub is_option_of : Text → Text → Bool
 is_option_of command word =
     if bytes_eq command (codes "put") then bytes_eq word (codes "--rows")
     else (if bytes_eq command (codes "picture") then is_sign word || is_setting word
-    else (if bytes_eq command (codes "study") then bytes_eq word (codes "--messages")
+    else (if bytes_eq command (codes "study") then bytes_eq word (codes "--messages") || bytes_eq word (codes "--room")
+    else (if bytes_eq command (codes "route") then bytes_eq word (codes "--why") || is_route_setting word
     else (if bytes_eq command (codes "front") then bytes_eq word (codes "--out")
     else (if bytes_eq command (codes "fresh") then is_fresh_option word
-    else (if bytes_eq command (codes "load") then is_load_option word else false)))))
+    else (if bytes_eq command (codes "load") then is_load_option word
+    else (if bytes_eq command (codes "plot") then bytes_eq word (codes "--from") || bytes_eq word (codes "--to")
+    else false)))))))
 
 -- the first option that a command has not
 abbrev pub unknown_option : Text → List Text → Option Text

@@ -4,6 +4,7 @@ use Rattle.lab_fresh.specs.declared.blanks.WireEnd.{WireEnd}
 use Rattle.lab_data.specs.declared.lab.Task.{Task}
 use Rattle.lab_args.specs.declared.blanks.Blank.{Blank}
 use Rattle.lab_load.specs.declared.trials.Trial.{Trial}
+use Rattle.lab_route_plot.specs.declared.legs.Cycles.{Cycles}
 use Rattle.lab_args.specs.declared.loads.Loads.{Loads}
 use Rattle.lab_args.specs.declared.reading.Command.{Command}
 use Rattle.lab_args.specs.declared.reading.Command.TheVariants as command
@@ -85,7 +86,7 @@ pub data Request : Type 0 where
   Expand : Text → Request
   Fresh : BlankAsked → Request
   Load : LoadsAsked → Request
-  Plot : Option Text → Request
+  Plot : Option Text → Cycles → Request
 
 -- what a command asks for, by the names of its files
 abbrev pub requested : Command → Request
@@ -94,4 +95,4 @@ requested (command.Front image out) = Front image.now (option_map (λ file. file
 requested (command.Expand source) = Expand source.now
 requested (command.Fresh blank) = Fresh (blank_asked blank)
 requested (command.Load loads) = Load (loads_asked loads)
-requested (command.Plot file) = Plot (option_map (λ name. name.now) file)
+requested (command.Plot file cycles) = Plot (option_map (λ name. name.now) file) cycles

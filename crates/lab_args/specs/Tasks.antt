@@ -1,5 +1,6 @@
 -- What the words behind the name of a task's command ask for: ours.
-use Rattle.std.specs.Prelude.{◌^◌, ◌||◌, Bool, true, false, nat_lt, if◌then◌else◌, Some, None, Result, Ok, Err}
+use Rattle.std.specs.Prelude.{ℕ, ◌-◌, ◌^◌, ◌||◌, Bool, true, false, nat_lt, if◌then◌else◌}
+use Rattle.std.specs.Prelude.{Option, Some, None, Result, Ok, Err}
 use Rattle.std.specs.Prelude.{List, [], ◌∷◌, codes, bytes_eq}
 use Rattle.cm_model.specs.declared.message.Tag.{Tag}
 use Rattle.lab_figures.specs.declared.formats.Format.TheVariants.{Netpbm, Png, Colours}
@@ -14,6 +15,7 @@ use Rattle.lab_data.specs.declared.order.Order.{Order}
 use Rattle.lab_data.specs.declared.order.Order.TheVariants.{Chips, Rows}
 use Rattle.lab_data.specs.declared.pictures.Shown.TheVariants as seen
 use Rattle.lab_args.specs.declared.operands.Operand.TheVariants as operand
+use Rattle.lab_args.specs.declared.tasks.RouteAsked.{RouteAsked}
 use Rattle.lab_args.specs.Refusals.{Text, Refusal, Wanted, Words, ◌>>=◌}
 use Rattle.lab_args.specs.Operands.{field, file_named, operand_below, palette_named, scale_of}
 use Rattle.lab_args.specs.Requests.{Beside, Nothing, Numbers, Picture, Program, TaskAsked}
@@ -130,16 +132,27 @@ abbrev pub painting : List Text → Result TaskAsked Refusal
 painting (image ∷ picture ∷ at ∷ out ∷ []) = painted image picture at out
 painting _ = Err Words
 
--- IMAGE PROGRAM
-abbrev pub studying_in : Table → List Text → Result TaskAsked Refusal
-studying_in table (image ∷ program ∷ []) = Ok (reporting_task (Study table) image (Program program))
-studying_in table _ = Err Words
+-- the room that a word says
+abbrev pub room_named : Text → Result (Option ℕ) Refusal
+room_named word = operand_below (2 ^ 16) operand.Cap word >>= λ room. Ok (Some room)
 
--- `study`: these, before which `--messages` may stand
+-- IMAGE PROGRAM
+abbrev pub studying_in : Option ℕ → Table → List Text → Result TaskAsked Refusal
+studying_in room table (image ∷ program ∷ []) = Ok (reporting_task (Study room table) image (Program program))
+studying_in room table _ = Err Words
+
+-- these, before which options may stand
+abbrev pub studied_with : Option ℕ → Table → List Text → Result TaskAsked Refusal
+studied_with room table [] = Err Words
+studied_with room table (option ∷ []) = Err Words
+studied_with room table (option ∷ word ∷ rest) =
+    if bytes_eq option (codes "--messages") then studied_with room Messages (word ∷ rest)
+    else (if bytes_eq option (codes "--room") then room_named word >>= (λ given. studied_with given table rest)
+    else studying_in room table (option ∷ word ∷ rest))
+
+-- `study`: the same, by petit cycle and with the machine's own room where nothing else is said
 abbrev pub studying : List Text → Result TaskAsked Refusal
-studying [] = Err Words
-studying (first ∷ rest) =
-    if bytes_eq first (codes "--messages") then studying_in Messages rest else studying_in Cycles (first ∷ rest)
+studying words = studied_with None Cycles words
 
 -- the tag of a message: by the chip and the processor that sent it, and the petit cycle in which it was taken in
 abbrev pub tag : Text → Text → Text → Result Tag Refusal
@@ -154,13 +167,47 @@ sender_words (chip ∷ proc ∷ birth ∷ []) = tag chip proc birth
 sender_words _ = Err Words
 
 -- the way of a message is told
-abbrev pub routed : Text → Text → List Text → Result TaskAsked Refusal
-routed image program words = sender_words words >>= λ sent. Ok (reporting_task (Route sent) image (Program program))
+abbrev pub routed : RouteAsked → Text → Text → List Text → Result TaskAsked Refusal
+routed asked image program words =
+    sender_words words >>= λ sent. Ok (reporting_task (Route asked.room asked.excerpt sent) image (Program program))
 
--- `route`: IMAGE PROGRAM CHIP PROC CYCLE
+-- an option of a route behind which a word stands
+abbrev pub is_route_setting : Text → Bool
+is_route_setting option =
+    bytes_eq option (codes "--from") || (bytes_eq option (codes "--to") || bytes_eq option (codes "--room"))
+
+-- and what both say
+abbrev pub with_route_setting : RouteAsked → Text → Text → Result RouteAsked Refusal
+with_route_setting asked option word =
+    if bytes_eq option (codes "--from")
+    then operand_below (2 ^ 64) operand.Bound word >>= (λ from.
+    Ok (record asked { excerpt = record asked.excerpt { from = from } }))
+    else (if bytes_eq option (codes "--to")
+    then operand_below (2 ^ 64) operand.Bound word >>= (λ to.
+    Ok (record asked { excerpt = record asked.excerpt { to = to } }))
+    else room_named word >>= (λ room. Ok (record asked { room = room })))
+
+-- why the message waits is told too
+abbrev pub with_waits : RouteAsked → RouteAsked
+with_waits asked = record asked { excerpt = record asked.excerpt { waits = true } }
+
+-- IMAGE PROGRAM CHIP PROC CYCLE, before which options may stand
+abbrev pub routed_with : RouteAsked → List Text → Result TaskAsked Refusal
+routed_with asked [] = Err Words
+routed_with asked (option ∷ []) = Err Words
+routed_with asked (option ∷ word ∷ rest) =
+    if bytes_eq option (codes "--why") then routed_with (with_waits asked) (word ∷ rest)
+    else (if is_route_setting option
+    then with_route_setting asked option word >>= (λ changed. routed_with changed rest)
+    else routed asked option word rest)
+
+-- the whole route, with the machine's own room
+abbrev pub whole_route : RouteAsked
+whole_route = record { room = None; excerpt = record { from = 0; to = 2 ^ 64 - 1; waits = false } }
+
+-- `route`: the same, of the whole route where nothing else is said
 abbrev pub routing : List Text → Result TaskAsked Refusal
-routing (image ∷ program ∷ words) = routed image program words
-routing _ = Err Words
+routing words = routed_with whole_route words
 
 -- the task of a command
 abbrev pub task_of : Text → List Text → Result TaskAsked Refusal

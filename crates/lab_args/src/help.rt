@@ -6,7 +6,7 @@ ghost use Rattle.lab_args.specs.Usage.{behind_word, first_word, usage_of, with_u
 ghost use Rattle.lab_args.specs.Commands.{is_command, is_fresh_option, is_load_option, is_option_of, unknown_option};
 
 use crate::operands::is_option;
-use crate::tasks::{is_setting, is_sign};
+use crate::tasks::{is_route_setting, is_setting, is_sign};
 use cm_bits::NoMemory;
 use std::alloc::Global;
 
@@ -38,18 +38,22 @@ cm1lab picture [--plain | --png | --palette NAME] [--scale K] [--greatest] IMAGE
 cm1lab paint IMAGE PICTURE ADDRESS OUT
     puts the dots of the file PICTURE, a PBM or a PGM, into a field of each processor that
     begins at ADDRESS and has as many bits as a dot, and the image into the file OUT
-cm1lab study IMAGE PROGRAM
+cm1lab study [--room CAP] IMAGE PROGRAM
     runs the program and tells a table, a line for each petit cycle: messages that were
     taken in, delivered, referred, that stand in routers then, full routers, and
-    processors that still ask to send
-cm1lab study --messages IMAGE PROGRAM
+    processors that still ask to send; with --room the machine has room for CAP messages in
+    each router, 1 to 15, and not the image's
+cm1lab study --messages [--room CAP] IMAGE PROGRAM
     tells a line for each message: who sent it and in which petit cycle, where it is
     bound for, when it was delivered, how many dimensions it crossed, how often it was
     referred
-cm1lab route IMAGE PROGRAM CHIP PROC CYCLE
+cm1lab route [--why] [--from T] [--to T] [--room CAP] IMAGE PROGRAM CHIP PROC CYCLE
     runs the program and tells the way of the message that processor PROC of CHIP sent and
     that was taken in in petit cycle CYCLE: a line for each petit cycle with the chips on its
-    way, the dimensions in which it was referred, and its place in the router where it stands
+    way, the dimensions in which it was referred, and its place in the router where it stands;
+    with --why what it waits for where it stays: a wire that is cut, the message that goes
+    first, RECV; with --from the petit cycles before T are left out, with --to the program
+    ends behind petit cycle T
 cm1lab front IMAGE [--out FILE]
     takes the place of the front end: each line of standard input is one of a program, whose
     acts are run at once and which is answered ok, sense by the wire as it is, or a question
@@ -72,10 +76,11 @@ cm1lab load N CAP RATE,.. CYCLES [--cut CHIP DIM].. [--cut-random K] [--seed S] 
     crossings tells more columns, how often messages crossed a dimension, were referred, were
     refused, and petit cycles behind which nothing was left; --table dimensions a line for
     each dimension
-cm1lab plot [FILE] > PICTURE
+cm1lab plot [--from T] [--to T] [FILE] > PICTURE
     tells a picture, an SVG, of a table that cm1lab study, cm1lab study --messages or cm1lab
     load told, or of what cm1lab route told, which is in FILE or on standard input: lines over
-    petit cycles, over how long messages took, or over the rate, or the way of the message;
+    petit cycles, over how long messages took, or over the rate, or the way of the message,
+    of which --from and --to draw petit cycles T to T alone;
     also of a table that compares loads: its first line begins with rate and has at most nine
     names more, with commas between, and each line behind it has their numbers
 
@@ -178,10 +183,12 @@ fn is_option_of(command: &str, word: &str) -> bool
     match command {
         "put" => word == "--rows",
         "picture" => is_sign(word) || is_setting(word),
-        "study" => word == "--messages",
+        "study" => word == "--messages" || word == "--room",
+        "route" => word == "--why" || is_route_setting(word),
         "front" => word == "--out",
         "fresh" => is_fresh_option(word),
         "load" => is_load_option(word),
+        "plot" => word == "--from" || word == "--to",
         _ => false,
     }
 }

@@ -1,6 +1,6 @@
 //! Laws: what some lines ask for, and what others are refused for.
 
-ghost use Rattle.std.specs.Prelude.{◌≡◌, [], ◌∷◌, codes, true, false, None, Some, Ok, Err};
+ghost use Rattle.std.specs.Prelude.{◌≡◌, ◌-◌, ◌^◌, [], ◌∷◌, codes, true, false, None, Some, Ok, Err};
 ghost use Rattle.cm_bits.specs.declared.field.FieldFault.TheVariants as range;
 ghost use Rattle.lab_figures.specs.declared.formats.Format.TheVariants as format;
 ghost use Rattle.lab_figures.specs.declared.palettes.Palette.TheVariants as palette;
@@ -58,14 +58,23 @@ pub fn lines_ask_for()
         (codes "cm1lab" ∷ codes "paint" ∷ codes "a.image" ∷ codes "b.pbm" ∷ codes "40" ∷ codes "b.image" ∷ [])
         ≡ Ok (Do (left_by (task.Paint 40) (codes "a.image") (Picture (codes "b.pbm")) (codes "b.image"))) }
     ensures study { request_of (codes "cm1lab" ∷ codes "study" ∷ codes "a.image" ∷ codes "p.txt" ∷ [])
-        ≡ Ok (Do (reporting_task (task.Study table.Cycles) (codes "a.image") (Program (codes "p.txt")))) }
+        ≡ Ok (Do (reporting_task (task.Study None table.Cycles) (codes "a.image") (Program (codes "p.txt")))) }
     ensures study_messages { request_of
         (codes "cm1lab" ∷ codes "study" ∷ codes "--messages" ∷ codes "a.image" ∷ codes "p.txt" ∷ [])
-        ≡ Ok (Do (reporting_task (task.Study table.Messages) (codes "a.image") (Program (codes "p.txt")))) }
+        ≡ Ok (Do (reporting_task (task.Study None table.Messages) (codes "a.image") (Program (codes "p.txt")))) }
     ensures route { request_of
         (codes "cm1lab" ∷ codes "route" ∷ codes "a.image" ∷ codes "p.txt" ∷ codes "12" ∷ codes "3" ∷ codes "70" ∷ [])
-        ≡ Ok (Do (reporting_task (task.Route (record { chip = 12; proc = 3; birth = 70 })) (codes "a.image")
-        (Program (codes "p.txt")))) }
+        ≡ Ok (Do (reporting_task (task.Route None (record { from = 0; to = 2 ^ 64 - 1; waits = false })
+        (record { chip = 12; proc = 3; birth = 70 })) (codes "a.image") (Program (codes "p.txt")))) }
+    ensures study_room { request_of
+        (codes "cm1lab" ∷ codes "study" ∷ codes "--room" ∷ codes "3" ∷ codes "--messages" ∷ codes "a.image"
+        ∷ codes "p.txt" ∷ [])
+        ≡ Ok (Do (reporting_task (task.Study (Some 3) table.Messages) (codes "a.image") (Program (codes "p.txt")))) }
+    ensures route_part { request_of
+        (codes "cm1lab" ∷ codes "route" ∷ codes "--why" ∷ codes "--from" ∷ codes "5" ∷ codes "--to" ∷ codes "9"
+        ∷ codes "--room" ∷ codes "3" ∷ codes "a.image" ∷ codes "p.txt" ∷ codes "12" ∷ codes "3" ∷ codes "70" ∷ [])
+        ≡ Ok (Do (reporting_task (task.Route (Some 3) (record { from = 5; to = 9; waits = true })
+        (record { chip = 12; proc = 3; birth = 70 })) (codes "a.image") (Program (codes "p.txt")))) }
     ensures front { request_of (codes "cm1lab" ∷ codes "front" ∷ codes "a.image" ∷ [])
         ≡ Ok (Front (codes "a.image") None) }
     ensures front_out { request_of
@@ -135,9 +144,13 @@ pub fn lines_ask_for()
           drawn = 6;
           rates = 200 ∷ [];
         })) }
-    ensures plot { request_of (codes "cm1lab" ∷ codes "plot" ∷ []) ≡ Ok (Plot None) }
+    ensures plot { request_of (codes "cm1lab" ∷ codes "plot" ∷ [])
+        ≡ Ok (Plot None (record { from = 0; to = 2 ^ 64 - 1 })) }
+    ensures plot_part { request_of
+        (codes "cm1lab" ∷ codes "plot" ∷ codes "--from" ∷ codes "5" ∷ codes "--to" ∷ codes "9" ∷ codes "a.txt" ∷ [])
+        ≡ Ok (Plot (Some (codes "a.txt")) (record { from = 5; to = 9 })) }
     ensures plot_file { request_of (codes "cm1lab" ∷ codes "plot" ∷ codes "a.csv" ∷ [])
-        ≡ Ok (Plot (Some (codes "a.csv"))) }
+        ≡ Ok (Plot (Some (codes "a.csv")) (record { from = 0; to = 2 ^ 64 - 1 })) }
 {}
 
 /// A law: these lines ask for nothing, and for these faults.

@@ -7,14 +7,16 @@ ghost use Rattle.lab_args.specs.Refusals.{Memory, Reports, reported_refusal};
 ghost use Rattle.lab_args.specs.Requests.{requested};
 ghost use Rattle.lab_args.specs.Commands.{Explains, IsExplained, Refuses, expanding, freshening, fronting};
 ghost use Rattle.lab_args.specs.Commands.{given_twice, is_single, loading, request_named, plotting, request_of};
+ghost use Rattle.lab_args.specs.Commands.{plotting_of, with_bound};
 
 use crate::blanks::{Blank, read_blank};
 use crate::fault::CommandFault;
 use crate::help::{is_command, unknown_option, usage_of};
 use crate::loads::{Loads, read_loads};
-use crate::operands::{file_named, is_option};
+use crate::operands::{Operand, file_named, is_option, long_number};
 use crate::tasks::read_task;
 use lab_data::Task;
+use lab_route_plot::Cycles;
 use std::alloc::Global;
 
 /// Where that is what a task is given beside the image.
@@ -47,9 +49,10 @@ pub enum Command<'a> {
     Fresh(Blank<'a>),
     /// Loads of the router.
     Load(Loads),
-    /// The picture of a table, which is in this file or on standard input.
+    /// The picture of a table, which is in this file or on standard input, or of these petit cycles of a route.
     Plot {
         file: Option<&'a str>,
+        cycles: Cycles,
     },
 }
 
@@ -160,7 +163,7 @@ fn read_named<'a>(
         "expand" => read_expanding(words),
         "fresh" => read_freshening(alloc, words),
         "load" => read_loading(alloc, words),
-        "plot" => read_plotting(words),
+        "plot" => read_plotting(alloc, words),
         "--help" => Err(CommandFault::Help),
         "-h" => Err(CommandFault::Help),
         "help" => Err(CommandFault::Help),
@@ -235,13 +238,54 @@ fn read_loading<'a>(alloc: Global, words: &[&'a str]) -> Result<Command<'a>, Com
     }
 }
 
-fn read_plotting<'a>(words: &[&'a str]) -> Result<Command<'a>, CommandFault>
+fn read_plotting<'a>(alloc: Global, words: &[&'a str]) -> Result<Command<'a>, CommandFault>
     ensures value { IfOk result (λ command. plotting (texts words.now) ≡ Ok (requested command)) }
     ensures refused { IfErr result (Reports (plotting (texts words.now))) }
 {
+    read_plotting_of(alloc, Cycles::ALL, words)
+}
+
+/// The same, of the petit cycles that options have said.
+fn read_plotting_of<'a>(
+    alloc: Global,
+    cycles: Cycles,
+    words: &[&'a str],
+) -> Result<Command<'a>, CommandFault>
+    ensures value { IfOk result (λ command. plotting_of cycles (texts words.now) ≡ Ok (requested command)) }
+    ensures refused { IfErr result (Reports (plotting_of cycles (texts words.now))) }
+{
     match words {
-        [] => Ok(Command::Plot { file: None }),
-        [file] => Ok(Command::Plot { file: Some(file) }),
+        [] => Ok(Command::Plot { file: None, cycles }),
+        [file] => Ok(Command::Plot {
+            file: Some(file),
+            cycles,
+        }),
+        [option, word, after @ ..] => {
+            let changed = with_bound(alloc, cycles, option, word)?;
+            read_plotting_of(alloc, changed, after)
+        }
+    }
+}
+
+/// The petit cycles with what an option says, by the word behind it.
+fn with_bound(
+    alloc: Global,
+    cycles: Cycles,
+    option: &str,
+    word: &str,
+) -> Result<Cycles, CommandFault>
+    ensures value { IfOk result (λ changed. with_bound cycles option.now word.now ≡ Ok changed) }
+    ensures refused { IfErr result (Reports (with_bound cycles option.now word.now)) }
+{
+    match option {
+        "--from" => {
+            let from = long_number(alloc, Operand::Bound, word)?;
+            Ok(Cycles { from, ..cycles })
+        }
+        "--to" => {
+            let to = long_number(alloc, Operand::Bound, word)?;
+            Ok(Cycles { to, ..cycles })
+        }
         _ => Err(CommandFault::Words),
     }
 }

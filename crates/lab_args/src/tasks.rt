@@ -6,8 +6,9 @@ ghost use Rattle.lab_args.specs.Refusals.{Reports};
 ghost use Rattle.lab_args.specs.Requests.{Nothing, Program, task_asked};
 ghost use Rattle.lab_args.specs.Tasks.{field_pictured, filled, filling, filling_in, flag_pictured, flagged};
 ghost use Rattle.lab_args.specs.Tasks.{is_setting, is_sign, looked_at, painted, painting, picture_asked, picturing};
-ghost use Rattle.lab_args.specs.Tasks.{routed, routing, sender_words, field_shown, span_pictured, studying};
-ghost use Rattle.lab_args.specs.Tasks.{studying_in, tag};
+ghost use Rattle.lab_args.specs.Tasks.{is_route_setting, room_named, routed, routed_with, routing, sender_words};
+ghost use Rattle.lab_args.specs.Tasks.{field_shown, span_pictured, studied_with, studying, studying_in, tag};
+ghost use Rattle.lab_args.specs.Tasks.{with_route_setting, with_waits};
 ghost use Rattle.lab_args.specs.Tasks.{task_of, telling, reporting_task, with_setting, with_sign};
 
 use crate::fault::CommandFault;
@@ -16,7 +17,7 @@ use crate::operands::{
 };
 use crate::reading::{Asked, Given};
 use cm_bits::Field;
-use lab_data::{Form, Format, Look, Order, Shown, Table, Tag, Task};
+use lab_data::{Excerpt, Form, Format, Look, Order, Shown, Table, Tag, Task};
 use std::alloc::Global;
 
 /// The words of the task of a command.
@@ -34,7 +35,7 @@ pub(crate) fn read_task<'a>(
         "put" => read_filling(alloc, words),
         "picture" => read_picturing(alloc, words),
         "paint" => read_painting(alloc, words),
-        "study" => read_studying(words),
+        "study" => read_studying(alloc, words),
         "route" => read_routing(alloc, words),
         _ => Err(CommandFault::Words),
     }
@@ -351,67 +352,187 @@ fn read_painted<'a>(
     })
 }
 
-/// A study is a table of petit cycles, or of messages.
-fn read_studying<'a>(words: &[&'a str]) -> Result<Asked<'a>, CommandFault>
+/// A study is a table of petit cycles, with the machine's own room, where options say nothing else.
+fn read_studying<'a>(alloc: Global, words: &[&'a str]) -> Result<Asked<'a>, CommandFault>
     ensures value { IfOk result (λ asked. studying (texts words.now) ≡ Ok (task_asked asked)) }
     ensures refused { IfErr result (Reports (studying (texts words.now))) }
 {
-    let Some((first, rest)) = words.split_first() else {
-        return Err(CommandFault::Words);
-    };
-    match *first {
-        "--messages" => read_studying_in(Table::Messages, rest),
-        _ => read_studying_in(Table::Cycles, words),
-    }
+    read_studied_with(alloc, None, Table::Cycles, words)
 }
 
-fn read_studying_in<'a>(table: Table, words: &[&'a str]) -> Result<Asked<'a>, CommandFault>
-    ensures value { IfOk result (λ asked. studying_in table (texts words.now) ≡ Ok (task_asked asked)) }
-    ensures refused { IfErr result (Reports (studying_in table (texts words.now))) }
+/// The same, with what options have said.
+fn read_studied_with<'a>(
+    alloc: Global,
+    room: Option<u16>,
+    table: Table,
+    words: &[&'a str],
+) -> Result<Asked<'a>, CommandFault>
+    ensures value { IfOk result (λ asked. studied_with room table (texts words.now) ≡ Ok (task_asked asked)) }
+    ensures refused { IfErr result (Reports (studied_with room table (texts words.now))) }
 {
     match words {
-        [image, program] => Ok(studied(table, image, program)),
+        [option, word, after @ ..] => {
+            if *option == "--messages" {
+                read_studied_with(alloc, room, Table::Messages, &words[1..])
+            } else if *option == "--room" {
+                let given = room_named(alloc, word)?;
+                read_studied_with(alloc, given, table, after)
+            } else {
+                read_studying_in(room, table, words)
+            }
+        }
         _ => Err(CommandFault::Words),
     }
 }
 
-fn studied<'a>(table: Table, image: &'a str, program: &'a str) -> Asked<'a>
-    ensures { task_asked result ≡ reporting_task (Task.Study table) image.now (Program program.now) }
+/// The room that a word says.
+fn room_named(alloc: Global, word: &str) -> Result<Option<u16>, CommandFault>
+    ensures value { IfOk result (λ room. room_named word.now ≡ Ok room) }
+    ensures refused { IfErr result (Reports (room_named word.now)) }
+{
+    let room = number(alloc, Operand::Cap, word)?;
+    Ok(Some(room))
+}
+
+fn read_studying_in<'a>(
+    room: Option<u16>,
+    table: Table,
+    words: &[&'a str],
+) -> Result<Asked<'a>, CommandFault>
+    ensures value { IfOk result (λ asked. studying_in room table (texts words.now) ≡ Ok (task_asked asked)) }
+    ensures refused { IfErr result (Reports (studying_in room table (texts words.now))) }
+{
+    match words {
+        [image, program] => Ok(reporting(Task::Study(room, table), image, program)),
+        _ => Err(CommandFault::Words),
+    }
+}
+
+/// A task that tells, of a program.
+fn reporting<'a>(task: Task, image: &'a str, program: &'a str) -> Asked<'a>
+    ensures { task_asked result ≡ reporting_task task image.now (Program program.now) }
 {
     Asked {
-        task: Task::Study(table),
+        task,
         image,
         given: Given::Program(program),
         out: None,
     }
 }
 
+/// What options say of a route.
+#[derive(Clone, Copy)]
+pub(crate) struct RouteAsked {
+    pub(crate) room: Option<u16>,
+    pub(crate) excerpt: Excerpt,
+}
+
+/// A route is told whole, with the machine's own room, where options say nothing else.
 fn read_routing<'a>(alloc: Global, words: &[&'a str]) -> Result<Asked<'a>, CommandFault>
     ensures value { IfOk result (λ asked. routing (texts words.now) ≡ Ok (task_asked asked)) }
     ensures refused { IfErr result (Reports (routing (texts words.now))) }
 {
+    let whole = RouteAsked {
+        room: None,
+        excerpt: Excerpt::WHOLE,
+    };
+    read_routed_with(alloc, whole, words)
+}
+
+/// The same, with what options have said.
+fn read_routed_with<'a>(
+    alloc: Global,
+    asked: RouteAsked,
+    words: &[&'a str],
+) -> Result<Asked<'a>, CommandFault>
+    ensures value { IfOk result (λ task. routed_with asked (texts words.now) ≡ Ok (task_asked task)) }
+    ensures refused { IfErr result (Reports (routed_with asked (texts words.now))) }
+{
     match words {
-        [image, program, sent @ ..] => read_routed(alloc, image, program, sent),
+        [option, word, after @ ..] => {
+            if *option == "--why" {
+                read_routed_with(alloc, with_waits(asked), &words[1..])
+            } else if is_route_setting(option) {
+                let changed = with_route_setting(alloc, asked, option, word)?;
+                read_routed_with(alloc, changed, after)
+            } else {
+                read_routed(alloc, asked, option, word, after)
+            }
+        }
         _ => Err(CommandFault::Words),
+    }
+}
+
+/// Whether it is an option of a route behind which a word stands.
+pub(crate) fn is_route_setting(option: &str) -> bool
+    ensures { result ≡ is_route_setting option.now }
+{
+    option == "--from" || option == "--to" || option == "--room"
+}
+
+/// What such an option says with its word.
+fn with_route_setting(
+    alloc: Global,
+    asked: RouteAsked,
+    option: &str,
+    word: &str,
+) -> Result<RouteAsked, CommandFault>
+    ensures value { IfOk result (λ changed. with_route_setting asked option.now word.now ≡ Ok changed) }
+    ensures refused { IfErr result (Reports (with_route_setting asked option.now word.now)) }
+{
+    match option {
+        "--from" => {
+            let from = long_number(alloc, Operand::Bound, word)?;
+            let excerpt = Excerpt {
+                from,
+                ..asked.excerpt
+            };
+            Ok(RouteAsked { excerpt, ..asked })
+        }
+        "--to" => {
+            let to = long_number(alloc, Operand::Bound, word)?;
+            let excerpt = Excerpt {
+                to,
+                ..asked.excerpt
+            };
+            Ok(RouteAsked { excerpt, ..asked })
+        }
+        _ => {
+            let room = room_named(alloc, word)?;
+            Ok(RouteAsked { room, ..asked })
+        }
+    }
+}
+
+/// Why the message waits is told too.
+fn with_waits(asked: RouteAsked) -> RouteAsked
+    ensures { result ≡ with_waits asked }
+{
+    RouteAsked {
+        excerpt: Excerpt {
+            waits: true,
+            ..asked.excerpt
+        },
+        ..asked
     }
 }
 
 fn read_routed<'a>(
     alloc: Global,
+    asked: RouteAsked,
     image: &'a str,
     program: &'a str,
     words: &[&str],
 ) -> Result<Asked<'a>, CommandFault>
-    ensures value { IfOk result (λ asked. routed image.now program.now (texts words.now) ≡ Ok (task_asked asked)) }
-    ensures refused { IfErr result (Reports (routed image.now program.now (texts words.now))) }
+    ensures value { IfOk result (λ task. routed asked image.now program.now (texts words.now) ≡ Ok (task_asked task)) }
+    ensures refused { IfErr result (Reports (routed asked image.now program.now (texts words.now))) }
 {
     let sent = read_sender(alloc, words)?;
-    Ok(Asked {
-        task: Task::Route(sent),
+    Ok(reporting(
+        Task::Route(asked.room, asked.excerpt, sent),
         image,
-        given: Given::Program(program),
-        out: None,
-    })
+        program,
+    ))
 }
 
 /// Which message it is, by the words that say who sent it.

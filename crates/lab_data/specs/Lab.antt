@@ -4,13 +4,18 @@ use Rattle.cm_bits.specs.declared.field.FieldFault.{FieldFault}
 use Rattle.cm_bits.specs.Field.{field_fault}
 use Rattle.cm_model.specs.Place.{rows, columns}
 use Rattle.cm_model.specs.declared.act.Act.{Act}
+use Rattle.cm_model.specs.declared.message.Tag.{Tag}
 use Rattle.cm_model.specs.Machine.{Machine}
 use Rattle.cm_language.specs.declared.fault.AsmFault.{AsmFault}
 use Rattle.cm_language.specs.Program.{ProgramText, program_of}
 use Rattle.lab_study.specs.declared.studies.StudyFault.{StudyFault}
 use Rattle.lab_study.specs.declared.studies.StudyFault.TheVariants as study
 use Rattle.lab_study.specs.Study.{study_table}
+use Rattle.lab_study.specs.declared.studies.Table.{Table}
+use Rattle.lab_study.specs.declared.routes.Excerpt.{Excerpt}
 use Rattle.lab_study.specs.declared.routes.RouteFault.{RouteFault}
+use Rattle.lab_machine.specs.declared.machine.RoomFault.{RoomFault}
+use Rattle.lab_machine.specs.Machines.{room_fault}
 use Rattle.lab_study.specs.Routes.{route_of}
 use Rattle.cm_image_format.specs.Whole.{text_of}
 use Rattle.cm_sizes.specs.declared.opening.OpenFault.{OpenFault}
@@ -22,7 +27,7 @@ use Rattle.lab_data.specs.declared.lab.Task.{Task}
 use Rattle.lab_data.specs.declared.lab.Task.TheVariants.{Get, Flags, Put, Show, Paint, Study, Route}
 use Rattle.lab_data.specs.declared.lab.LabFault.{LabFault}
 use Rattle.lab_data.specs.declared.lab.LabFault.TheVariants.{Image, Room, Numbers, Wide, Picture, Greatest, Field}
-use Rattle.lab_data.specs.declared.lab.LabFault.TheVariants.{Program, Clock, NoRoute, Memory}
+use Rattle.lab_data.specs.declared.lab.LabFault.TheVariants.{Program, Clock, NoRoute, NoRoom, Memory}
 use Rattle.lab_data.specs.declared.order.Order.TheVariants.{Rows as by_rows}
 use Rattle.lab_data.specs.Data.{processors, width_in, numbers_of, flags_of, machine_with_numbers}
 use Rattle.lab_data.specs.Pictures.{is_narrow, machine_picture, depth_of_greatest}
@@ -74,6 +79,26 @@ abbrev pub of_program : (List Act → Result (List ℕ) LabFault) → Result Pro
 of_program made (Ok program) = made program.acts
 of_program made (Err fault) = Err (Program fault)
 
+-- the table of a program on a machine of these sizes
+abbrev pub study_made : Machine → Table → List ℕ → ℕ → ℕ → Result (List ℕ) LabFault
+study_made machine table given n cap =
+    of_program (λ acts. of_table (study_table n cap table machine acts)) (program_of given)
+
+-- and the route of a message
+abbrev pub route_made : Machine → Excerpt → Tag → List ℕ → ℕ → ℕ → Result (List ℕ) LabFault
+route_made machine excerpt tag given n cap =
+    of_program (λ acts. of_route (route_of n cap excerpt tag machine acts)) (program_of given)
+
+-- what is made at a room, if it has no fault
+abbrev pub unless_no_room : Option RoomFault → Result (List ℕ) LabFault → Result (List ℕ) LabFault
+unless_no_room None made = made
+unless_no_room (Some fault) made = Err (NoRoom fault)
+
+-- what is made on a machine whose routers have the room that is given, or else their own
+abbrev pub at_room : ℕ → ℕ → Option ℕ → Machine → (ℕ → ℕ → Result (List ℕ) LabFault) → Result (List ℕ) LabFault
+at_room n cap None machine made = made n cap
+at_room n cap (Some room) machine made = unless_no_room (room_fault room machine.buffers) (made n room)
+
 -- what a task makes of a machine on a cube of n dimensions whose routers have room for cap messages each,
 -- and of what is given
 abbrev pub work_of : ℕ → ℕ → Task → List ℕ → Machine → Result (List ℕ) LabFault
@@ -87,10 +112,9 @@ work_of n cap (Put order field) given machine =
 work_of n cap (Show shown look) given machine =
     if is_narrow shown then Ok (look_bytes look (machine_picture n cap shown machine)) else Err Wide
 work_of n cap (Paint at) given machine = of_picture n cap at machine (picture_in (columns n) (rows n) given)
-work_of n cap (Study table) given machine =
-    of_program (λ acts. of_table (study_table n cap table machine acts)) (program_of given)
-work_of n cap (Route tag) given machine =
-    of_program (λ acts. of_route (route_of n cap tag machine acts)) (program_of given)
+work_of n cap (Study room table) given machine = at_room n cap room machine (study_made machine table given)
+work_of n cap (Route room excerpt tag) given machine =
+    at_room n cap room machine (route_made machine excerpt tag given)
 
 -- what it makes of a machine of any size
 abbrev pub work_on : Task → List ℕ → SizedMachine → Result (List ℕ) LabFault

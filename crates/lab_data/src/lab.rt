@@ -1,6 +1,6 @@
 //! What the laboratory does with an image: from bytes to bytes.
 
-ghost use Rattle.std.specs.Prelude.{◌≡◌, ◌≢◌, ◌≤◌, ◌<◌, ◌*◌, [], Ok, Err, IfOk, IfErr, length};
+ghost use Rattle.std.specs.Prelude.{◌≡◌, ◌≢◌, ℕ, ◌≤◌, ◌<◌, ◌*◌, List, [], Result, Ok, Err, IfOk, IfErr, length};
 ghost use Rattle.cm_model.specs.Place.{rows, columns};
 ghost use Rattle.lab_figures.specs.Pictures.{picture_seen};
 ghost use Rattle.lab_figures.specs.Looks.{look_bytes};
@@ -8,14 +8,15 @@ ghost use Rattle.lab_figures.specs.PictureReading.{picture_in};
 ghost use Rattle.lab_data.specs.Data.{processors};
 ghost use Rattle.lab_data.specs.declared.lab.Task.TheVariants as task;
 ghost use Rattle.cm_sizes.specs.Sizes.{sized};
-ghost use Rattle.lab_data.specs.Lab.{work_of, work_on, lab_refusal, done_with, IsNoPicture};
+ghost use Rattle.lab_data.specs.Lab.{at_room, study_made, route_made, work_of, work_on, lab_refusal, done_with};
+ghost use Rattle.lab_data.specs.Lab.{IsNoPicture};
 
 use crate::data::{flags, get, put};
 use crate::order::{Order, columns, processors, rows};
 use crate::pictures::{ShowFault, Shown, bits_of, show};
 use cm_array::Machine;
 use cm_asm::assemble;
-use cm_bits::{Field, FieldFault, FlagNo};
+use cm_bits::{Field, FieldFault, FlagNo, NoMemory};
 use cm_image::{ImageFault, dump};
 use cm_language::{AsmFault, AsmKind};
 use cm_model::Tag;
@@ -24,7 +25,10 @@ use lab_figures::{
     Look, NumbersFault, Picture, PictureFault, read_numbers, read_picture, write_look,
     write_numbers,
 };
-use lab_study::{RouteFault, StudyFault, Table, Unwatched, Watch, route, study};
+use lab_machine::{LabMachine, RoomFault};
+use lab_study::{
+    Excerpt, RouteFault, StudyFault, Table, Unwatched, Watch, route, study,
+};
 use std::alloc::Global;
 use thiserror::Error;
 
@@ -41,10 +45,10 @@ pub enum Task {
     Show(Shown, Look),
     /// The dots of the picture that is given are put into a field of all processors, which begins at this address.
     Paint(u16),
-    /// The program that is given is run, and a table of it is told.
-    Study(Table),
-    /// The same, and the route of the message of this tag is told.
-    Route(Tag),
+    /// The program that is given is run, with this room in each router or else its own, and a table of it is told.
+    Study(Option<u16>, Table),
+    /// The same, and what is asked for of the route of the message of this tag is told.
+    Route(Option<u16>, Excerpt, Tag),
 }
 
 /// Why nothing was done.
@@ -80,6 +84,9 @@ pub enum LabFault {
     /// There is no such message.
     #[error("{0}")]
     NoRoute(RouteFault),
+    /// Its routers have not the room that is given.
+    #[error("{0}")]
+    NoRoom(RoomFault),
     #[error("out of memory")]
     Memory,
 }
@@ -158,8 +165,14 @@ fn work<const N: usize, const CAP: usize, W: Watch>(
         Task::Put(order, field) => filled(alloc, machine, order, field, given),
         Task::Show(shown, look) => pictured(alloc, machine, shown, look),
         Task::Paint(at) => painted(alloc, machine, at, given),
-        Task::Study(table) => studied(alloc, machine, table, given, watch),
-        Task::Route(tag) => routed(alloc, machine, tag, given, watch),
+        Task::Study(room, table) => match study_machine(alloc, machine, room) {
+            Ok(mut lab) => studied(alloc, &mut lab, table, given, watch),
+            Err(fault) => Err(fault),
+        },
+        Task::Route(room, excerpt, tag) => match study_machine(alloc, machine, room) {
+            Ok(mut lab) => routed(alloc, &mut lab, excerpt, tag, given, watch),
+            Err(fault) => Err(fault),
+        },
     }
 }
 
@@ -326,23 +339,23 @@ fn read_grid<const N: usize>(alloc: Global, given: &[u8]) -> Result<Picture, Lab
 }
 
 /// The table of a program that a machine runs.
-fn studied<const N: usize, const CAP: usize, W: Watch>(
+fn studied<W: Watch>(
     alloc: Global,
-    machine: &mut Machine<N, CAP>,
+    lab: &mut LabMachine,
     table: Table,
     given: &[u8],
     watch: &mut W,
 ) -> Result<Vec<u8>, LabFault>
     ensures value { IfOk result
-        (λ text. work_of N CAP (task.Study table) given.now machine.old.machine ≡ Ok text.items) }
+        (λ text. study_made lab.old.machine table given.now lab.old.n lab.old.cap ≡ Ok text.items) }
     ensures refused { IfErr result (λ fault. fault ≢ LabFault.Memory
-        → work_of N CAP (task.Study table) given.now machine.old.machine ≡ Err fault) }
+        → study_made lab.old.machine table given.now lab.old.n lab.old.cap ≡ Err fault) }
 {
     let program = match assemble(alloc, given) {
         Ok(program) => program,
         Err(fault) => return Err(of_program(fault)),
     };
-    match study(alloc, machine, program.acts(), table, watch) {
+    match study(alloc, lab, program.acts(), table, watch) {
         Ok(text) => Ok(text),
         Err(StudyFault::Clock) => Err(LabFault::Clock),
         Err(StudyFault::Memory) => Err(LabFault::Memory),
@@ -350,26 +363,52 @@ fn studied<const N: usize, const CAP: usize, W: Watch>(
 }
 
 /// The route of a message of a program that a machine runs.
-fn routed<const N: usize, const CAP: usize, W: Watch>(
+fn routed<W: Watch>(
     alloc: Global,
-    machine: &mut Machine<N, CAP>,
+    lab: &mut LabMachine,
+    excerpt: Excerpt,
     tag: Tag,
     given: &[u8],
     watch: &mut W,
 ) -> Result<Vec<u8>, LabFault>
     ensures value { IfOk result
-        (λ text. work_of N CAP (task.Route tag) given.now machine.old.machine ≡ Ok text.items) }
+        (λ text. route_made lab.old.machine excerpt tag given.now lab.old.n lab.old.cap ≡ Ok text.items) }
     ensures refused { IfErr result (λ fault. fault ≢ LabFault.Memory
-        → work_of N CAP (task.Route tag) given.now machine.old.machine ≡ Err fault) }
+        → route_made lab.old.machine excerpt tag given.now lab.old.n lab.old.cap ≡ Err fault) }
 {
     let program = match assemble(alloc, given) {
         Ok(program) => program,
         Err(fault) => return Err(of_program(fault)),
     };
-    match route(alloc, machine, program.acts(), tag, watch) {
+    match route(alloc, lab, program.acts(), excerpt, tag, watch) {
         Ok(text) => Ok(text),
         Err(RouteFault::Memory) => Err(LabFault::Memory),
         Err(fault) => Err(LabFault::NoRoute(fault)),
+    }
+}
+
+/// The machine of a study: with the room that is given, or else its own.
+fn study_machine<const N: usize, const CAP: usize>(
+    alloc: Global,
+    machine: &Machine<N, CAP>,
+    room: Option<u16>,
+) -> Result<LabMachine, LabFault>
+    ensures value { IfOk result (λ lab. (made : ℕ → ℕ → Result (List ℕ) LabFault)
+        → at_room N CAP room machine.now.machine made ≡ made lab.n lab.cap) }
+    ensures machine { IfOk result (λ lab. lab.machine ≡ machine.now.machine) }
+    ensures refused { IfErr result (λ fault. fault ≢ LabFault.Memory → (made : ℕ → ℕ → Result (List ℕ) LabFault)
+        → at_room N CAP room machine.now.machine made ≡ Err fault) }
+{
+    let Some(room) = room else {
+        return match LabMachine::own(alloc, machine) {
+            Ok(lab) => Ok(lab),
+            Err(NoMemory) => Err(LabFault::Memory),
+        };
+    };
+    match LabMachine::with_room(alloc, machine, room) {
+        Ok(lab) => Ok(lab),
+        Err(RoomFault::Memory) => Err(LabFault::Memory),
+        Err(fault) => Err(LabFault::NoRoom(fault)),
     }
 }
 

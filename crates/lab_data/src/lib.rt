@@ -16,7 +16,8 @@ pub use lab_figures::{
     Form, Format, Look, NumbersFault, Palette, Picture, PictureFault, read_numbers, read_picture,
     write_in, write_look, write_numbers,
 };
-pub use lab_study::{RouteFault, Table, Watch};
+pub use lab_machine::RoomFault;
+pub use lab_study::{Excerpt, RouteFault, Table, Watch};
 pub use order::Order;
 pub use picture_laws::{dots_are_places, pictures_read_back};
 pub use pictures::{ShowFault, Shown, show};

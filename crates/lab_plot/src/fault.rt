@@ -32,6 +32,9 @@ pub enum PlotFault {
     NoDelivery,
     #[error("nothing to plot: the route has no petit cycle")]
     NoCycle,
+    /// Petit cycles of a table that is no route.
+    #[error("no route, of which alone --from and --to draw a part")]
+    NoRoute,
     #[error("out of memory")]
     Memory,
 }

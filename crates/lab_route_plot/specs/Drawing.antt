@@ -4,7 +4,7 @@ use Rattle.std.specs.Prelude.{List, [], ◌∷◌, ◌++◌, codes, decimal, len
 use Rattle.std.specs.List.{flat_map, range_with_len, starts_with}
 use Rattle.cm_bits.specs.Text.{lines_of}
 use Rattle.lab_plot.specs.declared.fault.PlotFault.{PlotFault}
-use Rattle.lab_plot.specs.declared.fault.PlotFault.TheVariants.{NoCycle}
+use Rattle.lab_plot.specs.declared.fault.PlotFault.TheVariants.{NoCycle, NoRoute}
 use Rattle.lab_plot.specs.Cells.{trimmed}
 use Rattle.lab_plot.specs.Heads.{picture_head}
 use Rattle.lab_plot.specs.Lines.{circle, colour, line_open, name_text}
@@ -12,6 +12,8 @@ use Rattle.lab_plot.specs.Panels.{place_text, sides_text}
 use Rattle.lab_plot.specs.Pictures.{table_picture}
 use Rattle.lab_plot.specs.Pieces.{piece}
 use Rattle.lab_plot.specs.Ticks.{cycle_tick, up_text}
+use Rattle.lab_route_plot.specs.declared.legs.Cycles.{Cycles}
+use Rattle.lab_route_plot.specs.Cycles.{are_all_cycles}
 use Rattle.lab_route_plot.specs.declared.legs.Leg.{Leg}
 use Rattle.lab_route_plot.specs.declared.legs.Step.{Step}
 use Rattle.lab_route_plot.specs.declared.legs.Step.TheVariants.{Wanted, Referred, Delivered}
@@ -95,6 +97,8 @@ abbrev pub is_route : List ℕ → Bool
 is_route text =
     starts_with nat_eq (trimmed text) (codes "cycle ") || starts_with nat_eq (trimmed text) (codes "stands at ")
 
--- the picture of a text that is a route, or a table, or its first fault
-unfoldable pub route_or_table_picture : List ℕ → Result (List ℕ) PlotFault
-route_or_table_picture text = if is_route text then of_legs (legs_after 1 [] (lines_of text)) else table_picture text
+-- the picture of a text that is a route, of these petit cycles alone, or a table, or its first fault
+unfoldable pub route_or_table_picture : Cycles → List ℕ → Result (List ℕ) PlotFault
+route_or_table_picture cycles text =
+    if is_route text then of_legs (legs_after cycles 1 [] (lines_of text))
+    else (if are_all_cycles cycles then table_picture text else Err NoRoute)

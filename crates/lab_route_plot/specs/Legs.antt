@@ -8,6 +8,8 @@ use Rattle.lab_plot.specs.Cells.{cell, has_words, is_colon, trimmed}
 use Rattle.lab_plot.specs.Rows.{◌>>=◌}
 use Rattle.lab_plot.specs.declared.fault.PlotFault.{PlotFault}
 use Rattle.lab_plot.specs.declared.fault.PlotFault.TheVariants.{Route}
+use Rattle.lab_route_plot.specs.declared.legs.Cycles.{Cycles}
+use Rattle.lab_route_plot.specs.Cycles.{is_among_cycles}
 use Rattle.lab_route_plot.specs.declared.legs.Leg.{Leg}
 use Rattle.lab_route_plot.specs.declared.legs.Step.TheVariants.{Wanted, Referred, Delivered}
 
@@ -98,28 +100,31 @@ legs_from c line from [] = legs_end c line from
 legs_from c line from (word ∷ words) =
     legs_at c line from (chip_of_word word) ++ legs_from c line (next_chip from (chip_of_word word)) words
 
--- those of a petit cycle: its chips stand before the first comma
-abbrev pub cycle_legs : List ℕ → Option ℕ → List Leg
-cycle_legs line None = []
-cycle_legs line (Some c) = legs_from c line None (words_of (after_first is_colon (cell line 0)))
+-- the legs of a petit cycle, if it is one of these: its chips stand before the first comma
+abbrev pub cycle_legs : Cycles → List ℕ → Option ℕ → List Leg
+cycle_legs cycles line None = []
+cycle_legs cycles line (Some c) =
+    if is_among_cycles cycles c then legs_from c line None (words_of (after_first is_colon (cell line 0))) else []
 
 -- those of a line; none of one that tells where the message stands at the end
-abbrev pub line_legs : List ℕ → List Leg
-line_legs line = cycle_legs line (cycle_in line)
+abbrev pub line_legs : Cycles → List ℕ → List Leg
+line_legs cycles line = cycle_legs cycles line (cycle_in line)
 
 -- it is a line of a route
 abbrev pub is_route_line : List ℕ → Bool
 is_route_line line = is_some (cycle_in line) || starts_with nat_eq line (codes "stands at ")
 
 -- the legs so far and those of a line, which has this number and has to be one of a route
-abbrev pub legs_told : ℕ → List Leg → List ℕ → Result (List Leg) PlotFault
-legs_told number legs line = if is_route_line line then Ok (legs ++ line_legs line) else Err (Route number)
+abbrev pub legs_told : Cycles → ℕ → List Leg → List ℕ → Result (List Leg) PlotFault
+legs_told cycles number legs line =
+    if is_route_line line then Ok (legs ++ line_legs cycles line) else Err (Route number)
 
 -- the same, whatever blanks stand around it; a blank line has no legs
-abbrev pub legs_with : ℕ → List Leg → List ℕ → Result (List Leg) PlotFault
-legs_with number legs line = if has_words line then legs_told number legs (trimmed line) else Ok legs
+abbrev pub legs_with : Cycles → ℕ → List Leg → List ℕ → Result (List Leg) PlotFault
+legs_with cycles number legs line = if has_words line then legs_told cycles number legs (trimmed line) else Ok legs
 
 -- the legs so far and those of the lines from this one on, or the first line that is none of a route
-unfoldable pub legs_after : ℕ → List Leg → List (List ℕ) → Result (List Leg) PlotFault
-legs_after number legs [] = Ok legs
-legs_after number legs (line ∷ lines) = legs_with number legs line >>= λ more. legs_after (number + 1) more lines
+unfoldable pub legs_after : Cycles → ℕ → List Leg → List (List ℕ) → Result (List Leg) PlotFault
+legs_after cycles number legs [] = Ok legs
+legs_after cycles number legs (line ∷ lines) =
+    legs_with cycles number legs line >>= λ more. legs_after cycles (number + 1) more lines

@@ -1,3 +1,4 @@
+pub mod Cycles
 pub mod Drawing
 pub mod Legs
 pub mod Rows

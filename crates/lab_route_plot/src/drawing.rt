@@ -10,7 +10,7 @@ ghost use Rattle.lab_route_plot.specs.Rows.{plan_seen};
 ghost use Rattle.lab_route_plot.specs.Legs.{legs_after};
 ghost use Rattle.cm_bits.specs.Text.{lines_of};
 
-use crate::legs::{Leg, Step, read_legs};
+use crate::legs::{Cycles, Leg, Step, read_legs};
 use crate::rows::{Grid, grid_of, place_x, place_y, row_of};
 use cm_bits::NoMemory;
 use lab_digits::{push_piece, push_words};
@@ -20,17 +20,20 @@ use lab_plot::{
 };
 use std::alloc::Global;
 
-/// The picture of a route of `cm1lab route`, or of a table, as an SVG.
+/// The picture of a route of `cm1lab route`, of these petit cycles alone, or of a table, as an SVG.
 #[tactic(auto, unfolding(crate::specs::Drawing::route_or_table_picture))]
-pub fn plot(alloc: Global, text: &[u8]) -> Result<Vec<u8>, PlotFault>
-    ensures value { IfOk result (λ picture. route_or_table_picture text.now ≡ Ok picture.items) }
-    ensures refused { IfErr result (λ fault. fault ≢ PlotFault.Memory → route_or_table_picture text.now ≡ Err fault) }
+pub fn plot(alloc: Global, text: &[u8], cycles: Cycles) -> Result<Vec<u8>, PlotFault>
+    ensures value { IfOk result (λ picture. route_or_table_picture cycles text.now ≡ Ok picture.items) }
+    ensures refused { IfErr result (λ fault. fault ≢ PlotFault.Memory
+        → route_or_table_picture cycles text.now ≡ Err fault) }
 {
     if is_route(text) {
-        plot_route(alloc, text)
-    } else {
-        lab_plot::plot(alloc, text)
+        return plot_route(alloc, text, cycles);
     }
+    if !cycles.are_all() {
+        return Err(PlotFault::NoRoute);
+    }
+    lab_plot::plot(alloc, text)
 }
 
 /// Whether a text begins as a route does, behind blanks.
@@ -42,12 +45,12 @@ fn is_route(text: &[u8]) -> bool
 }
 
 /// The picture of a route.
-fn plot_route(alloc: Global, text: &[u8]) -> Result<Vec<u8>, PlotFault>
-    ensures value { IfOk result (λ picture. of_legs (legs_after 1 [] (lines_of text.now)) ≡ Ok picture.items) }
+fn plot_route(alloc: Global, text: &[u8], cycles: Cycles) -> Result<Vec<u8>, PlotFault>
+    ensures value { IfOk result (λ picture. of_legs (legs_after cycles 1 [] (lines_of text.now)) ≡ Ok picture.items) }
     ensures refused { IfErr result (λ fault. fault ≢ PlotFault.Memory
-        → of_legs (legs_after 1 [] (lines_of text.now)) ≡ Err fault) }
+        → of_legs (legs_after cycles 1 [] (lines_of text.now)) ≡ Err fault) }
 {
-    match read_legs(alloc, text) {
+    match read_legs(alloc, text, cycles) {
         Ok(legs) => plot_legs(alloc, &legs),
         Err(fault) => Err(fault),
     }

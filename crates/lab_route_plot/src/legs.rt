@@ -5,6 +5,7 @@ ghost use Rattle.std.specs.Prelude.{IfSome, OnOk, length};
 ghost use Rattle.std.specs.List.{after_first, before_first};
 ghost use Rattle.cm_bits.specs.Text.{lines_of, number_of, words_of};
 ghost use Rattle.lab_plot.specs.Cells.{cell, is_colon};
+ghost use Rattle.lab_route_plot.specs.Cycles.{are_all_cycles, is_among_cycles};
 ghost use Rattle.lab_route_plot.specs.Legs.{dim_between, option_below, cycle_behind, cycle_in, chip_of_word, is_number};
 ghost use Rattle.lab_route_plot.specs.Legs.{is_referral};
 ghost use Rattle.lab_route_plot.specs.Legs.{is_referred, says_delivered, leg_to, last_leg, legs_at, next_chip};
@@ -14,6 +15,35 @@ ghost use Rattle.lab_route_plot.specs.Legs.{legs_from, line_legs, is_route_line,
 use cm_bits::{Lines, NoMemory, Words, read_number};
 use lab_plot::{PlotFault, behind, cell, has_words, place, trim};
 use std::alloc::Global;
+
+/// The petit cycles from one on up to another.
+#[derive(Clone, Copy, Debug, PartialEq, Eq)]
+pub struct Cycles {
+    pub from: u64,
+    pub to: u64,
+}
+
+impl Cycles {
+    /// All that there can be.
+    pub const ALL: Cycles = Cycles {
+        from: 0,
+        to: u64::MAX,
+    };
+
+    /// Whether they are all.
+    pub(crate) fn are_all(self) -> bool
+        ensures value { result ≡ are_all_cycles self }
+    {
+        self.from == 0 && self.to == u64::MAX
+    }
+
+    /// Whether a petit cycle is one of them.
+    fn has(self, cycle: u64) -> bool
+        ensures value { result ≡ is_among_cycles self cycle }
+    {
+        self.from <= cycle && cycle <= self.to
+    }
+}
 
 /// What a message did on a leg.
 #[derive(Clone, Copy, PartialEq, Eq)]
@@ -39,15 +69,19 @@ pub(crate) struct Leg {
 }
 
 /// The legs that the lines of a route tell.
-pub(crate) fn read_legs(alloc: Global, text: &[u8]) -> Result<Vec<Leg>, PlotFault>
-    ensures value { IfOk result (λ legs. legs_after 1 [] (lines_of text.now) ≡ Ok legs.items) }
+pub(crate) fn read_legs(
+    alloc: Global,
+    text: &[u8],
+    cycles: Cycles,
+) -> Result<Vec<Leg>, PlotFault>
+    ensures value { IfOk result (λ legs. legs_after cycles 1 [] (lines_of text.now) ≡ Ok legs.items) }
     ensures refused { IfErr result (λ fault. fault ≢ PlotFault.Memory
-        → legs_after 1 [] (lines_of text.now) ≡ Err fault) }
+        → legs_after cycles 1 [] (lines_of text.now) ≡ Err fault) }
 {
     let mut legs = Vec::new(alloc);
     let mut number = 1u64;
     for line in Lines::new(text) {
-        match push_line(&mut legs, number, line) {
+        match push_line(&mut legs, number, line, cycles) {
             Ok(()) => {}
             Err(fault) => return Err(fault),
         }
@@ -60,28 +94,38 @@ pub(crate) fn read_legs(alloc: Global, text: &[u8]) -> Result<Vec<Leg>, PlotFaul
 }
 
 /// The legs of a line of this number, whatever blanks stand around it; a blank line has none.
-fn push_line(legs: &mut Vec<Leg>, number: u64, line: &[u8]) -> Result<(), PlotFault>
-    ensures ok { OnOk result (legs_with number legs.old.items line.now ≡ Ok legs.new.items) }
+fn push_line(
+    legs: &mut Vec<Leg>,
+    number: u64,
+    line: &[u8],
+    cycles: Cycles,
+) -> Result<(), PlotFault>
+    ensures ok { OnOk result (legs_with cycles number legs.old.items line.now ≡ Ok legs.new.items) }
     ensures err { IfErr result (λ fault. fault ≢ PlotFault.Memory
-        → legs_with number legs.old.items line.now ≡ Err fault) }
+        → legs_with cycles number legs.old.items line.now ≡ Err fault) }
 {
     if has_words(line) {
-        push_told(legs, number, trim(line))
+        push_told(legs, number, trim(line), cycles)
     } else {
         Ok(())
     }
 }
 
 /// Those of a line that has to be one of a route.
-fn push_told(legs: &mut Vec<Leg>, number: u64, line: &[u8]) -> Result<(), PlotFault>
-    ensures ok { OnOk result (legs_told number legs.old.items line.now ≡ Ok legs.new.items) }
+fn push_told(
+    legs: &mut Vec<Leg>,
+    number: u64,
+    line: &[u8],
+    cycles: Cycles,
+) -> Result<(), PlotFault>
+    ensures ok { OnOk result (legs_told cycles number legs.old.items line.now ≡ Ok legs.new.items) }
     ensures err { IfErr result (λ fault. fault ≢ PlotFault.Memory
-        → legs_told number legs.old.items line.now ≡ Err fault) }
+        → legs_told cycles number legs.old.items line.now ≡ Err fault) }
 {
     if !is_told(line) {
         return Err(PlotFault::Route(number));
     }
-    match push_legs(legs, line) {
+    match push_legs(legs, line, cycles) {
         Ok(()) => Ok(()),
         Err(_) => Err(PlotFault::Memory),
     }
@@ -95,11 +139,17 @@ fn is_told(line: &[u8]) -> bool
 }
 
 /// The legs of a line: of a petit cycle, or none.
-fn push_legs(legs: &mut Vec<Leg>, line: &[u8]) -> Result<(), NoMemory>
-    ensures ok { OnOk result (legs.new.items ≡ legs.old.items ++ line_legs line.now) }
+fn push_legs(legs: &mut Vec<Leg>, line: &[u8], cycles: Cycles) -> Result<(), NoMemory>
+    ensures ok { OnOk result (legs.new.items ≡ legs.old.items ++ line_legs cycles line.now) }
 {
     match cycle_in(line) {
-        Some(cycle) => push_chips(legs, cycle, line),
+        Some(cycle) => {
+            if cycles.has(cycle) {
+                push_chips(legs, cycle, line)
+            } else {
+                Ok(())
+            }
+        }
         None => Ok(()),
     }
 }

@@ -9,3 +9,4 @@ mod rows;
 
 pub use drawing::plot;
 pub use laws::routes_are_drawn_so;
+pub use legs::Cycles;

@@ -1,4 +1,5 @@
 pub mod Agreeing
+pub mod Following
 pub mod Going
 pub mod Routing
 pub mod Searching

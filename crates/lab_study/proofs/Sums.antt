@@ -6,18 +6,13 @@ use Rattle.std.proofs.lemmas.List.FromFn.{map-range_with_len_more}
 use Rattle.std.proofs.lemmas.List.Sums.{sum_by_push}
 use Rattle.std.proofs.lemmas.Grind.{flat_map-append}
 use Rattle.cm_model.specs.Each.{tabulate}
+use Rattle.lab_machine.proofs.Tabulating.{tabulate-more}
 use Rattle.lab_study.specs.declared.counts.Counts.{Counts}
 use Rattle.cm_model.specs.Machine.{Machine}
 use Rattle.lab_study.specs.Adding.{added, AreCountsWithin}
 use Rattle.lab_study.specs.Traces.{Traces}
 use Rattle.lab_study.specs.Counts.{taken_count_at, delivered_count_at, referred_at, standing_count_at, full_at}
 use Rattle.lab_study.specs.Counts.{asking_at, counts_at, counts_to}
-
--- one more
-pub tabulate-more : {X : Type 0} (f : ℕ → X) (count : ℕ)
-    → tabulate 0 (count + 1) f ≡ tabulate 0 count f ++ f count ∷ []
-unfolding tabulate
-tabulate-more f count = map-range_with_len_more f 0 count count (omega arith)
 
 -- one more is added
 pub sum-tabulate-more : (f : ℕ → ℕ) (count : ℕ) → sum (tabulate 0 (count + 1) f) ≡ sum (tabulate 0 count f) + f count

@@ -6,4 +6,5 @@ pub mod Study
 pub mod StudyLaws
 pub mod Tables
 pub mod Traces
+pub mod Waits
 pub mod Whereabouts

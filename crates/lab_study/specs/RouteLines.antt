@@ -4,7 +4,10 @@ use Rattle.std.specs.List.{flat_map, range_with_len}
 use Rattle.cm_bits.specs.Bit.{bit}
 use Rattle.cm_bits.specs.declared.place.Place.{Place}
 use Rattle.cm_model.specs.declared.message.Message.{Message}
+use Rattle.cm_model.specs.declared.message.Tag.{Tag}
 use Rattle.cm_model.specs.Router.{target_from}
+use Rattle.lab_study.specs.declared.waits.Wait.{Wait}
+use Rattle.lab_study.specs.declared.waits.Wait.TheVariants.{Cut, Behind, Unfetched, Second}
 use Rattle.lab_study.specs.declared.whereabouts.Stand.{Stand}
 
 -- in a petit cycle each dimension is crossed at most once, in rising order, and the chip's bit changes: so a message
@@ -40,12 +43,24 @@ stay_text from to = if from == to then codes ", stays" else []
 abbrev pub cycle_way_text : ℕ → ℕ → ℕ → ℕ → List ℕ
 cycle_way_text n clock from to = codes "cycle " ++ decimal clock ++ codes ": " ++ way_chips_text n from to
 
--- the line of a petit cycle after which the message stands in a router
-unfoldable pub stand_line : ℕ → ℕ → ℕ → Stand → List ℕ
-stand_line n clock from stand =
+-- a message by who sent it and the petit cycle in which it was taken in
+abbrev pub tag_text : Tag → List ℕ
+tag_text tag = decimal tag.chip ++ codes " " ++ decimal tag.proc ++ codes " " ++ decimal tag.birth
+
+-- why it waits in one step of the petit cycle
+abbrev pub wait_text : Wait → List ℕ
+wait_text (Cut d) = codes ", waits in " ++ decimal d ++ codes " at a cut wire"
+wait_text (Behind d tag) = codes ", waits in " ++ decimal d ++ codes " behind " ++ tag_text tag
+wait_text Unfetched = codes ", waits for RECV"
+wait_text (Second tag) = codes ", waits for its processor behind " ++ tag_text tag
+
+-- the line of a petit cycle after which the message stands in a router, and in which it waited so
+unfoldable pub stand_line : ℕ → ℕ → ℕ → Stand → List Wait → List ℕ
+stand_line n clock from stand waits =
     cycle_way_text n clock from stand.chip ++ stay_text from stand.chip
     ++ referrals_text n from stand.chip stand.message.rel
-    ++ codes ", place " ++ decimal stand.place ++ codes " of " ++ decimal stand.count ++ 10 ∷ []
+    ++ codes ", place " ++ decimal stand.place ++ codes " of " ++ decimal stand.count
+    ++ flat_map wait_text waits ++ 10 ∷ []
 
 -- of the one in which it was delivered
 unfoldable pub delivery_line : ℕ → ℕ → ℕ → Place → List ℕ

@@ -6,15 +6,15 @@ ghost use Rattle.cm_bits.specs.Bit.{bit_number};
 ghost use Rattle.cm_model.specs.Each.{tabulate};
 ghost use Rattle.cm_model.specs.Processor.{SEND, flag};
 ghost use Rattle.cm_model.specs.Chip.{processor_at};
-ghost use Rattle.cm_model.specs.Array.{each_chip, nth_or_nil};
+ghost use Rattle.cm_model.specs.Array.{each_chip};
 ghost use Rattle.lab_study.specs.Adding.{AreCountsWithin};
 ghost use Rattle.lab_study.specs.Counts.{log_lengths, events_behind, is_injection_event, is_delivery_event, counts_at};
 ghost use Rattle.lab_study.specs.Counts.{counts_of};
 ghost use Rattle.lab_study.specs.Traces.{trace_of, referrals};
 
 use crate::counts::Counts;
+use lab_machine::LabMachine;
 use crate::ways::Ways;
-use cm_array::Machine;
 use cm_bits::{FlagNo, NoMemory, Proc};
 use cm_element::ChipView;
 use cm_model::{Event, Message};
@@ -22,25 +22,14 @@ use std::alloc::Global;
 
 const PROCESSORS: u8 = 16;
 
-/// How many chips a cube has.
-pub(crate) fn chip_count<const N: usize>() -> u16
-    requires dimension { N ≤ 12 }
-    ensures value { result ≡ 2 ^ N }
-    ensures within { result ≤ 4096 }
-{
-    1 << N
-}
-
 /// By chip, how many events its log has.
-pub(crate) fn log_lengths<const N: usize, const CAP: usize>(
+pub(crate) fn log_lengths(
     alloc: Global,
-    machine: &Machine<N, CAP>,
+    machine: &LabMachine,
 ) -> Result<Vec<usize>, NoMemory>
-    ensures value { IfOk result (λ lengths. lengths.items ≡ log_lengths N machine.now.machine) }
+    ensures value { IfOk result (λ lengths. lengths.items ≡ log_lengths machine.now.n machine.now.machine) }
 {
-    // For the prover alone: a call brings in what holds of every machine.
-    let _dims = machine.dims();
-    let chips = chip_count::<N>();
+    let chips = machine.chips();
     let mut lengths = Vec::with_capacity(alloc, usize::from(chips))?;
     for chip in 0..chips {
         let Ok(()) = lengths.push(machine.log(chip).len()) else {
@@ -51,68 +40,47 @@ pub(crate) fn log_lengths<const N: usize, const CAP: usize>(
 }
 
 /// The numbers of a machine after a petit cycle, where its logs had so many events and this was known before.
-pub(crate) fn counts<const N: usize, const CAP: usize>(
-    before: &[usize],
-    ways: &Ways,
-    machine: &Machine<N, CAP>,
-) -> Result<Counts, NoMemory>
-    ensures value { IfOk result (λ counts. counts ≡ counts_of N CAP before.now ways.now machine.now.machine) }
+pub(crate) fn counts(before: &[usize], ways: &Ways, machine: &LabMachine) -> Counts
+    ensures value { result ≡ counts_of machine.now.n machine.now.cap before.now ways.now machine.now.machine }
 {
-    // For the prover alone: a call brings in what holds of every machine.
-    let _dims = machine.dims();
     let mut counts = Counts::NONE;
-    for chip in 0..chip_count::<N>() {
-        counts = counts.plus(counts_at(before, ways, machine, chip)?);
+    for chip in 0..machine.chips() {
+        counts = counts.plus(counts_at(before, ways, machine, chip));
     }
-    Ok(counts)
+    counts
 }
 
 /// The numbers of one chip.
-fn counts_at<const N: usize, const CAP: usize>(
-    before: &[usize],
-    ways: &Ways,
-    machine: &Machine<N, CAP>,
-    chip: u16,
-) -> Result<Counts, NoMemory>
-    requires chip { chip < 2 ^ N }
-    ensures value { IfOk result (λ counts. counts ≡ counts_at CAP before.now ways.now machine.now.machine chip) }
-    ensures within { IfOk result (λ counts. AreCountsWithin (2 ^ 72) counts) }
+fn counts_at(before: &[usize], ways: &Ways, machine: &LabMachine, chip: u16) -> Counts
+    requires chip { chip < 2 ^ machine.now.n }
+    ensures value { result ≡ counts_at machine.now.cap before.now ways.now machine.now.machine chip }
+    ensures within { AreCountsWithin (2 ^ 72) result }
 {
-    let events = events_behind(before, machine, chip)?;
+    let events = events_behind(before, machine, chip);
     let messages = machine.buffer(chip);
-    Ok(Counts {
+    let room = usize::from(machine.room());
+    Counts {
         taken: injections(events) as u128,
         delivered: deliveries(events) as u128,
         referred: referred(ways, chip, messages),
         standing: messages.len() as u128,
-        full: if messages.len() >= CAP { 1 } else { 0 },
+        full: if messages.len() >= room { 1 } else { 0 },
         asking: asking(&machine.chip(chip)),
-    })
+    }
 }
 
 /// The events of a chip behind those that were there before: by chip so many.
-pub(crate) fn events_behind<'a, const N: usize, const CAP: usize>(
+pub(crate) fn events_behind<'a>(
     before: &[usize],
-    machine: &'a Machine<N, CAP>,
+    machine: &'a LabMachine,
     chip: u16,
-) -> Result<&'a [Event], NoMemory>
-    requires chip { chip < 2 ^ N }
-    ensures value { IfOk result (λ events. events.now ≡ events_behind before.now machine.now.machine chip) }
+) -> &'a [Event]
+    requires chip { chip < 2 ^ machine.now.n }
+    ensures value { result.now ≡ events_behind before.now machine.now.machine chip }
 {
-    let log = log_of(machine, chip)?;
+    let log = machine.log(chip);
     let from = before.get(usize::from(chip)).copied().unwrap_or(0);
-    Ok(if from < log.len() { &log[from..] } else { &[] })
-}
-
-/// The events of a chip, which are dealt out.
-fn log_of<const N: usize, const CAP: usize>(
-    machine: &Machine<N, CAP>,
-    chip: u16,
-) -> Result<&[Event], NoMemory>
-    requires chip { chip < 2 ^ N }
-    ensures value { IfOk result (λ log. log.now ≡ nth_or_nil machine.now.machine.logs chip) }
-{
-    machine.log(chip).whole().ok_or(NoMemory)
+    if from < log.len() { &log[from..] } else { &[] }
 }
 
 fn injections(events: &[Event]) -> usize

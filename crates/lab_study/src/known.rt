@@ -1,15 +1,15 @@
 //! What a study keeps from one act to the next.
 
-ghost use Rattle.std.specs.Prelude.{◌≡◌, ◌++◌, ◌∷◌, [], IfOk, OnOk};
+ghost use Rattle.std.specs.Prelude.{◌≡◌, ◌++◌, IfOk, OnOk};
 ghost use Rattle.cm_model.specs.declared.act.Act.TheVariants as act;
-ghost use Rattle.cm_model.specs.Machine.{run_of};
+ghost use Rattle.lab_machine.specs.Machines.{lab_after};
 ghost use Rattle.lab_study.specs.Study.{studied, study_opening, study_cycle_text, end_text, act_text, one_act_on};
 
 use crate::counting::{counts, log_lengths};
+use lab_machine::LabMachine;
 use crate::studies::Table;
 use crate::tables::{push_cycle, push_delivered, push_standing};
 use crate::ways::Ways;
-use cm_array::{Machine, Plain, Runner};
 use cm_bits::NoMemory;
 use cm_model::Act;
 use std::alloc::Global;
@@ -23,11 +23,12 @@ pub(crate) struct Known {
 
 impl Known {
     /// At the start of a study.
-    pub(crate) fn opening<const N: usize, const CAP: usize>(
+    pub(crate) fn opening(
         alloc: Global,
-        machine: &Machine<N, CAP>,
+        machine: &LabMachine,
     ) -> Result<Known, NoMemory>
-        ensures value { IfOk result (λ known. studied machine.now.machine known ≡ study_opening N machine.now.machine) }
+        ensures value { IfOk result (λ known.
+            studied machine.now.machine known ≡ study_opening machine.now.n machine.now.machine) }
     {
         let told = log_lengths(alloc, machine)?;
         let nothing = Ways::none(alloc);
@@ -36,41 +37,43 @@ impl Known {
     }
 
     /// Has a machine do an act, and tells what it tells.
-    pub(crate) fn follow<const N: usize, const CAP: usize>(
+    pub(crate) fn follow(
         &mut self,
         alloc: Global,
-        machine: &mut Machine<N, CAP>,
+        machine: &mut LabMachine,
         act: &Act,
         table: Table,
         text: &mut Vec<u8>,
     ) -> Result<(), NoMemory>
-        ensures text { OnOk result (text.new.items
-            ≡ text.old.items ++ act_text N CAP table (studied machine.old.machine self.old) act.now) }
+        ensures machine { OnOk result (machine.new ≡ lab_after machine.old act.now) }
+        ensures text { OnOk result (text.new.items ≡ text.old.items
+            ++ act_text machine.old.n machine.old.cap table (studied machine.old.machine self.old) act.now) }
         ensures studied { OnOk result (studied machine.new.machine self.new
-            ≡ one_act_on N CAP (studied machine.old.machine self.old) act.now) }
+            ≡ one_act_on machine.old.n machine.old.cap (studied machine.old.machine self.old) act.now) }
     {
         match act {
             Act::Cycle => self.follow_cycle(alloc, machine, table, text),
-            Act::Sense => go_on(machine, Act::Sense),
-            Act::Nano(nano) => go_on(machine, Act::Nano(*nano)),
+            Act::Sense => machine.go_on(alloc, &Act::Sense),
+            Act::Nano(nano) => machine.go_on(alloc, &Act::Nano(*nano)),
         }
     }
 
     /// Has it do a petit cycle.
-    fn follow_cycle<const N: usize, const CAP: usize>(
+    fn follow_cycle(
         &mut self,
         alloc: Global,
-        machine: &mut Machine<N, CAP>,
+        machine: &mut LabMachine,
         table: Table,
         text: &mut Vec<u8>,
     ) -> Result<(), NoMemory>
-        ensures text { OnOk result (text.new.items
-            ≡ text.old.items ++ act_text N CAP table (studied machine.old.machine self.old) act.Cycle) }
+        ensures machine { OnOk result (machine.new ≡ lab_after machine.old act.Cycle) }
+        ensures text { OnOk result (text.new.items ≡ text.old.items
+            ++ act_text machine.old.n machine.old.cap table (studied machine.old.machine self.old) act.Cycle) }
         ensures studied { OnOk result (studied machine.new.machine self.new
-            ≡ one_act_on N CAP (studied machine.old.machine self.old) act.Cycle) }
+            ≡ one_act_on machine.old.n machine.old.cap (studied machine.old.machine self.old) act.Cycle) }
     {
         let clock = machine.clock();
-        go_on(machine, Act::Cycle)?;
+        machine.go_on(alloc, &Act::Cycle)?;
         self.tell(clock, machine, table, text)?;
         let told = log_lengths(alloc, machine)?;
         let ways = self.ways.after(alloc, machine)?;
@@ -79,49 +82,37 @@ impl Known {
     }
 
     /// What is told of a petit cycle, at this count, which left this machine.
-    fn tell<const N: usize, const CAP: usize>(
+    fn tell(
         &self,
         clock: u64,
-        machine: &Machine<N, CAP>,
+        machine: &LabMachine,
         table: Table,
         text: &mut Vec<u8>,
     ) -> Result<(), NoMemory>
         ensures ok { OnOk result (text.new.items
             ≡ text.old.items
-            ++ study_cycle_text N CAP table clock self.now.told.items self.now.ways machine.now.machine) }
+            ++ study_cycle_text machine.now.n machine.now.cap table clock self.now.told.items self.now.ways
+            machine.now.machine) }
     {
         match table {
-            Table::Cycles => push_cycle(text, clock, counts(&self.told, &self.ways, machine)?),
+            Table::Cycles => push_cycle(text, clock, counts(&self.told, &self.ways, machine)),
             Table::Messages => push_delivered(text, clock, &self.told, &self.ways, machine),
         }
     }
 
     /// What is told at the end.
-    pub(crate) fn tell_end<const N: usize, const CAP: usize>(
+    pub(crate) fn tell_end(
         &self,
-        machine: &Machine<N, CAP>,
+        machine: &LabMachine,
         table: Table,
         text: &mut Vec<u8>,
     ) -> Result<(), NoMemory>
         ensures ok { OnOk result (text.new.items
-            ≡ text.old.items ++ end_text N table (studied machine.now.machine self.now)) }
+            ≡ text.old.items ++ end_text machine.now.n table (studied machine.now.machine self.now)) }
     {
         match table {
             Table::Cycles => Ok(()),
             Table::Messages => push_standing(text, &self.ways, machine),
         }
-    }
-}
-
-/// Has a machine do one act, and deal its events out. It is refused for want of memory alone.
-pub(crate) fn go_on<const N: usize, const CAP: usize>(
-    machine: &mut Machine<N, CAP>,
-    act: Act,
-) -> Result<(), NoMemory>
-    ensures ok { OnOk result (machine.new.machine ≡ run_of N CAP machine.old.machine (act ∷ [])) }
-{
-    match Plain.go(machine, &[act]) {
-        Ok(()) => machine.deal_out(),
-        Err(_) => Err(NoMemory),
     }
 }

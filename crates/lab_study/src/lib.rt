@@ -10,13 +10,15 @@ mod studies;
 mod study_laws;
 mod tables;
 mod trace;
+mod waits;
 mod watch;
 mod ways;
 mod whereabouts;
 
 pub use counts::Counts;
-pub use routes::{RouteFault, route};
+pub use routes::{Excerpt, RouteFault, route};
 pub use studies::{StudyFault, Table, study};
 pub use study_laws::{counts_agree_with_the_account, ways_are_told_so};
 pub use trace::Trace;
+pub use waits::Wait;
 pub use watch::{Unwatched, Watch};

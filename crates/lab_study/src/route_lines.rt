@@ -5,15 +5,18 @@ ghost use Rattle.std.specs.List.{flat_map, range_with_len};
 ghost use Rattle.cm_bits.specs.Bit.{bit};
 ghost use Rattle.lab_study.specs.RouteLines.{is_crossed, chip_behind, step_text, way_chips_text, referral_text};
 ghost use Rattle.lab_study.specs.RouteLines.{referrals_text};
+ghost use Rattle.lab_study.specs.RouteLines.{tag_text, wait_text};
 ghost use Rattle.lab_study.specs.RouteLines.{stay_text, cycle_way_text, stand_line, delivery_line, target_text};
 ghost use Rattle.lab_study.specs.RouteLines.{undelivered_line};
 
+use crate::waits::Wait;
 use crate::whereabouts::Stand;
 use cm_bits::{NoMemory, Place};
-use cm_model::Message;
+use cm_model::{Message, Tag};
 use lab_digits::{push_piece, push_words};
 
-/// The line of a petit cycle at this count, which led a message from a chip to where it stands.
+/// The line of a petit cycle at this count, which led a message from a chip to where it stands, and in which it waited
+/// so.
 #[tactic(auto, unfolding(crate::specs::RouteLines::stand_line))]
 pub(crate) fn push_stand(
     text: &mut Vec<u8>,
@@ -21,16 +24,58 @@ pub(crate) fn push_stand(
     clock: u64,
     from: u16,
     stand: &Stand,
+    waits: &[Wait],
 ) -> Result<(), NoMemory>
     requires dims { dims ≤ 12 }
-    ensures ok { OnOk result (text.new.items ≡ text.old.items ++ stand_line dims clock from stand.now) }
+    ensures ok { OnOk result (text.new.items ≡ text.old.items ++ stand_line dims clock from stand.now waits.now) }
 {
     push_way(text, dims, clock, from, stand.chip)?;
     push_stay(text, from, stand.chip)?;
     push_referrals(text, dims, from, stand.chip, stand.message.rel)?;
     push_piece(text, b", place ", stand.place)?;
     push_piece(text, b" of ", stand.count)?;
+    push_waits(text, waits)?;
     push_words(text, b"\n")
+}
+
+/// Why it waited.
+fn push_waits(text: &mut Vec<u8>, waits: &[Wait]) -> Result<(), NoMemory>
+    ensures ok { OnOk result (text.new.items ≡ text.old.items ++ flat_map wait_text waits.now) }
+{
+    for wait in waits {
+        push_wait(text, wait)?;
+    }
+    Ok(())
+}
+
+fn push_wait(text: &mut Vec<u8>, wait: &Wait) -> Result<(), NoMemory>
+    ensures ok { OnOk result (text.new.items ≡ text.old.items ++ wait_text wait.now) }
+{
+    match wait {
+        Wait::Cut(dim) => {
+            push_piece(text, b", waits in ", *dim)?;
+            push_words(text, b" at a cut wire")
+        }
+        Wait::Behind(dim, tag) => {
+            push_piece(text, b", waits in ", *dim)?;
+            push_words(text, b" behind ")?;
+            push_tag(text, tag)
+        }
+        Wait::Unfetched => push_words(text, b", waits for RECV"),
+        Wait::Second(tag) => {
+            push_words(text, b", waits for its processor behind ")?;
+            push_tag(text, tag)
+        }
+    }
+}
+
+/// A message, by who sent it and the petit cycle in which it was taken in.
+fn push_tag(text: &mut Vec<u8>, tag: &Tag) -> Result<(), NoMemory>
+    ensures ok { OnOk result (text.new.items ≡ text.old.items ++ tag_text tag.now) }
+{
+    push_piece(text, b"", tag.chip)?;
+    push_piece(text, b" ", tag.proc.get())?;
+    push_piece(text, b" ", tag.birth)
 }
 
 /// The same, where it was delivered.

@@ -4,14 +4,12 @@ ghost use Rattle.std.specs.Prelude.{◌≡◌, ◌≢◌, ◌^◌, ◌-◌, Ok, 
 ghost use Rattle.lab_study.specs.Study.{table_header, act_lacks_room, study_table};
 
 use crate::known::Known;
+use lab_machine::{LAST_CLOCK, LabMachine};
 use crate::watch::Watch;
-use cm_array::Machine;
 use cm_bits::NoMemory;
 use cm_model::Act;
 use std::alloc::Global;
 use thiserror::Error;
-
-const LAST_CLOCK: u64 = u64::MAX >> 1;
 
 /// What a study tells.
 #[derive(Clone, Copy, Debug, PartialEq, Eq)]
@@ -43,16 +41,17 @@ impl From<NoMemory> for StudyFault {
 }
 
 /// Has a machine run a program's acts, and tells the table of them.
-pub fn study<const N: usize, const CAP: usize, W: Watch>(
+pub fn study<W: Watch>(
     alloc: Global,
-    machine: &mut Machine<N, CAP>,
+    machine: &mut LabMachine,
     acts: &[Act],
     table: Table,
     watch: &mut W,
 ) -> Result<Vec<u8>, StudyFault>
-    ensures value { IfOk result (λ text. study_table N CAP table machine.old.machine acts.now ≡ Ok text.items) }
+    ensures value { IfOk result (λ text.
+        study_table machine.old.n machine.old.cap table machine.old.machine acts.now ≡ Ok text.items) }
     ensures refused { IfErr result (λ fault. fault ≢ StudyFault.Memory
-        → study_table N CAP table machine.old.machine acts.now ≡ Err fault) }
+        → study_table machine.old.n machine.old.cap table machine.old.machine acts.now ≡ Err fault) }
 {
     let mut text = opening_text(alloc, table)?;
     let mut known = Known::opening(alloc, machine)?;

@@ -8,11 +8,11 @@ ghost use Rattle.lab_study.specs.Tables.{event_text, delivered_text, delivered_t
 ghost use Rattle.lab_study.specs.Tables.{standing_text_at};
 ghost use Rattle.lab_study.specs.Traces.{trace_of};
 
-use crate::counting::{chip_count, events_behind};
+use crate::counting::events_behind;
 use crate::counts::Counts;
+use lab_machine::LabMachine;
 use crate::trace::Trace;
 use crate::ways::Ways;
-use cm_array::Machine;
 use cm_bits::NoMemory;
 use cm_model::{Event, Message};
 use lab_digits::{push_byte, push_number};
@@ -29,20 +29,18 @@ pub(crate) fn push_cycle(text: &mut Vec<u8>, clock: u64, counts: Counts) -> Resu
 
 /// The lines of the messages that all chips delivered in a petit cycle, where their logs had so many events and this
 /// was known before.
-pub(crate) fn push_delivered<const N: usize, const CAP: usize>(
+pub(crate) fn push_delivered(
     text: &mut Vec<u8>,
     clock: u64,
     before: &[usize],
     ways: &Ways,
-    machine: &Machine<N, CAP>,
+    machine: &LabMachine,
 ) -> Result<(), NoMemory>
     ensures ok { OnOk result (text.new.items
-        ≡ text.old.items ++ delivered_text N clock before.now ways.now machine.now.machine) }
+        ≡ text.old.items ++ delivered_text machine.now.n clock before.now ways.now machine.now.machine) }
 {
-    // For the prover alone: a call brings in what holds of every machine.
-    let _dims = machine.dims();
-    for chip in 0..chip_count::<N>() {
-        let events = events_behind(before, machine, chip)?;
+    for chip in 0..machine.chips() {
+        let events = events_behind(before, machine, chip);
         push_events(text, clock, ways, chip, events)?;
     }
     Ok(())
@@ -104,16 +102,15 @@ fn push_delivered_line(
 }
 
 /// The lines of the messages that stand in all routers.
-pub(crate) fn push_standing<const N: usize, const CAP: usize>(
+pub(crate) fn push_standing(
     text: &mut Vec<u8>,
     ways: &Ways,
-    machine: &Machine<N, CAP>,
+    machine: &LabMachine,
 ) -> Result<(), NoMemory>
-    ensures ok { OnOk result (text.new.items ≡ text.old.items ++ standing_text N ways.now machine.now.machine) }
+    ensures ok { OnOk result (text.new.items
+        ≡ text.old.items ++ standing_text machine.now.n ways.now machine.now.machine) }
 {
-    // For the prover alone: a call brings in what holds of every machine.
-    let _dims = machine.dims();
-    for chip in 0..chip_count::<N>() {
+    for chip in 0..machine.chips() {
         push_buffer(text, ways, chip, machine.buffer(chip))?;
     }
     Ok(())

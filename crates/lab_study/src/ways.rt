@@ -7,9 +7,8 @@ ghost use Rattle.cm_model.specs.Found.{same_tag};
 ghost use Rattle.lab_study.specs.declared.trace.Trace.{Trace};
 ghost use Rattle.lab_study.specs.Traces.{trace_of, trace_after, by_sender, traces_after};
 
-use crate::counting::chip_count;
+use lab_machine::LabMachine;
 use crate::trace::Trace;
-use cm_array::Machine;
 use cm_bits::NoMemory;
 use cm_model::{Message, Tag};
 use std::alloc::Global;
@@ -41,11 +40,10 @@ impl Ways {
     }
 
     /// Of each chip nothing.
-    fn blank<const N: usize>(alloc: Global) -> Result<Ways, NoMemory>
-        requires dimension { N ≤ 12 }
-        ensures value { IfOk result (λ ways. ways ≡ by_sender N []) }
+    fn blank(alloc: Global, machine: &LabMachine) -> Result<Ways, NoMemory>
+        ensures value { IfOk result (λ ways. ways ≡ by_sender machine.now.n []) }
     {
-        let chips = chip_count::<N>();
+        let chips = machine.chips();
         let mut by_sender = Vec::with_capacity(alloc, usize::from(chips))?;
         for _chip in 0..chips {
             let Ok(()) = by_sender.push(no_traces(alloc)) else {
@@ -56,17 +54,15 @@ impl Ways {
     }
 
     /// What is known one petit cycle on, when the machine is this.
-    pub(crate) fn after<const N: usize, const CAP: usize>(
+    pub(crate) fn after(
         &self,
         alloc: Global,
-        machine: &Machine<N, CAP>,
+        machine: &LabMachine,
     ) -> Result<Ways, NoMemory>
-        ensures value { IfOk result (λ ways. ways ≡ traces_after N self.now machine.now.machine) }
+        ensures value { IfOk result (λ ways. ways ≡ traces_after machine.now.n self.now machine.now.machine) }
     {
-        // For the prover alone: a call brings in what holds of every machine.
-        let _dims = machine.dims();
-        let mut next = Ways::blank::<N>(alloc)?;
-        for chip in 0..chip_count::<N>() {
+        let mut next = Ways::blank(alloc, machine)?;
+        for chip in 0..machine.chips() {
             self.follow_chip(chip, machine.buffer(chip), &mut next)?;
         }
         Ok(next)

@@ -1,14 +1,14 @@
 //! Where the message of a tag stands, and where it was delivered.
 
-ghost use Rattle.std.specs.Prelude.{◌≡◌, ◌^◌, ◌<◌, IfOk, length, slice_get};
+ghost use Rattle.std.specs.Prelude.{◌≡◌, ◌^◌, ◌<◌, IfSome, length, slice_get};
 ghost use Rattle.std.specs.List.{filter_map};
 ghost use Rattle.cm_model.specs.Found.{delivery_place};
 ghost use Rattle.lab_study.specs.Whereabouts.{stands_among, stand_in, delivery_in};
 
-use crate::counting::{chip_count, events_behind};
+use crate::counting::events_behind;
+use lab_machine::LabMachine;
 use crate::ways::are_same;
-use cm_array::Machine;
-use cm_bits::{NoMemory, Place};
+use cm_bits::Place;
 use cm_model::{Event, Message, Tag};
 
 /// A message that stands in the router of a chip.
@@ -24,15 +24,14 @@ pub(crate) struct Stand {
 
 /// The message of a tag that stands in a router.
 #[tactic(auto, unfolding(crate::specs::Whereabouts::stand_in))]
-pub(crate) fn stand_in<const N: usize, const CAP: usize>(
-    machine: &Machine<N, CAP>,
+pub(crate) fn stand_in(
+    machine: &LabMachine,
     tag: &Tag,
 ) -> Option<Stand>
-    ensures value { result ≡ stand_in N tag.now machine.now.machine }
+    ensures value { result ≡ stand_in machine.now.n tag.now machine.now.machine }
+    ensures chip { IfSome result (λ stand. stand.chip < 2 ^ machine.now.n) }
 {
-    // For the prover alone: a call brings in what holds of every machine.
-    let _dims = machine.dims();
-    for chip in 0..chip_count::<N>() {
+    for chip in 0..machine.chips() {
         if let Some(stand) = stand_at(chip, machine.buffer(chip), tag) {
             return Some(stand);
         }
@@ -43,6 +42,7 @@ pub(crate) fn stand_in<const N: usize, const CAP: usize>(
 /// That among those that stand at a chip.
 fn stand_at(chip: u16, messages: &[Message], tag: &Tag) -> Option<Stand>
     ensures value { result ≡ slice_get (stands_among tag.now chip messages.now) 0 }
+    ensures chip { IfSome result (λ stand. stand.chip ≡ chip) }
 {
     for (index, message) in messages.iter().enumerate() {
         if are_same(&message.tag, tag) {
@@ -59,22 +59,20 @@ fn stand_at(chip: u16, messages: &[Message], tag: &Tag) -> Option<Stand>
 
 /// Where the message of a tag was delivered, where the logs of chips had so many events before.
 #[tactic(auto, unfolding(crate::specs::Whereabouts::delivery_in))]
-pub(crate) fn delivery_in<const N: usize, const CAP: usize>(
+pub(crate) fn delivery_in(
     before: &[usize],
-    machine: &Machine<N, CAP>,
+    machine: &LabMachine,
     tag: &Tag,
-) -> Result<Option<Place>, NoMemory>
-    ensures value { IfOk result (λ place. place ≡ delivery_in N tag.now before.now machine.now.machine) }
+) -> Option<Place>
+    ensures value { result ≡ delivery_in machine.now.n tag.now before.now machine.now.machine }
 {
-    // For the prover alone: a call brings in what holds of every machine.
-    let _dims = machine.dims();
-    for chip in 0..chip_count::<N>() {
-        let events = events_behind(before, machine, chip)?;
+    for chip in 0..machine.chips() {
+        let events = events_behind(before, machine, chip);
         if let Some(place) = delivery_among(events, tag) {
-            return Ok(Some(place));
+            return Some(place);
         }
     }
-    Ok(None)
+    None
 }
 
 /// Where events of a chip tell that it was delivered.

@@ -269,7 +269,7 @@ fn is_for_a_slide(alloc: Global) -> Option<bool> {
 }
 
 fn tells(alloc: Global, table: Table, wanted: &str) -> bool {
-    is_made(alloc, &Task::Study(table), &BLANK, ALL_SEND, wanted)
+    is_made(alloc, &Task::Study(None, table), &BLANK, ALL_SEND, wanted)
 }
 
 /// Whether a source comes out as its program.

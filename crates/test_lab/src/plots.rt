@@ -1,7 +1,7 @@
 //! Pictures of tables and routes: what stands in them.
 
 use lab_plot::PlotFault;
-use lab_route_plot::plot;
+use lab_route_plot::{Cycles, plot};
 use std::alloc::Global;
 use test_generators::{Call, first_not_so};
 
@@ -201,8 +201,8 @@ fn has_parts(text: &str, parts: &[&str]) -> bool {
 
 impl Call for Row {
     fn is_so(&self, alloc: Global) -> Option<bool> {
-        let made = match plot(alloc, self.table.as_bytes()) {
-            Err(PlotFault::Memory) => plot(alloc, self.table.as_bytes()),
+        let made = match plot(alloc, self.table.as_bytes(), Cycles::ALL) {
+            Err(PlotFault::Memory) => plot(alloc, self.table.as_bytes(), Cycles::ALL),
             made => made,
         };
         let picture = made.ok()?;

@@ -2,7 +2,7 @@
 
 use crate::growths::{BLANK, plain};
 use cm_bits::Proc;
-use lab_data::{Format, Shown, Table, Tag, Task, Watch, perform_watched};
+use lab_data::{Excerpt, Format, Shown, Table, Tag, Task, Watch, perform_watched};
 use std::alloc::Global;
 use std::test::Fail;
 
@@ -49,7 +49,7 @@ fn told_of_route(alloc: Global, proc: u8) -> Option<(usize, usize)> {
         proc: Proc::new(proc)?,
         birth: 0,
     };
-    told_of(alloc, Task::Route(tag))
+    told_of(alloc, Task::Route(None, Excerpt::WHOLE, tag))
 }
 
 /// The message of processor 0 is delivered by the second act, that of processor 1 never; a picture runs no program.
@@ -57,8 +57,8 @@ fn told_of_route(alloc: Global, proc: u8) -> Option<(usize, usize)> {
 fn each_act_is_told_in_its_turn(rt: HostRuntime) -> Result<(), Fail> {
     let alloc = rt.alloc();
     let told = [
-        told_of(alloc, Task::Study(Table::Cycles)),
-        told_of(alloc, Task::Study(Table::Messages)),
+        told_of(alloc, Task::Study(None, Table::Cycles)),
+        told_of(alloc, Task::Study(None, Table::Messages)),
         told_of_route(alloc, 0),
         told_of_route(alloc, 1),
         told_of(alloc, Task::Show(Shown::Buffers, plain(Format::Png))),

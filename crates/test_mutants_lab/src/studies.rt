@@ -4,37 +4,40 @@ ghost use Rattle.std.specs.Prelude.{◌≡◌, ◌≢◌, Ok, Err, IfOk, IfErr};
 ghost use Rattle.lab_study.specs.Routes.{route_of};
 ghost use Rattle.lab_study.specs.Study.{study_table};
 
-use cm_array::Machine;
 use cm_model::{Act, Tag};
-use lab_study::{RouteFault, StudyFault, Table, Watch};
+use lab_machine::LabMachine;
+use lab_study::{Excerpt, RouteFault, StudyFault, Table, Watch};
 use std::alloc::Global;
 
 /// What `lab_study::study` promises, word for word.
-pub fn study<const N: usize, const CAP: usize, W: Watch>(
+pub fn study<W: Watch>(
     alloc: Global,
-    machine: &mut Machine<N, CAP>,
+    machine: &mut LabMachine,
     acts: &[Act],
     table: Table,
     watch: &mut W,
 ) -> Result<Vec<u8>, StudyFault>
-    ensures value { IfOk result (λ text. study_table N CAP table machine.old.machine acts.now ≡ Ok text.items) }
+    ensures value { IfOk result (λ text.
+        study_table machine.old.n machine.old.cap table machine.old.machine acts.now ≡ Ok text.items) }
     ensures refused { IfErr result (λ fault. fault ≢ StudyFault.Memory
-        → study_table N CAP table machine.old.machine acts.now ≡ Err fault) }
+        → study_table machine.old.n machine.old.cap table machine.old.machine acts.now ≡ Err fault) }
 {
     lab_study::study(alloc, machine, acts, table, watch)
 }
 
 /// What `lab_study::route` promises, word for word.
-pub fn route<const N: usize, const CAP: usize, W: Watch>(
+pub fn route<W: Watch>(
     alloc: Global,
-    machine: &mut Machine<N, CAP>,
+    machine: &mut LabMachine,
     acts: &[Act],
+    excerpt: Excerpt,
     tag: Tag,
     watch: &mut W,
 ) -> Result<Vec<u8>, RouteFault>
-    ensures value { IfOk result (λ text. route_of N CAP tag machine.old.machine acts.now ≡ Ok text.items) }
+    ensures value { IfOk result (λ text.
+        route_of machine.old.n machine.old.cap excerpt tag machine.old.machine acts.now ≡ Ok text.items) }
     ensures refused { IfErr result (λ fault. fault ≢ RouteFault.Memory
-        → route_of N CAP tag machine.old.machine acts.now ≡ Err fault) }
+        → route_of machine.old.n machine.old.cap excerpt tag machine.old.machine acts.now ≡ Err fault) }
 {
-    lab_study::route(alloc, machine, acts, tag, watch)
+    lab_study::route(alloc, machine, acts, excerpt, tag, watch)
 }

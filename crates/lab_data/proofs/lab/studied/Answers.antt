@@ -5,6 +5,7 @@ use Rattle.lab_data.proofs.lab.studied.Goals as goal
 
 pub returns-in-Err-clause-refused : goal.returns-in-Err-clause-refused
 returns-in-Err-clause-refused g c =
-    no_program (λ acts. of_table (study_table g.row.N g.row.CAP c.args.table c.args.machine.now.machine acts))
+    let lab = c.args.lab.now in
+    no_program (λ acts. of_table (study_table lab.n lab.cap c.args.table lab.machine acts))
     c.args.given.now c.in-Err.fault c.of_program.result c.in-Err.ensures.value c.of_program.ensures.memory
     c.of_program.ensures.other

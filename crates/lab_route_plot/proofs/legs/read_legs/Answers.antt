@@ -7,15 +7,15 @@ use Rattle.lab_route_plot.proofs.legs.read_legs.Goals as goal
 pub returns-in-Err-clause-refused : goal.returns-in-Err-clause-refused
 returns-in-Err-clause-refused c = λ other.
     sym (rw c.in-Some.ensures.steps at c.loop-line.invariant)
-    ∙ after_line c.loop-line.number c.loop-line.legs.items c.in-Some.line.now (lines_left c.next.new.self)
+    ∙ after_line c.args.cycles c.loop-line.number c.loop-line.legs.items c.in-Some.line.now (lines_left c.next.new.self)
     (Err c.in-Err.fault) (c.in-Err.ensures.err other)
 
 pub loop-line-preserved : goal.loop-line-preserved
 loop-line-preserved c =
     let legs = c.push_line.new.legs.items in
     let lines = lines_left c.next.new.self in
-    ap (λ (n : ℕ). legs_after n legs lines) c.in-Some-checked_add.ensures.1
-    ∙ sym (after_line c.loop-line.number c.loop-line.legs.items c.in-Some.line.now lines (Ok legs) c.in-Ok.ensures.ok)
+    ap (λ (n : ℕ). legs_after c.args.cycles n legs lines) c.in-Some-checked_add.ensures.1
+    ∙ sym (after_line c.args.cycles c.loop-line.number c.loop-line.legs.items c.in-Some.line.now lines (Ok legs) c.in-Ok.ensures.ok)
     ∙ (rw c.in-Some.ensures.steps at c.loop-line.invariant)
 
 pub returns-clause-value : goal.returns-clause-value

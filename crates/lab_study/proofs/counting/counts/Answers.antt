@@ -7,7 +7,7 @@ use Rattle.lab_study.proofs.counting.counts.Goals as goal
 
 pub loop-chip-init : goal.loop-chip-init
 unfolding counts_to tabulate
-loop-chip-init g c = record {
+loop-chip-init c = record {
   so_far = refl;
   within = record {
     taken = omega arith;
@@ -20,10 +20,10 @@ loop-chip-init g c = record {
 }
 
 pub loop-chip-preserved : goal.loop-chip-preserved
-loop-chip-preserved g c = record {
+loop-chip-preserved c = record {
   so_far = c.plus-counts.ensures.value
-      ∙ (λ j. added (c.loop-chip.invariant.so_far j) (c.in_ok-counts_at.ensures.value j))
-      ∙ sym (counts_to-more c.loop-chip.chip g.row.CAP c.args.before.now c.args.ways.now c.args.machine.now.machine);
-  within = added-within c.loop-chip.chip c.loop-chip.counts c.in_ok-counts_at.field-0 c.plus-counts.result
-      c.loop-chip.invariant.within c.in_ok-counts_at.ensures.within c.plus-counts.ensures.value;
+      ∙ (λ j. added (c.loop-chip.invariant.so_far j) (c.counts_at.ensures.value j))
+      ∙ sym (counts_to-more c.loop-chip.chip c.args.machine.now.cap c.args.before.now c.args.ways.now c.args.machine.now.machine);
+  within = added-within c.loop-chip.chip c.loop-chip.counts c.counts_at.result c.plus-counts.result
+      c.loop-chip.invariant.within c.counts_at.ensures.within c.plus-counts.ensures.value;
 }

@@ -5,7 +5,7 @@ use Rattle.lab_study.proofs.counting.counts.Given as goal
 
 -- those of so many chips
 abbrev pub invariant-loop-chip : goal.invariant-loop-chip
-invariant-loop-chip g l = record {
-  so_far : l.counts ≡ counts_to l.chip g.row.CAP l.before l.ways l.machine.machine;
+invariant-loop-chip l = record {
+  so_far : l.counts ≡ counts_to l.chip l.machine.cap l.before l.ways l.machine.machine;
   within : AreCountsWithin (l.chip * 2 ^ 72) l.counts;
 }

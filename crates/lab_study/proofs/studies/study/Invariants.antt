@@ -5,6 +5,6 @@ use Rattle.lab_study.proofs.studies.study.Given as goal
 -- what was told, and what the acts that are left tell, are the table
 abbrev pub invariant-loop-done : goal.invariant-loop-done
 invariant-loop-done g l =
-    study_table g.row.N g.row.CAP l.table l.initial.machine.machine l.acts
+    study_table l.initial.machine.n l.initial.machine.cap l.table l.initial.machine.machine l.acts
     ≡ study_preceded_by l.text.items
-    (acts_table g.row.N g.row.CAP l.table (studied l.machine.machine l.known) (drop l.done l.acts))
+    (acts_table l.machine.n l.machine.cap l.table (studied l.machine.machine l.known) (drop l.done l.acts))

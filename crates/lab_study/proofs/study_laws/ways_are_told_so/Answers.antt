@@ -5,4 +5,14 @@ use Rattle.lab_study.proofs.study_laws.ways_are_told_so.Goals as goal
 
 pub returns : goal.returns
 unfolding stand_line way_chips_text referrals_text delivery_line undelivered_line target_text digits
-returns c = record { crossed = refl; referred = refl; stayed = refl; delivered = refl; stands = refl }
+returns c = record {
+  crossed = refl;
+  referred = refl;
+  stayed = refl;
+  behind = refl;
+  cut = refl;
+  unfetched = refl;
+  second = refl;
+  delivered = refl;
+  stands = refl;
+}

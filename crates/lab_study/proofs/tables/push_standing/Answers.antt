@@ -6,7 +6,7 @@ use Rattle.lab_study.proofs.Sums.{text-more}
 use Rattle.lab_study.proofs.tables.push_standing.Goals as goal
 
 pub loop-chip-preserved : goal.loop-chip-preserved
-loop-chip-preserved g c =
+loop-chip-preserved c =
     text-more (standing_text_at c.args.ways.now c.args.machine.now.machine) c.args.text.now.items c.loop-chip.text.items
     c.push_buffer.new.text.items c.loop-chip.chip c.loop-chip.invariant
     (c.in_ok-push_buffer.ensures.ok
@@ -16,9 +16,9 @@ loop-chip-preserved g c =
 
 pub returns : goal.returns
 unfolding standing_text
-returns g c =
-    let all : c.loop-chip.chip ≡ 2 ^ g.row.N =
-    omega (arith, c.loop-chip-test.false, c.loop-chip.auto.chip-end, c.chip_count-chip-end.ensures.value) in
+returns c =
+    let all : c.loop-chip.chip ≡ 2 ^ c.args.machine.now.n =
+    omega (arith, c.loop-chip-test.false, c.loop-chip.auto.chip-end, c.chips-chip-end.ensures.value) in
     record {
       ok = c.loop-chip.invariant
           ∙ ap (λ (k : ℕ). c.args.text.now.items

@@ -5,5 +5,5 @@ use Rattle.lab_study.proofs.tables.push_standing.Given as goal
 
 -- the lines of so many chips
 abbrev pub invariant-loop-chip : goal.invariant-loop-chip
-invariant-loop-chip g l = l.text.items ≡ l.initial.text.items
+invariant-loop-chip l = l.text.items ≡ l.initial.text.items
     ++ flat_map (standing_text_at l.ways l.machine.machine) (range_with_len 0 l.chip)

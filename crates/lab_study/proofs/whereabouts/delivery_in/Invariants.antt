@@ -8,6 +8,6 @@ use Rattle.lab_study.proofs.whereabouts.delivery_in.Given as goal
 
 -- those of the chips that are left
 abbrev pub invariant-loop-chip : goal.invariant-loop-chip
-invariant-loop-chip g l = delivery_in g.row.N l.tag l.before l.machine.machine
+invariant-loop-chip l = delivery_in l.machine.n l.tag l.before l.machine.machine
     ≡ slice_get (flat_map (λ c. filter_map (delivery_place l.tag) (events_behind l.before l.machine.machine c))
-    (range_with_len l.chip (2 ^ g.row.N - l.chip))) 0
+    (range_with_len l.chip (2 ^ l.machine.n - l.chip))) 0

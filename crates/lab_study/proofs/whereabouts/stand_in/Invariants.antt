@@ -7,6 +7,6 @@ use Rattle.lab_study.proofs.whereabouts.stand_in.Given as goal
 
 -- those of the chips that are left
 abbrev pub invariant-loop-chip : goal.invariant-loop-chip
-invariant-loop-chip g l = stand_in g.row.N l.tag l.machine.machine
+invariant-loop-chip l = stand_in l.machine.n l.tag l.machine.machine
     ≡ slice_get (flat_map (λ c. stands_among l.tag c (nth_or_nil l.machine.machine.buffers c))
-    (range_with_len l.chip (2 ^ g.row.N - l.chip))) 0
+    (range_with_len l.chip (2 ^ l.machine.n - l.chip))) 0

@@ -5,5 +5,5 @@ use Rattle.lab_study.proofs.ways.Ways.after.Given as goal
 
 -- so many chips are gone through
 abbrev pub invariant-loop-chip : goal.invariant-loop-chip
-invariant-loop-chip g l =
-    l.next ≡ by_sender g.row.N (flat_map (traces_at l.self l.machine.machine) (range_with_len 0 l.chip))
+invariant-loop-chip l =
+    l.next ≡ by_sender l.machine.n (flat_map (traces_at l.self l.machine.machine) (range_with_len 0 l.chip))

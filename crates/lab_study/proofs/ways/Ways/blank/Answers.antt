@@ -3,18 +3,18 @@ use Rattle.std.proofs.lemmas.List.{map-append}
 use Rattle.cm_model.specs.Each.{tabulate}
 use Rattle.lab_study.specs.declared.trace.Trace.{Trace}
 use Rattle.lab_study.specs.Traces.{by_sender}
-use Rattle.lab_study.proofs.Sums.{tabulate-more}
+use Rattle.lab_machine.proofs.Tabulating.{tabulate-more}
 use Rattle.lab_study.proofs.ways.Ways.blank.Goals as goal
 
 pub loop-chip-init : goal.loop-chip-init
 unfolding tabulate
-loop-chip-init g c = record {
+loop-chip-init c = record {
   so_far = ap (map (λ traces. traces.items)) c.in_ok-by_sender.ensures.items;
   within = omega arith;
 }
 
 pub loop-chip-preserved : goal.loop-chip-preserved
-loop-chip-preserved g c =
+loop-chip-preserved c =
     let none : ℕ → List Trace = λ b. [] in
     record {
       so_far = ap (map (λ traces. traces.items)) c.in-Ok.ensures.items
@@ -26,12 +26,12 @@ loop-chip-preserved g c =
 
 pub returns : goal.returns
 unfolding by_sender
-returns g c =
-    let all : c.loop-chip._chip ≡ 2 ^ g.row.N = omega (
+returns c =
+    let all : c.loop-chip._chip ≡ 2 ^ c.args.machine.now.n = omega (
       arith,
       c.loop-chip-test.false,
       c.loop-chip.invariant.within,
-      c.chip_count-chips.ensures.value,
+      c.chips-chips.ensures.value,
     ) in
     let none : ℕ → List Trace = λ b. [] in
     record { value = c.loop-chip.invariant.so_far ∙ ap (λ (k : ℕ). tabulate 0 k none) all }

@@ -1,6 +1,6 @@
 use Rattle.std.proofs.Common.{◌^◌, ◌≤◌, lit<, arith}
 use Rattle.std.proofs.Math.Nat.{pow-le-pow_right}
-use Rattle.lab_study.proofs.counting.chip_count.Goals as goal
+use Rattle.lab_machine.proofs.copying.chip_count.Goals as goal
 
 pub returns-clause-within : goal.returns-clause-within
 returns-clause-within g c =
