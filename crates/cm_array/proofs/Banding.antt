@@ -43,7 +43,7 @@ from_0 : (c : ℕ) → c - 0 ≡ c
 from_0 c = omega arith
 
 -- a list that is made from 0 on is made from another number on, by a function that agrees there
-each-from_other : {X : Type 0} (d : X) (first count : ℕ) (f g : ℕ → X) → ((i : ℕ) → i < count → f i ≡ g (first + i))
+pub each-from_other : {X : Type 0} (d : X) (first count : ℕ) (f g : ℕ → X) → ((i : ℕ) → i < count → f i ≡ g (first + i))
     → tabulate 0 count f ≡ tabulate first count g
 each-from_other d first count f g same =
     ext_get_or d (tabulate 0 count f) (tabulate first count g)

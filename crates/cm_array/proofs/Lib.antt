@@ -1,6 +1,7 @@
 mod Lists
 mod Dealing
 mod Banding
+mod Halving
 mod Wholes
 mod Searching
 pub mod Rooms

@@ -16,7 +16,6 @@ ghost use Rattle.cm_array.specs.Cuts.{part_view, IsPartView, IsLaid};
 use crate::chip_state::ChipState;
 use cm_element::{ChipView, Run};
 use cm_message::{Event, Message};
-use cm_petit::{leave, take_in};
 use cm_router::Routing;
 use cm_router_engine::{RouterEngine, Shape};
 use std::marker::Model;
@@ -143,14 +142,9 @@ impl Part {
             → is_cut self.new.part.routing (self.new.part.first + c) dim ≡ false
             → length (nth_or_nil self.new.part.buffers c) < self.new.room }
     {
-        leave(
-            self.sizes,
-            &self.parts.routing,
-            self.first,
-            &mut self.parts.crossing,
-            dim,
-            leavers,
-        );
+        self.parts
+            .crossing
+            .leave(self.sizes, &self.parts.routing, self.first, dim, leavers);
     }
 
     /// The second half: each chip takes in what was written down for it, behind all that stand there. Nothing is
@@ -165,7 +159,7 @@ impl Part {
         } }
         ensures blank { All (λ leaver. leaver ≡ None) leavers.new }
     {
-        take_in(self.sizes, &mut self.parts.crossing, leavers);
+        self.parts.crossing.take_in(self.sizes, leavers);
     }
 
     /// Makes its messages readable, if any has moved since they were.

@@ -7,7 +7,7 @@ ghost use Rattle.cm_blocks.specs.Steps.{part_after};
 ghost use Rattle.cm_router.specs.Logs.{HaveLogRoom, LoseAtMost};
 
 use crate::part::Part;
-use cm_petit::{cross, deliver, inject};
+use cm_petit::{deliver, inject};
 
 impl Part {
     /// Every router takes in messages of its chip's processors.
@@ -40,14 +40,9 @@ impl Part {
           gathered = self.new.gathered;
         } }
     {
-        cross(
-            self.sizes,
-            span,
-            &self.parts.routing,
-            self.first,
-            &mut self.parts.crossing,
-            dim,
-        );
+        self.parts
+            .crossing
+            .cross(self.sizes, span, &self.parts.routing, self.first, dim);
     }
 
     /// Messages that have arrived go to their processors, and the counter is one more.

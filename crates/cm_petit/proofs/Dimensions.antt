@@ -1,67 +1,20 @@
--- A dimension at a run of chips that begins at any chip, within it and each half by itself; and at nodes, pair by pair.
-use Rattle.std.proofs.Common.{◌≡◌, ℕ, ◌+◌, ◌-◌, ◌*◌, ◌/◌, ◌%◌, ◌^◌, ◌<◌, Bool, true, List, [], length}
+-- A dimension at nodes, pair by pair.
+use Rattle.std.proofs.Common.{◌≡◌, ℕ, ◌^◌, ◌<◌, Bool, true, List, [], length}
 use Rattle.std.proofs.Common.{refl, sym, ap, ◌∙◌, arith, ◌≢◌, ◌≤◌, min}
 use Rattle.std.specs.Prelude.{bit_xor}
-use Rattle.std.specs.Int.Bits.{xor_zero_r, xor_self}
-use Rattle.std.proofs.lemmas.Bool.Decides.{nat_tests}
+use Rattle.std.specs.Int.Bits.{xor_self}
 use Rattle.std.proofs.lemmas.List.{length-map, get_or-map, get_or_default, append-nil}
-use Rattle.std.proofs.lemmas.Nat.{xor_block, xor_lt, pow_below, pow_pos, xor_comm}
+use Rattle.std.proofs.lemmas.Nat.{pow_pos, xor_comm}
 use Rattle.std.specs.List.{All}
-use Rattle.cm_model.specs.declared.message.Message.{Message}
-use Rattle.cm_model.specs.Each.{tabulate}
 use Rattle.cm_model.specs.declared.rule.Rule.{Rule}
-use Rattle.cm_model.specs.Array.{each_chip, nth_or_nil}
+use Rattle.cm_model.specs.Array.{nth_or_nil}
 use Rattle.cm_model.specs.Wiring.{Routing, Way, way_of}
 use Rattle.cm_model.specs.Buffers.{leaving_place, outgoing, buffer_after_dimension, buffers_after_dimension}
-use Rattle.cm_model.proofs.Each.{length-tabulate, get_or-each_below, is_each}
+use Rattle.cm_model.proofs.Each.{is_each}
 use Rattle.cm_model.proofs.Flips.{xor_twice, across_below}
 use Rattle.cm_model.proofs.Wires.{way_of-across}
-use Rattle.cm_blocks.specs.Parts.{Part, is_within, buffer_in}
-use Rattle.cm_blocks.specs.Parcels.{Blank}
-use Rattle.cm_blocks.specs.Steps.{mail_for}
 use Rattle.cm_router.specs.Buffer.{Buffer, buffers_of}
-use Rattle.cm_petit.proofs.Making.{row_is}
 use Rattle.cm_petit.specs.Nodes.{no_node, node_at, exchanged}
-
--- the same, of what a function of the place makes
-pub each_shifted : {X : Type 0} (d : X) (first count : ℕ) (f : ℕ → X) (g : ℕ → ℕ → X)
-    → ((i : ℕ) → i < count → f i ≡ g (first + i) i) → tabulate 0 count f ≡ tabulate first count (λ c. g c (c - first))
-each_shifted d first count f g same =
-    row_is d first count g (tabulate 0 count f) (length-tabulate 0 count f)
-    (λ i h. get_or-each_below count f i d h ∙ same i h)
-
--- across a dimension that a run spans a chip stays in it
-stays_in : (span first i d : ℕ) → first % 2 ^ span ≡ 0 → d < span → i < 2 ^ span
-    → bit_xor (first + i) (2 ^ d) ≡ first + bit_xor i (2 ^ d)
-stays_in span first i d even below inside =
-    let q : ℕ = first / 2 ^ span in
-    let some : 0 < 2 ^ span = pow_pos span in
-    let begins : q * 2 ^ span ≡ first = grind (arith, even, some) in
-    let flip : 0 * 2 ^ span + 2 ^ d ≡ 2 ^ d = omega arith in
-    rw (flip, xor_zero_r q, begins) at (xor_block span q 0 i (2 ^ d) inside (pow_below d span below))
-
--- so within the run, each chip by the way that it shares with the chip across
-pub each_crossed : (room d span : ℕ) (s : Part) → d < span → s.first % 2 ^ span ≡ 0 → s.count ≡ 2 ^ span
-    → each_chip span (λ c. buffer_after_dimension (way_of s.routing (s.first + c) d) room d (nth_or_nil s.buffers c)
-    (outgoing (way_of s.routing (s.first + c) d) room d (nth_or_nil s.buffers (bit_xor c (2 ^ d)))))
-    ≡ tabulate s.first s.count
-    (λ c. buffer_after_dimension (way_of s.routing c d) room d (buffer_in s c) (mail_for room d Blank s c))
-each_crossed room d span s below even many =
-    rw (← many) (each_shifted [] s.first s.count _
-    (λ c i. buffer_after_dimension (way_of s.routing c d) room d (nth_or_nil s.buffers i) (mail_for room d Blank s c))
-    (λ i inside.
-    let here : i < 2 ^ span = omega (arith, many) in
-    let low : bit_xor i (2 ^ d) < 2 ^ span = xor_lt span i (2 ^ d) here (pow_below d span below) in
-    let there : s.first + bit_xor i (2 ^ d) - s.first ≡ bit_xor i (2 ^ d) = omega arith in
-    let is_in : is_within s (s.first + bit_xor i (2 ^ d)) ≡ true = grind (arith, nat_tests) in
-    let other : ℕ = bit_xor (s.first + i) (2 ^ d) in
-    let met : List Message = nth_or_nil s.buffers (bit_xor i (2 ^ d)) in
-    let coming : mail_for room d Blank s (s.first + i) ≡ outgoing (way_of s.routing other d) room d met =
-    rw (stays_in span s.first i d even below here, is_in, there) refl in
-    ap (buffer_after_dimension (way_of s.routing (s.first + i) d) room d (nth_or_nil s.buffers i))
-    (sym (coming ∙ ap (λ (w : Way). outgoing w room d met) (way_of-across s.routing (s.first + i) d)))))
-
--- ---- nodes
 
 -- the number across is another
 pub across_differs : (c d : ℕ) → bit_xor c (2 ^ d) ≢ c

@@ -1,13 +1,11 @@
 //! One petit cycle of the router, on all chips of a cube at once.
 #![tactic(auto)]
 
-mod halves;
 mod into_row;
 mod nodes;
 mod phases;
 mod ready;
 
-pub use halves::{cross, leave, take_in};
 pub use into_row::cycle_into_row;
 pub use nodes::cycle_of_nodes;
 pub use phases::{cycle, deliver, inject};

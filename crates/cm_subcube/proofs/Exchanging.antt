@@ -2,8 +2,10 @@
 use Rattle.std.proofs.Common.{◌≡◌, ◌<◌, ◌↔◌, ◌-◌, ◌*◌, ◌/◌, ◌%◌, ◌==◌, ℕ, Bool, false, List, [], length, get_or, ap}
 use Rattle.std.proofs.Common.{sym, ◌∙◌, subst}
 use Rattle.std.proofs.Common.{arith, Ok, Err}
-use Rattle.std.specs.Prelude.{Option, None}
+use Rattle.std.specs.Prelude.{Option, None, replicate}
 use Rattle.std.specs.List.{All}
+use Rattle.std.proofs.lemmas.List.{get_or-replicate, length-replicate}
+use Rattle.std.proofs.lemmas.List.Elements.{All-from_get_or}
 use Rattle.std.proofs.lemmas.Nat.{pow_pos}
 use Rattle.std.proofs.lemmas.Nat.Bits.{bit_at-zero}
 use Rattle.cm_bits.specs.Bit.{bit}
@@ -11,7 +13,7 @@ use Rattle.cm_model.specs.declared.act.Act.{Act}
 use Rattle.cm_model.specs.declared.act.Act.TheVariants as acts
 use Rattle.cm_model.specs.declared.act.Nano.{Nano}
 use Rattle.cm_model.specs.declared.message.Message.{Message}
-use Rattle.cm_model.specs.Steps.{Instruct, Cross}
+use Rattle.cm_model.specs.Steps.{Step, Instruct, Cross}
 use Rattle.cm_model.specs.Each.{tabulate}
 use Rattle.cm_model.specs.Place.{chip_columns, columns}
 use Rattle.cm_model.proofs.Each.{is_each, length-tabulate, same_each_below}
@@ -24,9 +26,9 @@ use Rattle.cm_array.specs.Bands.{IsBand}
 use Rattle.cm_array.specs.Cuts.{PartView}
 use Rattle.cm_subcube.specs.declared.round.Kind.{Kind}
 use Rattle.cm_subcube.specs.declared.round.Kind.TheVariants as kind
-use Rattle.cm_subcube.specs.Blocks.{IsBlock}
+use Rattle.cm_subcube.specs.Blocks.{BlockView, IsBlock}
 use Rattle.cm_subcube.specs.Parcels.{blank_parcel, IsOfKind}
-use Rattle.cm_subcube.specs.Rounds.{step_in}
+use Rattle.cm_subcube.specs.Rounds.{step_in, step_over_news}
 
 -- a block stays a block when messages leave it
 pub IsBlock-left : (k d : ℕ) (old : PartView) (gathered : Bool) → IsBlock k old
@@ -75,13 +77,6 @@ pub IsBlock-instructed : (k : ℕ) (nano : Nano) (parcel : Parcel) (old : PartVi
     → IsBlock k (record old { part = part_after old.dims old.room (Instruct nano) parcel old.part })
 unfolding part_after
 IsBlock-instructed k nano parcel old was = record { within = was.within; count = was.count; band = was.band }
-
--- an instruction, with what comes in over its edge
-pub absorbed-instruct : (k : ℕ) (nano : Nano) (parcel : Parcel) (new old : PartView)
-    → new ≡ record old { part = part_after old.dims old.room (Instruct nano) parcel old.part }
-    → new ≡ record old { part = absorbed old.dims old.room (Instruct nano) parcel old.part }
-unfolding absorbed
-absorbed-instruct k nano parcel new old is = is
 
 -- an edge has a byte for each column of chips
 as_wide : (n : ℕ) (edge : List ℕ) → length (edge_bits edge) ≡ columns n → length edge ≡ chip_columns n
@@ -135,6 +130,13 @@ blank_mail n k kind.North before now was same none = absurd was
 blank_mail n k kind.South before now was same none = absurd was
 blank_mail n k (kind.Dim d) before now was same none = blank_again n k d now (same ∙ was) none
 
+-- bytes that were all written as 0
+pub all_zero : (count : ℕ) (edge : List ℕ) → edge ≡ replicate count 0 → All (λ four. four ≡ 0) edge
+all_zero count edge is =
+    All-from_get_or (λ (four : ℕ). four ≡ 0) edge 0
+    (λ i l. ap (λ (row : List ℕ). get_or row i 0) is
+    ∙ get_or-replicate count i 0 0 (omega (arith, l, ap length is, length-replicate {A = ℕ} count 0)))
+
 -- nothing leaves a part over its edge
 pub less-edge : (n k cap : ℕ) (one : Kind) (act : Act) (nano : Nano) (edge : List Bool) (s : Part)
     → Edge edge ≡ blank_parcel n k one
@@ -143,6 +145,97 @@ unfolding less
 less-edge n k cap kind.North act nano edge s is one = ap (λ (a : Act). less cap (step_in a kind.North) s) one
 less-edge n k cap kind.South act nano edge s is one = ap (λ (a : Act). less cap (step_in a kind.South) s) one
 less-edge n k cap (kind.Dim d) act nano edge s is one = cc
+
+-- ---- what a block keeps then
+
+-- where messages have left its part
+pub block_left : (k d : ℕ) (act : Act) (one : Kind) (new part : PartView) (old now : BlockView) → one ≡ kind.Dim d
+    → record { k = k; kept = part } ≡ old → now ≡ record { k = k; kept = new }
+    → new ≡ record part { part = less part.room (Cross d) part.part; gathered = new.gathered }
+    → now.kept ≡ record old.kept {
+      part = less old.kept.room (step_in act one) old.kept.part;
+      gathered = now.kept.gathered;
+    }
+block_left k d act one new part old now over view self is =
+    subst (λ (b : BlockView). b.kept ≡ record old.kept {
+      part = less old.kept.room (step_in act one) old.kept.part;
+      gathered = b.kept.gathered;
+    }) (sym self)
+    (subst (λ (b : BlockView). new ≡ record b.kept {
+      part = less b.kept.room (step_in act one) b.kept.part;
+      gathered = new.gathered;
+    }) view
+    (subst (λ (o : Kind). new ≡ record part {
+      part = less part.room (step_in act o) part.part;
+      gathered = new.gathered;
+    }) (sym over) is))
+
+-- where its part has taken in a parcel
+pub block_absorbed : (k : ℕ) (step : Step) (given parcel : Parcel) (new part : PartView) (old now : BlockView)
+    → given ≡ parcel → record { k = k; kept = part } ≡ old → now ≡ record { k = k; kept = new }
+    → new ≡ record part { part = absorbed part.dims part.room step given part.part; gathered = new.gathered }
+    → now.kept ≡ record old.kept {
+      part = absorbed old.kept.dims old.kept.room step parcel old.kept.part;
+      gathered = now.kept.gathered;
+    }
+block_absorbed k step given parcel new part old now same view self is =
+    subst (λ (b : BlockView). b.kept ≡ record old.kept {
+      part = absorbed old.kept.dims old.kept.room step parcel old.kept.part;
+      gathered = b.kept.gathered;
+    }) (sym self)
+    (subst (λ (b : BlockView). new ≡ record b.kept {
+      part = absorbed b.kept.dims b.kept.room step parcel b.kept.part;
+      gathered = new.gathered;
+    }) view
+    (subst (λ (p : Parcel). new ≡ record part {
+      part = absorbed part.dims part.room step p part.part;
+      gathered = new.gathered;
+    }) same is))
+
+-- where an instruction has taken in an edge
+over_news : (act : Act) (nano : Nano) (row : List Bool) (new old : PartView) → act ≡ acts.Nano nano
+    → new ≡ record old { part = part_after old.dims old.room (Instruct nano) (Edge row) old.part }
+    → new ≡ record old {
+      part = absorbed old.dims old.room (step_over_news act) (Edge row) old.part;
+      gathered = new.gathered;
+    }
+unfolding absorbed
+over_news act nano row new old over is =
+    subst (λ (a : Act). new ≡ record old {
+      part = absorbed old.dims old.room (step_over_news a) (Edge row) old.part;
+      gathered = new.gathered;
+    }) (sym over)
+    (is ∙ (λ t. record old {
+      part = part_after old.dims old.room (Instruct nano) (Edge row) old.part;
+      gathered = sym (ap (λ (p : PartView). p.gathered) is) t;
+    }))
+
+-- mail is taken in over a dimension alone
+pub taken_over : (n k : ℕ) (act : Act) (one : Kind) (lane : List (Option Message)) (new old : PartView)
+    → IsOfKind n k one (Mail lane)
+    → ((d : ℕ) → new ≡ record old {
+      part = absorbed old.dims old.room (Cross d) (Mail lane) old.part;
+      gathered = new.gathered;
+    })
+    → new ≡ record old {
+      part = absorbed old.dims old.room (step_in act one) (Mail lane) old.part;
+      gathered = new.gathered;
+    }
+taken_over n k act kind.North lane new old was is = absurd was
+taken_over n k act kind.South lane new old was is = absurd was
+taken_over n k act (kind.Dim d) lane new old was is = is d
+
+-- and an edge by an instruction alone
+pub instructed_over : (n k : ℕ) (act : Act) (one : Kind) (nano : Nano) (row : List Bool) (new old : PartView)
+    → IsOfKind n k one (Edge row) → act ≡ acts.Nano nano
+    → new ≡ record old { part = part_after old.dims old.room (Instruct nano) (Edge row) old.part }
+    → new ≡ record old {
+      part = absorbed old.dims old.room (step_in act one) (Edge row) old.part;
+      gathered = new.gathered;
+    }
+instructed_over n k act kind.North nano row new old was over is = over_news act nano row new old over is
+instructed_over n k act kind.South nano row new old was over is = over_news act nano row new old over is
+instructed_over n k act (kind.Dim d) nano row new old was over is = absurd was
 
 -- ---- results
 

@@ -9,9 +9,7 @@ use cm_bits::{Addr, Dir, Field, FlagNo, Proc};
 use cm_element::Run;
 use cm_message::{Event, Message, Tag};
 use cm_model::Nano;
-use cm_petit::{
-    are_routers, cross, cycle, deliver, has_log_room, has_space, inject, leave, take_in,
-};
+use cm_petit::{are_routers, cycle, deliver, has_log_room, has_space, inject};
 use cm_router::{Routing, Rule};
 use cm_router_engine::{RouterEngine, Shape};
 use std::alloc::Global;
@@ -276,7 +274,7 @@ fn cross_one(
     {
         return false;
     }
-    cross(sizes, span, routing, first, crossing, dim);
+    crossing.cross(sizes, span, routing, first, dim);
     true
 }
 
@@ -291,14 +289,8 @@ fn send(band: &mut Band, dim: u8, leavers: &mut [Option<Message>]) -> bool {
     {
         return false;
     }
-    leave(
-        sizes,
-        &band.routing,
-        band.first,
-        &mut band.crossing,
-        dim,
-        leavers,
-    );
+    band.crossing
+        .leave(sizes, &band.routing, band.first, dim, leavers);
     true
 }
 
@@ -311,7 +303,7 @@ fn receive(band: &mut Band, leavers: &mut [Option<Message>]) -> bool {
     {
         return false;
     }
-    take_in(sizes, &mut band.crossing, leavers);
+    band.crossing.take_in(sizes, leavers);
     leavers.iter().all(|leaver| leaver.is_none())
 }
 

@@ -1,4 +1,4 @@
-use Rattle.std.proofs.Common.{◌≡◌, ◌++◌, OnErr, length, take, subst, List}
+use Rattle.std.proofs.Common.{◌≡◌, OnErr, length, take, subst, List}
 use Rattle.cm_model.specs.declared.message.Event.{Event}
 use Rattle.cm_array.proofs.Lists.{kept_in_front}
 use Rattle.cm_array.proofs.log_view.Log.push_onto.Goals as goal
