@@ -62,8 +62,27 @@ impl SessionRunner for Alone {
         commands: &mut I,
         out: &mut O,
     ) -> Result<(), SessionFault> {
-        on_machine!(machine, machine => session(alloc, machine, program, commands, out, &mut Plain))
+        on_machine!(machine, machine => go_alone(alloc, machine, program, commands, out))
     }
+}
+
+/// The same, on a machine of these sizes.
+fn go_alone<const N: usize, const CAP: usize, I: Source, O: Sink>(
+    alloc: Global,
+    machine: &mut Machine<N, CAP>,
+    program: &Program,
+    commands: &mut I,
+    out: &mut O,
+) -> Result<(), SessionFault>
+    requires reader { I.has_failed commands.old ≡ false }
+    requires writer { O.has_failed out.old ≡ false }
+    ensures goes { Goes (record { n = N; cap = CAP; machine = machine.old.machine })
+        (record { n = N; cap = CAP; machine = machine.new.machine }) program.now.acts
+        (streams (I.left commands.old) (I.left commands.new) (O.contents out.old) (O.contents out.new)
+        (I.has_failed commands.new) (O.has_failed out.new)) result }
+    ensures no_threads { IsErrOf result SessionFault.NoThread → ⊥ }
+{
+    session(alloc, machine, program, commands, out, &mut Plain)
 }
 
 /// Several workers, each in a thread of its own, who go through the passage.

@@ -1,5 +1,7 @@
 //! Growths of memory that are refused in a session.
 
+ghost use Rattle.std.specs.Prelude.{◌≡◌, false};
+
 use cm_array::{Machine, Plain};
 use cm_asm::{Program, assemble};
 use cm_bits::doubles::{Bytes, Room};
@@ -16,12 +18,6 @@ static COMMANDS: &[u8] =
 static ANSWERS: &[u8] =
     b"ok\nend\nfield 3735928559\nflag 0\nflag 1\nflag 1\ndelivered 1 5\nevents 1\nin 1 5 0xdeadbeef 0 0 0\nevents 1\nout 0 5 0xdeadbeef 0 0 0\nbuf 0\n";
 
-/// A machine of which nothing is told from call to call.
-#[derive(Drop)]
-struct Trial {
-    machine: Machine<1, 1>,
-}
-
 /// How a session ends: with all answers, for want of memory behind a front of them, or in another way.
 #[derive(Clone, Copy)]
 enum Ending {
@@ -30,27 +26,33 @@ enum Ending {
     Other,
 }
 
-fn ends_on(alloc: Global, trial: &mut Trial, program: &Program) -> Option<Ending> {
+/// With what fault a session ends, if with one. No contract tells more.
+fn fault_of(
+    alloc: Global,
+    machine: &mut Machine<1, 1>,
+    program: &Program,
+    sink: &mut Room,
+) -> Option<SessionFault>
+    requires writer { sink.old.failed ≡ false }
+{
+    let mut commands = Bytes::new(COMMANDS, 16);
+    session(alloc, machine, program, &mut commands, sink, &mut Plain).err()
+}
+
+fn ends_on(alloc: Global, machine: &mut Machine<1, 1>, program: &Program) -> Option<Ending> {
     let mut sink = Room::new(alloc, 4096, 4096).ok()?;
-    let ended = session(
-        alloc,
-        &mut trial.machine,
-        program,
-        &mut Bytes::new(COMMANDS, 16),
-        &mut sink,
-        &mut Plain,
-    );
-    Some(match ended {
-        Ok(()) if sink.taken() == ANSWERS => Ending::All,
-        Err(SessionFault::Memory) if ANSWERS.starts_with(sink.taken()) => Ending::Front,
+    let fault = fault_of(alloc, machine, program, &mut sink);
+    Some(match fault {
+        None if sink.taken() == ANSWERS => Ending::All,
+        Some(SessionFault::Memory) if ANSWERS.starts_with(sink.taken()) => Ending::Front,
         _ => Ending::Other,
     })
 }
 
 /// The same on a blank machine. None where memory is wanting beside the session.
 fn ends(alloc: Global, program: &Program) -> Option<Ending> {
-    let machine = Machine::<1, 1>::blank(alloc).ok()?;
-    ends_on(alloc, &mut Trial { machine }, program)
+    let mut machine = Machine::<1, 1>::blank(alloc).ok()?;
+    ends_on(alloc, &mut machine, program)
 }
 
 fn is_answered_by(alloc: Global, program: &Program) -> Option<bool> {

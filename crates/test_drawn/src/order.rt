@@ -124,6 +124,20 @@ static CAUTIOUS: [(&[Part], usize); 1] = [(
     2,
 )];
 
+/// Whether a session ends well. No contract tells more.
+fn ends_well<R: Runner<0, 7>>(
+    alloc: Global,
+    machine: &mut Machine<0, 7>,
+    program: &Program,
+    commands: &mut Asking<'_>,
+    answers: &mut Counting<'_>,
+    runner: &mut R,
+) -> bool
+    requires runner { R.ready }
+{
+    session(alloc, machine, program, commands, answers, runner).is_ok()
+}
+
 /// Whether what these parts are answered comes in time, with this program on this machine.
 fn comes_in_time<R: Runner<0, 7>>(
     alloc: Global,
@@ -142,8 +156,9 @@ fn comes_in_time<R: Runner<0, 7>>(
         written,
     };
     let mut answers = Counting { written };
-    let end = session(alloc, machine, program, &mut commands, &mut answers, runner);
-    end == Ok(()) && commands.in_time && commands.next == parts.len()
+    ends_well(alloc, machine, program, &mut commands, &mut answers, runner)
+        && commands.in_time
+        && commands.next == parts.len()
 }
 
 /// And in so many calls.

@@ -1,6 +1,6 @@
 //! Drawn sessions: what is answered and left, as by the plain debugger.
 
-ghost use Rattle.std.specs.Prelude.{◌≡◌, ◌<◌, ◌≤◌, ◌^◌};
+ghost use Rattle.std.specs.Prelude.{◌≡◌, ◌<◌, ◌≤◌, ◌^◌, false};
 
 use crate::asked::{Asked, Kind};
 use crate::draws::Draws;
@@ -111,6 +111,21 @@ fn drawn_program(alloc: Global, draws: &mut Draws) -> Option<Program> {
     assemble(alloc, text.as_bytes()).ok()
 }
 
+/// Whether a session of these commands, read by so many bytes, ends well. No contract tells more.
+fn ends_well<const N: usize, const CAP: usize>(
+    alloc: Global,
+    machine: &mut Machine<N, CAP>,
+    program: &Program,
+    commands: &[u8],
+    step: usize,
+    answers: &mut Room,
+) -> bool
+    requires writer { answers.old.failed ≡ false }
+{
+    let mut commands = Bytes::new(commands, step);
+    session(alloc, machine, program, &mut commands, answers, &mut Plain).is_ok()
+}
+
 /// Whether cm_debug answers these commands so, read and written by so many bytes.
 fn answers<const N: usize, const CAP: usize>(
     alloc: Global,
@@ -122,16 +137,7 @@ fn answers<const N: usize, const CAP: usize>(
     let Ok(mut answers) = Room::new(alloc, ROOM, step) else {
         return false;
     };
-    let mut commands = Bytes::new(commands, step);
-    let end = session(
-        alloc,
-        machine,
-        program,
-        &mut commands,
-        &mut answers,
-        &mut Plain,
-    );
-    end.is_ok() && answers.taken() == told
+    ends_well(alloc, machine, program, commands, step, &mut answers) && answers.taken() == told
 }
 
 /// Whether two machines have one image.

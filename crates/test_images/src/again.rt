@@ -9,7 +9,7 @@ use cm_bits::{Addr, Dir, FlagNo};
 use cm_image::{ImageFault, dump, load};
 use cm_model::{Act, Nano};
 use std::alloc::Global;
-use test_generators::{Draws, have_same_bits, have_same_messages};
+use test_generators::{Draws, have_same_bits, have_same_messages, have_same_routing};
 
 /// The machine that is read from a machine's image: the same, but without its events.
 fn read_back<const N: usize, const CAP: usize>(
@@ -67,89 +67,99 @@ fn messages_and_events<const N: usize, const CAP: usize>(
     found
 }
 
-/// A machine of so many chips after these acts.
-fn gone<const N: usize, const CAP: usize>(
+/// Whether a machine that ran and the one that was read from its image both have messages, and the first alone events.
+fn have_messages<const N: usize, const CAP: usize>(
+    machine: &Machine<N, CAP>,
+    again: &Machine<N, CAP>,
+    chips: u16,
+) -> bool
+    requires cube { chips ≡ 2 ^ N }
+{
+    messages_and_events(machine, chips) == (true, true)
+        && messages_and_events(again, chips) == (true, false)
+}
+
+/// Whether they are the same, but for their events.
+fn are_alike<const N: usize, const CAP: usize>(
+    machine: &Machine<N, CAP>,
+    again: &Machine<N, CAP>,
+    chips: u16,
+) -> bool
+    requires cube { chips ≡ 2 ^ N }
+{
+    have_same_bits(machine, again, chips)
+        && have_same_messages(machine, again, chips)
+        && have_same_routing(machine, again)
+}
+
+fn have_same_bytes<const N: usize, const CAP: usize>(
+    alloc: Global,
+    machine: &Machine<N, CAP>,
+    again: &Machine<N, CAP>,
+) -> bool {
+    match (dump(alloc, machine), dump(alloc, again)) {
+        (Ok(one), Ok(other)) => one == other,
+        _ => false,
+    }
+}
+
+/// Whether a machine goes through the acts. No contract tells more.
+fn goes<const N: usize, const CAP: usize>(machine: &mut Machine<N, CAP>, acts: &[Act]) -> bool {
+    Plain.go(machine, acts).is_ok()
+}
+
+/// Whether the machine that ran has messages and events, comes back without the events, has its bytes again, and
+/// whether both go on in the same way.
+fn are_as_they_have_to_be<const N: usize, const CAP: usize>(
+    alloc: Global,
+    machine: &mut Machine<N, CAP>,
+    again: &mut Machine<N, CAP>,
+    chips: u16,
+    acts: &[Act],
+) -> [bool; 4]
+    requires cube { chips ≡ 2 ^ N }
+{
+    [
+        have_messages(machine, again, chips),
+        are_alike(machine, again, chips),
+        have_same_bytes(alloc, machine, again),
+        goes(machine, acts) && goes(again, acts) && are_alike(machine, again, chips),
+    ]
+}
+
+/// The same of a machine, and of the one that is read from its image.
+fn comes_back<const N: usize, const CAP: usize>(
+    alloc: Global,
+    machine: &mut Machine<N, CAP>,
+    chips: u16,
+    acts: &[Act],
+) -> Option<[bool; 4]>
+    requires cube { chips ≡ 2 ^ N }
+{
+    let mut again = read_back(alloc, machine).ok()?;
+    Some(are_as_they_have_to_be(alloc, machine, &mut again, chips, acts))
+}
+
+/// The same of a machine of so many chips that goes through these acts.
+fn comes_back_after<const N: usize, const CAP: usize>(
     alloc: Global,
     chips: u16,
     acts: &[Act],
-) -> Option<Machine<N, CAP>>
+) -> Option<[bool; 4]>
     requires cube { chips ≡ 2 ^ N }
 {
     let mut machine = asking::<N, CAP>(alloc, &mut Draws::new(u32::from(chips)), chips)?;
-    Plain.go(&mut machine, acts).ok()?;
-    Some(machine)
+    if !goes(&mut machine, acts) {
+        return None;
+    }
+    comes_back(alloc, &mut machine, chips, acts)
 }
 
-/// A machine that ran, and the one that was read from its image, of which no contract tells anything.
-#[derive(Drop)]
-struct Both<const N: usize, const CAP: usize> {
-    machine: Machine<N, CAP>,
-    again: Machine<N, CAP>,
-}
-
-impl<const N: usize, const CAP: usize> Both<N, CAP> {
-    fn new(alloc: Global, chips: u16, acts: &[Act]) -> Option<Self>
-        requires cube { chips ≡ 2 ^ N }
-    {
-        let machine = gone::<N, CAP>(alloc, chips, acts)?;
-        let again = read_back(alloc, &machine).ok()?;
-        Some(Both { machine, again })
-    }
-
-    /// Whether the machine that ran has messages and events, comes back without the events, has its bytes again, and
-    /// whether both go on in the same way.
-    fn come_back(&mut self, alloc: Global, chips: u16, acts: &[Act]) -> [bool; 4]
-        requires cube { chips ≡ 2 ^ N }
-    {
-        [
-            self.have_messages(chips),
-            self.are_same(chips),
-            self.have_same_bytes(alloc),
-            self.go(acts) && self.are_same(chips),
-        ]
-    }
-
-    /// Whether both have messages, and the first alone events.
-    fn have_messages(&self, chips: u16) -> bool
-        requires cube { chips ≡ 2 ^ N }
-    {
-        messages_and_events(&self.machine, chips) == (true, true)
-            && messages_and_events(&self.again, chips) == (true, false)
-    }
-
-    /// But for their events.
-    fn are_same(&self, chips: u16) -> bool
-        requires cube { chips ≡ 2 ^ N }
-    {
-        have_same_bits(&self.machine, &self.again, chips)
-            && have_same_messages(&self.machine, &self.again, chips)
-            && self.route_alike()
-    }
-
-    fn route_alike(&self) -> bool {
-        let (one, other) = (self.machine.routing(), self.again.routing());
-        one.rule == other.rule && one.cuts.edges() == other.cuts.edges()
-    }
-
-    fn have_same_bytes(&self, alloc: Global) -> bool {
-        match (dump(alloc, &self.machine), dump(alloc, &self.again)) {
-            (Ok(one), Ok(other)) => one == other,
-            _ => false,
-        }
-    }
-
-    fn go(&mut self, acts: &[Act]) -> bool {
-        Plain.go(&mut self.machine, acts).is_ok() && Plain.go(&mut self.again, acts).is_ok()
-    }
-}
-
-/// The same of a machine of so many chips.
 fn come_back<const N: usize, const CAP: usize>(alloc: Global, chips: u16) -> Option<[bool; 4]>
     requires cube { chips ≡ 2 ^ N }
 {
     let acts = acts(alloc)?;
-    let mut both = Both::<N, CAP>::new(alloc, chips, &acts)?;
-    Some(both.come_back(alloc, chips, &acts))
+    comes_back_after::<N, CAP>(alloc, chips, &acts)
 }
 
 #[test]

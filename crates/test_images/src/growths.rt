@@ -47,10 +47,15 @@ pub static TWO_CHIPS: [u8; 108] = [
     0, 0, 0, 0, 0, 0, 0, 0, 0, 0, 0, 0, 0, 0, 0, 0, 0,
 ];
 
+/// Why bytes are refused, if they are.
+fn refusal<const N: usize, const CAP: usize>(alloc: Global, bytes: &[u8]) -> Option<ImageFault> {
+    load::<N, CAP>(alloc, bytes).err()
+}
+
 fn is_loaded<const N: usize, const CAP: usize>(alloc: Global, bytes: &[u8]) -> bool {
-    match load::<N, CAP>(alloc, bytes) {
-        Ok(_) => true,
-        Err(fault) => fault == ImageFault::Memory && load::<N, CAP>(alloc, bytes).is_ok(),
+    match refusal::<N, CAP>(alloc, bytes) {
+        None => true,
+        Some(fault) => fault == ImageFault::Memory && refusal::<N, CAP>(alloc, bytes).is_none(),
     }
 }
 

@@ -32,6 +32,15 @@ pub(crate) static FOUR_CHIPS: [u8; 185] = [
 /// One message, of bytes that are all 0.
 static ONE_MESSAGE: [u8; 19] = [1, 0, 0, 0, 0, 0, 0, 0, 0, 0, 0, 0, 0, 0, 0, 0, 0, 0, 0];
 
+/// Whether a machine has these bytes.
+fn is_written<const N: usize, const CAP: usize>(
+    alloc: Global,
+    machine: &Machine<N, CAP>,
+    bytes: &[u8],
+) -> Result<bool, Fail> {
+    Ok(dump(alloc, machine)?.as_slice() == bytes)
+}
+
 /// Whether bytes are refused with this fault, or, where it is none, are read and written back.
 fn goes_so<const N: usize, const CAP: usize>(
     alloc: Global,
@@ -39,7 +48,7 @@ fn goes_so<const N: usize, const CAP: usize>(
     fault: Option<ImageFault>,
 ) -> Result<bool, Fail> {
     match load::<N, CAP>(alloc, bytes) {
-        Ok(machine) => Ok(fault.is_none() && dump(alloc, &machine)?.as_slice() == bytes),
+        Ok(machine) => Ok(fault.is_none() && is_written(alloc, &machine, bytes)?),
         Err(found) => Ok(fault == Some(found)),
     }
 }

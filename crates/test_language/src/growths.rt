@@ -1,17 +1,17 @@
 //! Growths of memory that are refused: while a macro is expanded, while a program text is read or listed, and while its
 //! acts run.
 
-use cm_array::{Machine, Plain, RunFault, Runner};
+use cm_array::{Machine, Plain, RunFault};
 use cm_asm::{AsmFault, AsmKind, Program, assemble};
+use cm_bits::Field;
 use cm_bits::doubles::{Bytes, Room};
-use cm_bits::{Field, NoMemory};
 use cm_language::{Context, Macro, MacroFault};
 use cm_macros::expand;
 use cm_model::Act;
 use cm_system::ProgramFault;
 use cm_tools::list;
 use std::alloc::{AllocError, Global};
-use test_generators::{Call, are_same, first_not_so, flag, processor};
+use test_generators::{Call, first_not_so, flag, processor, run_beside_plain};
 
 /// What takes memory.
 #[derive(Clone, Copy, Debug, PartialEq, Eq)]
@@ -69,10 +69,18 @@ static SUM: &[u8] =
 static SUM_LISTED: &[u8] =
     b"field x 0 2\nfield y 2 2\nnano 0 0 8 7 3 1 0xf0 0x00 n ; 0\nnano 0 2 7 7 3 1 0x96 0xe8 n ; 1\nnano 1 3 7 7 3 1 0x96 0xe8 n ; 2\ncycle ; 3\nsense ; 4\nnano 4095 1 2 3 4 1 0xff 0x10 w ; 5\n";
 
+/// How many acts a text has, or why it is refused.
+fn assembled(alloc: Global, text: &[u8]) -> Result<usize, AsmFault> {
+    match assemble(alloc, text) {
+        Ok(program) => Ok(program.acts().len()),
+        Err(fault) => Err(fault),
+    }
+}
+
 fn is_assembled(alloc: Global) -> bool {
-    match assemble(alloc, SUM) {
-        Ok(program) => program.acts().len() == 6,
-        Err(fault) => fault.kind == AsmKind::Memory && assemble(alloc, SUM).is_ok(),
+    match assembled(alloc, SUM) {
+        Ok(count) => count == 6,
+        Err(fault) => fault.kind == AsmKind::Memory && assembled(alloc, SUM) == Ok(6),
     }
 }
 
@@ -85,93 +93,120 @@ fn products(alloc: Global) -> Result<Vec<u8>, AllocError> {
     Ok(text)
 }
 
-/// Whether a text whose last macro is too much is told so, or want of memory at an earlier line.
+/// A text whose last macro is too much.
+const TOO_LONG: AsmFault = AsmFault {
+    line: 32,
+    kind: AsmKind::TooLong,
+};
+
+/// Whether it is told so, or else want of memory at an earlier line.
 fn tells_too_many_acts(alloc: Global) -> Option<bool> {
     let text = products(alloc).ok()?;
-    let too_long = AsmFault {
-        line: 32,
-        kind: AsmKind::TooLong,
-    };
-    match assemble(alloc, text.as_slice()) {
-        Ok(_) => Some(false),
-        Err(fault) => {
-            let is_earlier = fault.kind == AsmKind::Memory && fault.line < 32;
-            Some(fault == too_long || is_earlier && assemble(alloc, &text).err() == Some(too_long))
+    Some(is_told_as_too_long(alloc, &text))
+}
+
+fn is_told_as_too_long(alloc: Global, text: &[u8]) -> bool {
+    match assembled(alloc, text) {
+        Ok(_) => false,
+        Err(fault) if fault.kind == AsmKind::Memory && fault.line < TOO_LONG.line => {
+            assembled(alloc, text) == Err(TOO_LONG)
         }
+        Err(fault) => fault == TOO_LONG,
     }
 }
 
 fn is_listed(alloc: Global) -> Option<bool> {
     let program = assemble(alloc, SUM).ok()?;
-    let made = match program.listing(alloc) {
-        Err(NoMemory) => program.listing(alloc),
-        made => made,
-    };
-    match made {
-        Ok(listing) => Some(listing.as_slice() == SUM_LISTED),
-        Err(_) => Some(false),
+    match has_listing(alloc, &program) {
+        None => Some(has_listing(alloc, &program) == Some(true)),
+        told => told,
     }
 }
 
-/// How the listing of the sum ends, and what is written.
-fn listed(alloc: Global) -> Result<(Result<(), ProgramFault>, Room), AllocError> {
-    let mut sink = Room::new(alloc, 4096, 4096)?;
-    let ended = list(alloc, &mut Bytes::new(SUM, 16), &mut sink);
-    Ok((ended, sink))
+/// Whether its listing is as it should be. None where memory is wanting.
+fn has_listing(alloc: Global, program: &Program) -> Option<bool> {
+    let listing = program.listing(alloc).ok()?;
+    Some(listing.as_slice() == SUM_LISTED)
 }
 
-/// Whether the sum is listed from bytes to bytes, or else nothing is written.
+/// How the listing of the sum ends from bytes to bytes: all of it is written, or nothing for want of memory, or else.
+#[derive(Clone, Copy, PartialEq, Eq)]
+enum Ending {
+    All,
+    Nothing,
+    Other,
+}
+
+fn ending_of(ended: Result<(), ProgramFault>, taken: &[u8]) -> Ending {
+    match ended {
+        Ok(()) if taken == SUM_LISTED => Ending::All,
+        Err(fault) if wants_memory(fault) && taken.is_empty() => Ending::Nothing,
+        _ => Ending::Other,
+    }
+}
+
+fn wants_memory(fault: ProgramFault) -> bool {
+    match fault {
+        ProgramFault::Memory => true,
+        ProgramFault::Text(fault) => fault.kind == AsmKind::Memory,
+        _ => false,
+    }
+}
+
+fn listed(alloc: Global) -> Option<Ending> {
+    let mut sink = Room::new(alloc, 4096, 4096).ok()?;
+    let ended = list(alloc, &mut Bytes::new(SUM, 16), &mut sink);
+    Some(ending_of(ended, sink.taken()))
+}
+
+/// Whether the sum is listed, or else nothing is written and it is listed when it is asked for once more.
 fn lists_all(alloc: Global) -> Option<bool> {
-    let (ended, sink) = listed(alloc).ok()?;
-    let wants_memory = match ended {
-        Ok(()) => return Some(sink.taken() == SUM_LISTED),
-        Err(ProgramFault::Memory) => true,
-        Err(ProgramFault::Text(fault)) => fault.kind == AsmKind::Memory,
-        Err(_) => false,
-    };
-    let (again, whole) = listed(alloc).ok()?;
-    let is_told = wants_memory && sink.taken().is_empty();
-    Some(is_told && again.is_ok() && whole.taken() == SUM_LISTED)
+    match listed(alloc)? {
+        Ending::Nothing => Some(listed(alloc)? == Ending::All),
+        ending => Some(ending == Ending::All),
+    }
 }
 
 // ---- acts
 
 static TWO_NUMBERS: &[u8] = b"field x 0 8\nfield y 8 8\nconst x 200\nconst y 100\nadd x y\n";
 
-/// A chip of which nothing is told from call to call.
-#[derive(Drop)]
-struct Trial {
-    machine: Machine<0, 7>,
+/// Whether the first eight bits of a processor are 200 + 100 - 256, with a carry.
+fn has_sum(machine: &Machine<0, 7>) -> bool {
+    let chip = machine.chip(0);
+    match Field::new(0, 8) {
+        Ok(field) => chip.field(processor(0), field) == 44 && chip.flag(processor(0), flag(7)),
+        Err(_) => false,
+    }
 }
 
-impl Trial {
-    fn go(&mut self, program: &Program) -> Result<(), RunFault> {
-        Plain.go(&mut self.machine, program.acts())
-    }
+/// Why a chip does not go through the acts, and whether it stays as it is then. None where memory is wanting beside it.
+fn refusal(
+    alloc: Global,
+    machine: &mut Machine<0, 7>,
+    acts: &[Act],
+) -> Option<(Option<RunFault>, bool)> {
+    run_beside_plain(&mut Plain, alloc, machine, acts, 1)
+}
 
-    /// Whether the first eight bits of a processor are 200 + 100 - 256, with a carry.
-    fn has_sum(&self) -> bool {
-        let chip = self.machine.chip(0);
-        match Field::new(0, 8) {
-            Ok(field) => chip.field(processor(0), field) == 44 && chip.flag(processor(0), flag(7)),
-            Err(_) => false,
-        }
-    }
+/// Whether a chip has the sum after the acts, or else stays as it is and has it when they are tried once more.
+fn adds_up_on(alloc: Global, machine: &mut Machine<0, 7>, acts: &[Act]) -> Option<bool> {
+    let went = match refusal(alloc, machine, acts)? {
+        (Some(RunFault::Memory), true) => refusal(alloc, machine, acts)?,
+        first => first,
+    };
+    Some(went == (None, true) && has_sum(machine))
+}
+
+fn adds_up_by(alloc: Global, program: &Program) -> Option<bool> {
+    let mut machine = Machine::<0, 7>::blank(alloc).ok()?;
+    adds_up_on(alloc, &mut machine, program.acts())
 }
 
 /// Whether a chip adds up two numbers, or else stays as it is.
 fn adds_up(alloc: Global) -> Option<bool> {
     let program = assemble(alloc, TWO_NUMBERS).ok()?;
-    let machine = Machine::<0, 7>::blank(alloc).ok()?;
-    let before = machine.copy(alloc).ok()?;
-    let mut trial = Trial { machine };
-    match trial.go(&program) {
-        Ok(()) => Some(trial.has_sum()),
-        Err(fault) => {
-            let is_kept = fault == RunFault::Memory && are_same(alloc, &trial.machine, &before, 1);
-            Some(is_kept && trial.go(&program).is_ok() && trial.has_sum())
-        }
-    }
+    adds_up_by(alloc, &program)
 }
 
 // `.ci/refusals` refuses each growth in turn.
