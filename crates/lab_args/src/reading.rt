@@ -46,7 +46,7 @@ pub enum Command<'a> {
     /// A blank machine.
     Fresh(Blank<'a>),
     /// Loads of the router.
-    Load(Loads),
+    Load(Loads<'a>),
     /// The picture of a table, which is in this file or on standard input.
     Plot {
         file: Option<&'a str>,
@@ -124,7 +124,8 @@ fn given_twice<'a>(words: &[&'a str]) -> Option<&'a str>
     None
 }
 
-fn stands_in(word: &str, words: &[&str]) -> bool
+/// Whether a word is one of these.
+pub(crate) fn stands_in(word: &str, words: &[&str]) -> bool
     ensures { result ≡ list_any (λ other. bytes_eq other word.now) (texts words.now) }
 {
     words.contains(&word)

@@ -5,4 +5,5 @@ pub mod Emptying
 pub mod Cycling
 pub mod CrossingLemmas
 pub mod Counting
+pub mod Histograms
 pub mod Beginning

@@ -7,5 +7,6 @@ pub mod Counts
 pub mod Kept
 pub mod Figures
 pub mod Tables
+pub mod Latencies
 pub mod Trials
 pub mod Spreads

@@ -265,7 +265,7 @@ fn push_thousandths(text: &mut Vec<u8>, number: u128) -> Result<(), NoMemory>
 }
 
 /// The last two digits of a number.
-fn push_last_two(text: &mut Vec<u8>, number: u128) -> Result<(), NoMemory>
+pub(crate) fn push_last_two(text: &mut Vec<u8>, number: u128) -> Result<(), NoMemory>
     ensures ok { OnOk result (text.new.items ≡ text.old.items ++ last_two number) }
 {
     push_last_digit(text, number / 10)?;
