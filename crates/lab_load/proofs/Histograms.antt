@@ -7,7 +7,7 @@ use Rattle.std.proofs.lemmas.List.{length-take-le}
 use Rattle.std.proofs.lemmas.List.Sums.{count_by-le-length, count_by_more_no, count_by_more_yes}
 use Rattle.cm_model.specs.Each.{tabulate}
 use Rattle.cm_model.proofs.Each.{get_or-each_below, is_each, length-tabulate}
-use Rattle.lab_load.specs.Crossings.{capped_sum}
+use Rattle.lab_counts.specs.Crossings.{capped_sum}
 use Rattle.lab_load.specs.Latencies.{took}
 
 -- where there is no message, none took so long

@@ -10,7 +10,7 @@ use Rattle.lab_load.specs.declared.spreads.Spread.{Spread}
 use Rattle.lab_load.specs.declared.spreads.Spreads.{Spreads}
 use Rattle.lab_load.specs.declared.spreads.TheConstants.{QUANTILES}
 use Rattle.lab_load.specs.declared.trials.Trial.{Trial}
-use Rattle.lab_load.specs.Counts.{nothing_counted}
+use Rattle.lab_counts.specs.Counts.{nothing_counted}
 use Rattle.lab_load.specs.Trials.{AreFiguresOf}
 
 -- the load of the seed that comes so many behind this one

@@ -14,7 +14,7 @@ use Rattle.lab_load.specs.declared.trials.LoadFault.{LoadFault}
 use Rattle.lab_load.specs.declared.trials.LoadTable.{LoadTable}
 use Rattle.lab_load.specs.declared.trials.LoadTable.TheVariants.{Plain, Crossings, Dimensions, Latencies}
 use Rattle.lab_load.specs.declared.trials.LoadFault.TheVariants.{Dimension, Room, Wire, Rate, Cycles, Skip, Seeds, Rule, Background, Table}
-use Rattle.lab_load.specs.Counts.{counts_for}
+use Rattle.lab_load.specs.Counted.{counts_for}
 use Rattle.lab_load.specs.Loaded.{loaded_for}
 use Rattle.lab_load.specs.Figures.{AreFigures}
 use Rattle.lab_load.specs.Latencies.{histogram}

@@ -10,12 +10,11 @@ ghost use Rattle.lab_load.specs.Offers.{places};
 ghost use Rattle.lab_load.specs.Asking.{no_source};
 ghost use Rattle.lab_load.specs.Loaded.{Loaded, offered_by, offered_in, loaded_for};
 ghost use Rattle.lab_load.specs.Kept.{IsToldOf};
-ghost use Rattle.lab_load.specs.declared.counts.Counts.{Counts as Counted};
-ghost use Rattle.lab_load.specs.Counts.{counts_for};
+ghost use Rattle.lab_counts.specs.declared.counts.Counts.{Counts as Counted};
+ghost use Rattle.lab_load.specs.Counted.{counts_for};
 ghost use Rattle.lab_load.specs.Latencies.{histogram};
 ghost use Rattle.lab_load.specs.Figures.{throughput_of, mean_of, is_reached, most_of, greatest_latency, AreFigures};
 
-use crate::counts::Counts;
 use crate::cycles::{Told, go_through};
 use crate::latencies::histogram;
 use crate::offers::Load;
@@ -25,6 +24,7 @@ use cm_element::Run;
 use cm_message::Event;
 use cm_router::Routing;
 use cm_router_engine::{RouterEngine, Shape};
+use lab_counts::Counts;
 use std::alloc::Global;
 
 /// What was offered to a machine, and what became of it.

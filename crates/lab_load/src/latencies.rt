@@ -3,7 +3,7 @@
 ghost use Rattle.std.specs.Prelude.{◌≡◌, ◌++◌, IfOk, OnOk, length, replicate, slice_index, slice_set};
 ghost use Rattle.std.specs.List.{flat_map};
 ghost use Rattle.cm_model.specs.Each.{tabulate};
-ghost use Rattle.lab_load.specs.Crossings.{capped_sum};
+ghost use Rattle.lab_counts.specs.Crossings.{capped_sum};
 ghost use Rattle.lab_load.specs.Latencies.{took, histogram, rate_name, latency_header, took_cell, latency_line};
 ghost use Rattle.lab_load.specs.Latencies.{table_end, latency_table_of};
 

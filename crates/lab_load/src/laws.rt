@@ -3,7 +3,7 @@
 ghost use Rattle.std.specs.Prelude.{◌≡◌, ◌%◌, [], ◌∷◌, codes, false, None, Some};
 ghost use Rattle.lab_load.specs.declared.offers.Pattern.TheVariants as pattern;
 ghost use Rattle.lab_load.specs.Offers.{aimed};
-ghost use Rattle.lab_load.specs.Counts.{nothing_counted};
+ghost use Rattle.lab_counts.specs.Counts.{nothing_counted};
 ghost use Rattle.lab_load.specs.Figures.{greatest_latency, mean_of, most_of, throughput_of};
 ghost use Rattle.lab_load.specs.declared.latencies.Latencies.{Latencies};
 ghost use Rattle.lab_load.specs.Latencies.{histogram, rate_name, took_cell, latency_table_of};

@@ -8,7 +8,7 @@ use Rattle.lab_load.specs.declared.offers.Load.{Load}
 use Rattle.lab_load.specs.declared.trials.Trial.{Trial}
 use Rattle.lab_load.specs.Loaded.{loaded_for}
 use Rattle.lab_load.specs.Figures.{AreFigures}
-use Rattle.lab_load.specs.Counts.{counts_for}
+use Rattle.lab_load.specs.Counted.{counts_for}
 use Rattle.lab_load.specs.Trials.{trial_routing, AreFiguresOf}
 use Rattle.lab_load.proofs.trials.Trial.measured.Goals as goal
 

@@ -6,8 +6,8 @@ use Rattle.cm_model.specs.Machine.{Machine}
 use Rattle.cm_model.specs.Buffers.{buffers_after_dimension, machine_after_injection, machine_after_dimension}
 use Rattle.cm_model.proofs.Cycles.{after_crossings-more}
 use Rattle.cm_petit.proofs.Cycling.{under_way, crossed_more}
-use Rattle.lab_load.specs.declared.crossings.Crossings.{Crossings}
-use Rattle.lab_load.specs.Crossings.{crossings_added, no_crossings, crossings_to, machine_before, crossings_through}
+use Rattle.lab_counts.specs.declared.crossings.Crossings.{Crossings}
+use Rattle.lab_counts.specs.Crossings.{crossings_added, no_crossings, crossings_to, machine_before, crossings_through}
 
 pub machine_before-is : (n cap : ℕ) (m : Machine) (d : ℕ) → machine_before n cap m d ≡ under_way n cap m d
 unfolding machine_before

@@ -1,20 +1,18 @@
-//! What is counted of a load, if it is asked for: crossings by dimension, and petit cycles that leave nothing.
+//! What is counted of petit cycles, if it is asked for.
 
-ghost use Rattle.std.specs.Prelude.{◌≡◌, ◌+◌, ◌==◌, ◌^◌, ◌<◌, length};
-ghost use Rattle.std.specs.List.{list_all};
+ghost use Rattle.std.specs.Prelude.{◌≡◌, ◌+◌, ◌^◌, ◌<◌};
 ghost use Rattle.cm_model.specs.declared.act.Act.TheVariants as act;
 ghost use Rattle.cm_model.specs.Buffers.{after_act};
 ghost use Rattle.cm_router.specs.Routes.{routing_of};
 ghost use Rattle.cm_router.specs.Logs.{log_rooms_of, HaveLogRoom};
 ghost use Rattle.cm_petit.specs.Routers.{machine_from_logs, AreRouters};
-ghost use Rattle.lab_load.specs.Counts.{nothing_counted, with_crossed, is_quiet, with_quiet};
+ghost use Rattle.lab_counts.specs.Counts.{nothing_counted, with_crossed};
 
 use crate::crossings::{Crossings, counted_cycle};
-use crate::sources::Source;
 use cm_element::Run;
 use cm_message::Event;
 use cm_petit::cycle;
-use cm_router::{Routing, may_ask};
+use cm_router::Routing;
 use cm_router_engine::{RouterEngine, Shape};
 
 /// What is counted.
@@ -24,13 +22,13 @@ pub struct Counts {
     pub is_on: bool,
     /// By dimension.
     pub dims: [Crossings; 12],
-    /// Petit cycles behind which no message stood in a router, nobody asked to send, and no offer waited.
+    /// Petit cycles behind which nothing was left: who runs them tells of which that is so.
     pub quiet: u32,
 }
 
 impl Counts {
     /// Nothing was counted so far.
-    pub(crate) fn none(is_on: bool) -> Counts
+    pub fn none(is_on: bool) -> Counts
         ensures value { result ≡ nothing_counted is_on }
     {
         Counts {
@@ -42,7 +40,7 @@ impl Counts {
 }
 
 /// One petit cycle, of which the crossings are counted if they are asked for.
-pub(crate) fn watched_cycle(
+pub fn watched_cycle(
     sizes: Shape,
     routing: &Routing,
     run: &mut Run,
@@ -68,37 +66,4 @@ pub(crate) fn watched_cycle(
         return;
     }
     counted_cycle(sizes, routing, run, crossing, logs, clock, &mut counts.dims);
-}
-
-/// Counts a petit cycle behind which this is left, if it is nothing.
-pub(crate) fn count_quiet(
-    run: &Run,
-    crossing: &RouterEngine,
-    sources: &[Source],
-    counts: &mut Counts,
-)
-    ensures value { counts.new ≡ with_quiet (is_quiet run.now crossing.now.buffers sources.now) counts.old }
-{
-    if counts.is_on && is_quiet(run, crossing, sources) {
-        counts.quiet = counts.quiet.saturating_add(1);
-    }
-}
-
-/// Whether nothing is left.
-fn is_quiet(run: &Run, crossing: &RouterEngine, sources: &[Source]) -> bool
-    ensures value { result ≡ is_quiet run.now crossing.now.buffers sources.now }
-{
-    none_stands(crossing) && !may_ask(run) && none_waits(sources)
-}
-
-fn none_stands(crossing: &RouterEngine) -> bool
-    ensures value { result ≡ list_all (λ here. length here == 0) crossing.now.buffers }
-{
-    crossing.is_empty()
-}
-
-fn none_waits(sources: &[Source]) -> bool
-    ensures value { result ≡ list_all (λ source. source.waiting == 0) sources.now }
-{
-    sources.iter().all(|source| source.waiting == 0)
 }

@@ -3,7 +3,7 @@ use Rattle.std.proofs.Common.{◌&&◌, ⊎_elim, arith, eqb-true}
 use Rattle.std.specs.List.{list_all}
 use Rattle.std.proofs.lemmas.Bool.{and_parts, cases_Bool}
 use Rattle.cm_model.specs.declared.message.Message.{Message}
-use Rattle.lab_load.proofs.counts.none_stands.Goals as goal
+use Rattle.lab_load.proofs.quiet.none_stands.Goals as goal
 
 abbrev is_empty : List Message → Bool
 is_empty here = eqb (length here) 0

@@ -1,6 +1,6 @@
 -- What is counted of a load, if it is asked for: crossings by dimension, and petit cycles behind which nothing is left.
 -- Ours.
-use Rattle.std.specs.Prelude.{ℕ, suc, zero, ◌+◌, ◌-◌, ◌^◌, ◌==◌, ◌&&◌, not, Bool, List, length, min, replicate, if◌then◌else◌}
+use Rattle.std.specs.Prelude.{ℕ, suc, zero, ◌+◌, ◌-◌, ◌^◌, ◌==◌, ◌&&◌, not, Bool, List, length, min, if◌then◌else◌}
 use Rattle.std.specs.List.{list_all, list_any}
 use Rattle.cm_model.specs.declared.message.Message.{Message}
 use Rattle.cm_model.specs.Processor.{SEND}
@@ -8,26 +8,17 @@ use Rattle.cm_model.specs.Array.{Chips}
 use Rattle.cm_model.specs.Wiring.{Routing}
 use Rattle.cm_model.specs.Machine.{Machine}
 use Rattle.cm_element.specs.Flags.{has_flag}
-use Rattle.lab_load.specs.declared.counts.Counts.{Counts}
+use Rattle.lab_counts.specs.declared.counts.Counts.{Counts}
+use Rattle.lab_counts.specs.Counts.{nothing_counted, with_crossed}
 use Rattle.lab_load.specs.declared.offers.Load.{Load}
 use Rattle.lab_load.specs.declared.sources.Source.{Source}
-use Rattle.lab_load.specs.Crossings.{no_crossings, crossings_through}
 use Rattle.lab_load.specs.Loaded.{Loaded, asking_of, machine_asked, after_one, after_cycles, unloaded, untold}
-
--- nothing was counted so far
-abbrev pub nothing_counted : Bool → Counts
-nothing_counted is_on = record { is_on = is_on; dims = replicate 12 no_crossings; quiet = 0 }
 
 -- ---- one petit cycle
 
 -- the machine that it begins with: its processors have asked
 abbrev pub asked_machine : Load → Loaded → Machine
 asked_machine load loaded = machine_asked load.dims loaded.machine (asking_of load loaded).chips
-
--- with the crossings of one that begins with this machine
-abbrev pub with_crossed : ℕ → ℕ → Machine → Counts → Counts
-with_crossed n cap machine counts =
-    if counts.is_on then record counts { dims = crossings_through n cap machine counts.dims n } else counts
 
 -- nothing is left: no message stands in a router, no processor asks to send, and no offer waits
 abbrev pub is_quiet : Chips → List (List Message) → List Source → Bool

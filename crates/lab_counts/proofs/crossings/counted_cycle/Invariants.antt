@@ -2,8 +2,8 @@ use Rattle.std.proofs.Common.{◌≡◌, ◌≤◌, ◌^◌, length}
 use Rattle.std.specs.List.{All}
 use Rattle.cm_router.specs.Routes.{routing_of}
 use Rattle.cm_petit.specs.Routers.{machine_from_logs}
-use Rattle.lab_load.specs.Crossings.{machine_before, crossings_through}
-use Rattle.lab_load.proofs.crossings.counted_cycle.Given as goal
+use Rattle.lab_counts.specs.Crossings.{machine_before, crossings_through}
+use Rattle.lab_counts.proofs.crossings.counted_cycle.Given as goal
 
 -- so many dimensions
 abbrev pub invariant-loop-dim : goal.invariant-loop-dim

@@ -1,5 +1,5 @@
 use Rattle.std.proofs.Common.{◌≡◌, take}
-use Rattle.lab_load.proofs.crossings.crossings_at.Given as goal
+use Rattle.lab_counts.proofs.crossings.crossings_at.Given as goal
 
 -- so many stand in the node
 abbrev pub invariant-loop-message : goal.invariant-loop-message

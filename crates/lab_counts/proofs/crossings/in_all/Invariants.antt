@@ -1,6 +1,6 @@
 use Rattle.std.proofs.Common.{◌≡◌, fold, take}
-use Rattle.lab_load.specs.Crossings.{crossings_added, no_crossings}
-use Rattle.lab_load.proofs.crossings.in_all.Given as goal
+use Rattle.lab_counts.specs.Crossings.{crossings_added, no_crossings}
+use Rattle.lab_counts.proofs.crossings.in_all.Given as goal
 
 -- those of so many dimensions
 abbrev pub invariant-loop-more : goal.invariant-loop-more

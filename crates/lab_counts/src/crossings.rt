@@ -8,8 +8,8 @@ ghost use Rattle.cm_model.specs.Buffers.{after_act};
 ghost use Rattle.cm_router.specs.Routes.{routing_of};
 ghost use Rattle.cm_router.specs.Logs.{log_rooms_of, HaveLogRoom};
 ghost use Rattle.cm_petit.specs.Routers.{machine_from_logs, AreRouters};
-ghost use Rattle.lab_load.specs.Crossings.{crossings_added, in_all, was_referred, crossings_at, crossings_to};
-ghost use Rattle.lab_load.specs.Crossings.{crossings_through};
+ghost use Rattle.lab_counts.specs.Crossings.{crossings_added, in_all, was_referred, crossings_at, crossings_to};
+ghost use Rattle.lab_counts.specs.Crossings.{crossings_through};
 
 use cm_element::Run;
 use cm_message::{Event, Message, Rule};
@@ -49,7 +49,7 @@ impl Crossings {
 }
 
 /// Those of all dimensions.
-pub(crate) fn in_all(dims: &[Crossings]) -> Crossings
+pub fn in_all(dims: &[Crossings]) -> Crossings
     ensures value { result ≡ in_all dims.now }
 {
     let mut all = Crossings::NONE;

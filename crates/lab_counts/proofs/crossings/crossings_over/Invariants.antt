@@ -1,7 +1,7 @@
 use Rattle.std.proofs.Common.{◌≡◌}
 use Rattle.cm_router.specs.Routes.{routing_of}
-use Rattle.lab_load.specs.Crossings.{crossings_to}
-use Rattle.lab_load.proofs.crossings.crossings_over.Given as goal
+use Rattle.lab_counts.specs.Crossings.{crossings_to}
+use Rattle.lab_counts.proofs.crossings.crossings_over.Given as goal
 
 -- those of so many chips
 abbrev pub invariant-loop-chip : goal.invariant-loop-chip

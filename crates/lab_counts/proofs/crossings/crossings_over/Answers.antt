@@ -3,8 +3,8 @@ use Rattle.cm_model.specs.declared.message.Message.{Message}
 use Rattle.cm_model.specs.Array.{nth_or_nil}
 use Rattle.cm_model.specs.Wiring.{way_of}
 use Rattle.cm_router.specs.Routes.{routing_of}
-use Rattle.lab_load.specs.Crossings.{crossings_added, crossings_at, crossings_to}
-use Rattle.lab_load.proofs.crossings.crossings_over.Goals as goal
+use Rattle.lab_counts.specs.Crossings.{crossings_added, crossings_at, crossings_to}
+use Rattle.lab_counts.proofs.crossings.crossings_over.Goals as goal
 
 pub loop-chip-init : goal.loop-chip-init
 unfolding crossings_to

@@ -10,7 +10,7 @@ use Rattle.cm_model.specs.Router.{has_to_cross}
 use Rattle.cm_model.specs.Wiring.{Routing, Way, way_of}
 use Rattle.cm_model.specs.Machine.{Machine}
 use Rattle.cm_model.specs.Buffers.{leaving_place, outgoing, without, machine_after_injection, machine_after_dimension}
-use Rattle.lab_load.specs.declared.crossings.Crossings.{Crossings}
+use Rattle.lab_counts.specs.declared.crossings.Crossings.{Crossings}
 
 -- none
 abbrev pub no_crossings : Crossings

@@ -3,9 +3,9 @@ use Rattle.cm_model.specs.Machine.{Machine}
 use Rattle.cm_model.specs.Buffers.{buffers_after_dimension}
 use Rattle.cm_router.specs.Routes.{routing_of}
 use Rattle.cm_petit.proofs.Cycling.{injected_whole, delivered_whole, crossed_by_one_way, cycle_is}
-use Rattle.lab_load.specs.Crossings.{no_crossings, machine_before, crossings_through}
-use Rattle.lab_load.proofs.CrossingLemmas.{machine_before-is, before_more, through_more}
-use Rattle.lab_load.proofs.crossings.counted_cycle.Goals as goal
+use Rattle.lab_counts.specs.Crossings.{no_crossings, machine_before, crossings_through}
+use Rattle.lab_counts.proofs.CrossingLemmas.{machine_before-is, before_more, through_more}
+use Rattle.lab_counts.proofs.crossings.counted_cycle.Goals as goal
 
 pub loop-dim-init : goal.loop-dim-init
 unfolding machine_before crossings_through
