@@ -166,28 +166,33 @@ def acts_of(program: str) -> List[str]:
 
 
 def load_curve(dims: int, room: int, rates: Union[float, Iterable[float]], cycles: int, *, rule: int = 0,
-               pattern: str = "uniform", background: int = 0, until: Optional[int] = None, table: Optional[str] = None,
-               seed: int = 1) -> Table:
+               pattern: str = "uniform", places: Optional[Iterable[int]] = None, background: int = 0,
+               until: Optional[int] = None, table: Optional[str] = None, seed: int = 1) -> Table:
     """How the routers of a blank machine bear loads: a record for each rate (`cm1lab load`).
 
     `dims` is 0 to 12; `room`, how many messages a router holds, 1 to 15; `rates`, one or some, the messages that a chip
     offers in a petit cycle, are 0 to 16 with at most two digits behind the point (else ValueError, above 16 `Failed`);
-    `cycles`, how many petit cycles each load has, is 1 to 1,000,000. `pattern` is
-    "uniform", "hotspot", "transpose" or "reversal"; of a hundred messages `background`, 0 to 100, go to any processor,
-    drawn, whatever the pattern; messages are offered in the first `until` petit cycles alone, if
-    that is given. Columns: rate, offered, taken, delivered, throughput, mean, p95, greatest, deepest; where `table` is
-    "crossings", crossed, referred, refused, quiet behind these; where it is "dimensions", rate, dimension, crossed,
-    referred, refused, with a record for each dimension of each rate (docs/LABORATORY.md, "Loads").
+    `cycles`, how many petit cycles each load has, is 1 to 1,000,000. `pattern` is "uniform", "hotspot", "transpose" or
+    "reversal"; in its stead `places` may have the place to which each processor sends, in the order of their places: a
+    place is sixteen times a chip and a number there. Of a hundred messages `background`, 0 to 100, go to any processor,
+    drawn, whatever the pattern; messages are offered in the first `until` petit cycles alone, if that is given. Columns:
+    rate, offered, taken, delivered, throughput, mean, p95, greatest, deepest; where `table` is "crossings", crossed,
+    referred, refused, quiet behind these; where it is "dimensions", rate, dimension, crossed, referred, refused, with a
+    record for each dimension of each rate; where it is "latencies", latency and a column for each rate, as "rate 0.50",
+    with how many messages took so long (docs/LABORATORY.md, "Loads").
     """
     told_rates = ",".join(map(_rate, rates if isinstance(rates, Iterable) else [rates]))
-    words: List[object] = [dims, room, told_rates, cycles, "--rule", rule, "--pattern", pattern, "--seed", seed]
+    words: List[object] = [dims, room, told_rates, cycles, "--rule", rule, "--seed", seed]
     if background:
         words += ["--background", background]
     if until is not None:
         words += ["--until", until]
     if table is not None:
         words += ["--table", table]
-    return Table(command("cm1lab", "load", *words).decode())
+    if places is None:
+        return Table(command("cm1lab", "load", *words, "--pattern", pattern).decode())
+    with TextFile("\n".join(map(str, places)), "places") as path:
+        return Table(command("cm1lab", "load", *words, "--places", path).decode())
 
 
 def plot_of(text: str) -> Svg:

@@ -88,7 +88,7 @@ def test_rates_have_two_digits(rates, told):
 
 
 SAID = [{"rule": 1}, {"pattern": "reversal"}, {"pattern": "hotspot", "background": 30}, {"until": 20},
-        {"table": "crossings"}, {"table": "dimensions"}, {"seed": 2}]
+        {"table": "crossings"}, {"table": "dimensions"}, {"table": "latencies"}, {"seed": 2}]
 
 
 @pytest.mark.parametrize("given", SAID)
@@ -96,6 +96,13 @@ def test_what_is_said_of_a_load_is_told(given):
     words = [word for name, it in given.items() for word in (f"--{name}", it)]
     told = command("cm1lab", "load", 6, 2, "3.00", 60, *words).decode()
     assert load_curve(6, 2, 3, 60, **given).csv == told != load_curve(6, 2, 3, 60).csv
+
+
+def test_places_of_ones_own():
+    transposed = [place // 8 + place % 8 * 8 for place in range(64)]
+    assert load_curve(2, 7, 2, 60, places=transposed).csv == load_curve(2, 7, 2, 60, pattern="transpose").csv
+    with pytest.raises(Failed, match="places: only 63 numbers"):
+        load_curve(2, 7, 2, 60, places=transposed[1:])
 
 
 @pytest.mark.parametrize("rate", [0.125, 0.001, -1, float("nan"), float("inf")])

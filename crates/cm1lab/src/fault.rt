@@ -59,6 +59,11 @@ pub enum FileFault {
     Source(SourceFault),
     #[error(transparent)]
     Plot(PlotFault),
+    #[error(transparent)]
+    Places(NumbersFault),
+    /// A number that is no place, on this line.
+    #[error("line {0}: no place of this cube has this number")]
+    NoPlace(u64),
 }
 
 impl Fault {
@@ -93,6 +98,15 @@ impl Fault {
         match fault {
             PlotFault::Memory => Fault::Memory,
             fault => Fault::file(alloc, path, FileFault::Plot(fault)),
+        }
+    }
+
+    /// What is wrong with places.
+    pub fn places(alloc: Global, path: &str, fault: NumbersFault) -> Fault {
+        match fault {
+            NumbersFault::Memory => Fault::Memory,
+            NumbersFault::TooLarge(line) => Fault::file(alloc, path, FileFault::NoPlace(line)),
+            fault => Fault::file(alloc, path, FileFault::Places(fault)),
         }
     }
 

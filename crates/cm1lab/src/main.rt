@@ -138,7 +138,11 @@ fn read_table<R: Input + Files>(
 }
 
 /// The table of loads.
-fn load<R: Print + Eprint + Clock>(rt: &R, alloc: Global, loads: &Loads) -> Result<(), Fault> {
+fn load<R: Print + Eprint + Files + Clock>(
+    rt: &R,
+    alloc: Global,
+    loads: &Loads<'_>,
+) -> Result<(), Fault> {
     let text = measure_all(rt, alloc, loads)?;
     show(rt, text.as_slice())
 }

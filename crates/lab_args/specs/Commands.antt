@@ -110,7 +110,7 @@ abbrev pub is_load_option : Text → Bool
 is_load_option word =
     is_fresh_option word || (bytes_eq word (codes "--pattern") || (bytes_eq word (codes "--background")
     || (bytes_eq word (codes "--until") || (bytes_eq word (codes "--skip") || (bytes_eq word (codes "--seeds")
-    || bytes_eq word (codes "--table"))))))
+    || (bytes_eq word (codes "--table") || bytes_eq word (codes "--places")))))))
 
 -- an option of the command of this name
 abbrev pub is_option_of : Text → Text → Bool

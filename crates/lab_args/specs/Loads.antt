@@ -1,5 +1,7 @@
 -- What the words behind `load` ask for: ours.
-use Rattle.std.specs.Prelude.{◌^◌, if◌then◌else◌, Result, Ok, Err, List, [], ◌∷◌, ◌++◌, codes, bytes_eq}
+use Rattle.std.specs.Prelude.{◌^◌, ◌&&◌, Bool, if◌then◌else◌, Some, None, Result, Ok, Err, List, [], ◌∷◌, ◌++◌, codes}
+use Rattle.std.specs.Prelude.{bytes_eq}
+use Rattle.std.specs.List.{list_any}
 use Rattle.lab_load.specs.declared.trials.Trial.{Trial}
 use Rattle.lab_load.specs.declared.offers.Pattern.TheVariants as pattern
 use Rattle.lab_load.specs.declared.trials.LoadTable.TheVariants as load_table
@@ -31,12 +33,14 @@ with_option trial option word =
     then operand_below (2 ^ 64) operand.Seed word >>= (λ seed. Ok (record trial { seed = seed }))
     else Err Words)))))))
 
--- the same, or so many wires that are to be drawn
+-- the same, or so many wires that are to be drawn, or the file with the places to which messages go
 abbrev pub with_choice : LoadsAsked → Text → Text → Result LoadsAsked Refusal
 with_choice loads option word =
     if bytes_eq option (codes "--cut-random")
     then operand_below (2 ^ 16) operand.Count word >>= (λ count. Ok (record loads { drawn = count }))
-    else with_option loads.trial option word >>= (λ trial. Ok (record loads { trial = trial }))
+    else (if bytes_eq option (codes "--places")
+    then Ok (record loads { trial = record loads.trial { pattern = pattern.Own }; places = Some word })
+    else with_option loads.trial option word >>= (λ trial. Ok (record loads { trial = trial })))
 
 -- the loads of a machine with this wire cut too
 abbrev pub load_with_cut : LoadsAsked → Text → Text → Result LoadsAsked Refusal
@@ -53,10 +57,17 @@ with_options loads (option ∷ word ∷ next ∷ after) =
     if bytes_eq option (codes "--cut") then load_with_cut loads word next >>= (λ cut. with_options cut after)
     else with_choice loads option word >>= (λ changed. with_options changed (next ∷ after))
 
--- `load`: N CAP RATE,.. CYCLES, and options
+-- a pattern is said, and places too
+abbrev pub says_both : List Text → Bool
+says_both options =
+    list_any (λ other. bytes_eq other (codes "--pattern")) options
+    && list_any (λ other. bytes_eq other (codes "--places")) options
+
+-- `load`: N CAP RATE,.. CYCLES, and options, with a pattern or with places
 abbrev pub load : Text → Text → Text → Text → List Text → Result LoadsAsked Refusal
 load n room rates' cycles options =
-    operand_below (2 ^ 16) operand.N n >>= λ n'. operand_below (2 ^ 16) operand.Cap room >>= λ room'.
+    if says_both options then Err Words
+    else operand_below (2 ^ 16) operand.N n >>= λ n'. operand_below (2 ^ 16) operand.Cap room >>= λ room'.
     rates rates' >>= λ offered. operand_below (2 ^ 32) operand.Cycles cycles >>= λ cycles'.
     with_options (record {
       trial = record {
@@ -75,4 +86,5 @@ load n room rates' cycles options =
       cuts = [];
       drawn = 0;
       rates = offered;
+      places = None;
     }) options

@@ -73,11 +73,19 @@ pub record LoadsAsked : Type 0 where
   pub cuts : List WireEnd
   pub drawn : ℕ
   pub rates : List ℕ
+  -- the file with the places to which messages go, if there is one
+  pub places : Option Text
 
--- loads, by their wires and rates
+-- loads, by their wires and rates and the name of the file
 abbrev pub loads_asked : Loads → LoadsAsked
 loads_asked loads =
-    record { trial = loads.trial; cuts = loads.cuts.items; drawn = loads.drawn; rates = loads.rates.items }
+    record {
+      trial = loads.trial;
+      cuts = loads.cuts.items;
+      drawn = loads.drawn;
+      rates = loads.rates.items;
+      places = option_map (λ file. file.now) loads.places;
+    }
 
 -- what words may ask for
 pub data Request : Type 0 where

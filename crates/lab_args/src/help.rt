@@ -66,16 +66,18 @@ cm1lab fresh N CAP [--cut CHIP DIM].. [--cut-random K] [--seed S] [--rule R] FIL
     1 to 15, into FILE; the wire of CHIP over dimension DIM is cut, by whichever end it is
     named, and K wires are that are drawn, others by another S; rule 0, who came first goes
     first, or rule 1, the oldest
-cm1lab load N CAP RATE,.. CYCLES [--cut CHIP DIM].. [--cut-random K] [--seed S] [--rule R] [--pattern P] [--background H] [--until T] [--skip T] [--seeds K] [--table NAME]
+cm1lab load N CAP RATE,.. CYCLES [--cut CHIP DIM].. [--cut-random K] [--seed S] [--rule R] [--pattern P | --places FILE] [--background H] [--until T] [--skip T] [--seeds K] [--table NAME]
     tells a table, a line for each RATE of messages that the processors of a chip offer in a
     petit cycle, as 0.5: what was offered, taken in and delivered on such a blank machine, and
     how many petit cycles that took; S draws other messages too; P is uniform, transpose,
-    reversal or hotspot; of a hundred messages H go to a processor that is drawn, and the
-    rest by P; with --until only the first T petit cycles offer, with --skip the first T are
-    not told of; with --seeds means of K loads, and half their 95 % intervals; --table
-    crossings tells more columns, how often messages crossed a dimension, were referred, were
-    refused, and petit cycles behind which nothing was left; --table dimensions a line for
-    each dimension
+    reversal or hotspot, or FILE has a number for each processor, the place to which its
+    messages go; of a hundred messages H go to a processor that is drawn, and the rest by P
+    or FILE; with --until only the first T petit cycles offer, with --skip the first T are not
+    told of; with --seeds means of K loads, and half their 95 % intervals; --table crossings
+    tells more columns, how often messages crossed a dimension, were referred, were refused,
+    and petit cycles behind which nothing was left; --table dimensions a line for each
+    dimension; --table latencies a line for each number of petit cycles, with a column for
+    each RATE: how many messages took so many
 cm1lab plot [--from T] [--to T] [FILE] > PICTURE
     tells a picture, an SVG, of a table that cm1lab study, cm1lab study --messages or cm1lab
     load told, or of what cm1lab route told, which is in FILE or on standard input: lines over
@@ -210,4 +212,5 @@ fn is_load_option(word: &str) -> bool
         || word == "--skip"
         || word == "--seeds"
         || word == "--table"
+        || word == "--places"
 }

@@ -119,6 +119,7 @@ pub fn lines_ask_for()
           cuts = [];
           drawn = 0;
           rates = 50 ∷ 100 ∷ 175 ∷ [];
+          places = None;
         })) }
     ensures load_with_options { request_of
         (codes "cm1lab" ∷ codes "load" ∷ codes "8" ∷ codes "7" ∷ codes "2" ∷ codes "400" ∷ codes "--until"
@@ -143,6 +144,29 @@ pub fn lines_ask_for()
           cuts = record { chip = 5; dim = 0 } ∷ [];
           drawn = 6;
           rates = 200 ∷ [];
+          places = None;
+        })) }
+    ensures load_with_places { request_of
+        (codes "cm1lab" ∷ codes "load" ∷ codes "4" ∷ codes "1" ∷ codes "2" ∷ codes "60" ∷ codes "--places"
+        ∷ codes "own.txt" ∷ codes "--table" ∷ codes "latencies" ∷ [])
+        ≡ Ok (Load (record {
+          trial = record {
+            n = 4;
+            room = 1;
+            rule = 0;
+            pattern = pattern.Own;
+            background = 0;
+            until = 60;
+            seed = 1;
+            cycles = 60;
+            skip = 0;
+            seeds = 1;
+            table = load_table.Latencies;
+          };
+          cuts = [];
+          drawn = 0;
+          rates = 200 ∷ [];
+          places = Some (codes "own.txt");
         })) }
     ensures plot { request_of (codes "cm1lab" ∷ codes "plot" ∷ [])
         ≡ Ok (Plot None (record { from = 0; to = 2 ^ 64 - 1 })) }
@@ -231,6 +255,10 @@ pub fn lines_are_refused()
         (codes "cm1lab" ∷ codes "load" ∷ codes "4" ∷ codes "7" ∷ codes "1" ∷ codes "10" ∷ codes "--background"
         ∷ codes "x" ∷ [])
         ≡ Err (Wanted operand.Background (codes "x")) }
+    ensures pattern_and_places { request_of
+        (codes "cm1lab" ∷ codes "load" ∷ codes "4" ∷ codes "7" ∷ codes "1" ∷ codes "10" ∷ codes "--places"
+        ∷ codes "own.txt" ∷ codes "--pattern" ∷ codes "uniform" ∷ [])
+        ≡ Err Words }
     ensures table { request_of
         (codes "cm1lab" ∷ codes "load" ∷ codes "4" ∷ codes "7" ∷ codes "1" ∷ codes "10" ∷ codes "--table"
         ∷ codes "plain" ∷ [])

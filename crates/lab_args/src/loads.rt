@@ -4,40 +4,46 @@ ghost use Rattle.std.specs.Prelude.{◌≡◌, IfOk, IfErr, Ok};
 ghost use Rattle.lab_args.specs.Words.{texts};
 ghost use Rattle.lab_args.specs.Refusals.{Reports};
 ghost use Rattle.lab_args.specs.Requests.{loads_asked};
-ghost use Rattle.lab_args.specs.Loads.{load, with_choice, load_with_cut, with_option, with_options};
+ghost use Rattle.lab_args.specs.Loads.{load, says_both, with_choice, load_with_cut, with_option, with_options};
 
 use crate::blanks::wire_named;
 use crate::fault::CommandFault;
 use crate::operands::{Operand, cycle_count, long_number, number, pattern, table};
 use crate::rates::read_rates;
+use crate::reading::stands_in;
 use lab_fresh::WireEnd;
 use lab_load::{LoadTable, Pattern, Trial};
 use std::alloc::Global;
 
 /// Loads of one pattern on one machine, at these rates.
 #[derive(Drop)]
-pub struct Loads {
+pub struct Loads<'a> {
     pub trial: Trial,
     pub cuts: Vec<WireEnd>,
     /// So many wires more are drawn, by the trial's seed.
     pub drawn: u16,
     /// Hundredths of a message that a chip offers in a petit cycle.
     pub rates: Vec<u16>,
+    /// The file with the places to which messages go, if there is one.
+    pub places: Option<&'a str>,
 }
 
 /// Reads the words behind `load`.
-pub(crate) fn read_loads(
+pub(crate) fn read_loads<'a>(
     alloc: Global,
     n: &str,
     room: &str,
     rates: &str,
     cycles: &str,
-    options: &[&str],
-) -> Result<Loads, CommandFault>
+    options: &[&'a str],
+) -> Result<Loads<'a>, CommandFault>
     ensures value { IfOk result
         (λ loads. load n.now room.now rates.now cycles.now (texts options.now) ≡ Ok (loads_asked loads)) }
     ensures refused { IfErr result (Reports (load n.now room.now rates.now cycles.now (texts options.now))) }
 {
+    if says_both(options) {
+        return Err(CommandFault::Words);
+    }
     let n = number(alloc, Operand::N, n)?;
     let room = number(alloc, Operand::Cap, room)?;
     let rates = read_rates(alloc, rates)?;
@@ -60,15 +66,27 @@ pub(crate) fn read_loads(
         cuts: Vec::new(alloc),
         drawn: 0,
         rates,
+        places: None,
     };
     with_options(alloc, plain, options)
 }
 
+/// Whether a pattern is said, and places too.
+fn says_both(options: &[&str]) -> bool
+    ensures { result ≡ says_both (texts options.now) }
+{
+    stands_in("--pattern", options) && stands_in("--places", options)
+}
+
 /// Takes what the options say, each with the word behind it, or the two.
-fn with_options(alloc: Global, loads: Loads, options: &[&str]) -> Result<Loads, CommandFault>
+fn with_options<'a>(
+    alloc: Global,
+    loads: Loads<'a>,
+    options: &[&'a str],
+) -> Result<Loads<'a>, CommandFault>
     ensures value { IfOk result
-        (λ found. with_options (loads_asked loads) (texts options.now) ≡ Ok (loads_asked found)) }
-    ensures refused { IfErr result (Reports (with_options (loads_asked loads) (texts options.now))) }
+        (λ found. with_options (loads_asked loads.entry) (texts options.now) ≡ Ok (loads_asked found)) }
+    ensures refused { IfErr result (Reports (with_options (loads_asked loads.entry) (texts options.now))) }
 {
     match options {
         [] => Ok(loads),
@@ -89,24 +107,45 @@ fn with_options(alloc: Global, loads: Loads, options: &[&str]) -> Result<Loads, 
 }
 
 /// Takes what an option says that has one word behind it.
-fn with_choice(alloc: Global, loads: Loads, option: &str, word: &str) -> Result<Loads, CommandFault>
+fn with_choice<'a>(
+    alloc: Global,
+    loads: Loads<'a>,
+    option: &str,
+    word: &'a str,
+) -> Result<Loads<'a>, CommandFault>
     ensures value { IfOk result
-        (λ changed. with_choice (loads_asked loads) option.now word.now ≡ Ok (loads_asked changed)) }
-    ensures refused { IfErr result (Reports (with_choice (loads_asked loads) option.now word.now)) }
+        (λ changed. with_choice (loads_asked loads.entry) option.now word.now ≡ Ok (loads_asked changed)) }
+    ensures refused { IfErr result (Reports (with_choice (loads_asked loads.entry) option.now word.now)) }
 {
     if option == "--cut-random" {
         let drawn = number(alloc, Operand::Count, word)?;
         return Ok(Loads { drawn, ..loads });
+    }
+    if option == "--places" {
+        let trial = Trial {
+            pattern: Pattern::Own,
+            ..loads.trial
+        };
+        return Ok(Loads {
+            trial,
+            places: Some(word),
+            ..loads
+        });
     }
     let trial = with_option(alloc, loads.trial, option, word)?;
     Ok(Loads { trial, ..loads })
 }
 
 /// The loads of a machine with this wire cut too.
-fn with_cut(alloc: Global, loads: Loads, chip: &str, dim: &str) -> Result<Loads, CommandFault>
+fn with_cut<'a>(
+    alloc: Global,
+    loads: Loads<'a>,
+    chip: &str,
+    dim: &str,
+) -> Result<Loads<'a>, CommandFault>
     ensures value { IfOk result
-        (λ cut. load_with_cut (loads_asked loads) chip.now dim.now ≡ Ok (loads_asked cut)) }
-    ensures refused { IfErr result (Reports (load_with_cut (loads_asked loads) chip.now dim.now)) }
+        (λ cut. load_with_cut (loads_asked loads.entry) chip.now dim.now ≡ Ok (loads_asked cut)) }
+    ensures refused { IfErr result (Reports (load_with_cut (loads_asked loads.entry) chip.now dim.now)) }
 {
     let mut cut = loads;
     let wire = wire_named(alloc, chip, dim)?;

@@ -48,7 +48,7 @@ pub enum Command<'a> {
     /// A blank machine.
     Fresh(Blank<'a>),
     /// Loads of the router.
-    Load(Loads),
+    Load(Loads<'a>),
     /// The picture of a table, which is in this file or on standard input, or of these petit cycles of a route.
     Plot {
         file: Option<&'a str>,
@@ -127,7 +127,8 @@ fn given_twice<'a>(words: &[&'a str]) -> Option<&'a str>
     None
 }
 
-fn stands_in(word: &str, words: &[&str]) -> bool
+/// Whether a word is one of these.
+pub(crate) fn stands_in(word: &str, words: &[&str]) -> bool
     ensures { result ≡ list_any (λ other. bytes_eq other word.now) (texts words.now) }
 {
     words.contains(&word)

@@ -1,10 +1,11 @@
 -- What is counted in one petit cycle, and in many.
 use Rattle.std.proofs.Common.{◌≡◌, ℕ, suc, ◌+◌, ◌-◌, ◌≤◌, ap, ◌∙◌, arith}
 use Rattle.cm_model.specs.Machine.{Machine}
-use Rattle.lab_load.specs.declared.counts.Counts.{Counts}
+use Rattle.lab_counts.specs.declared.counts.Counts.{Counts}
 use Rattle.lab_load.specs.declared.offers.Load.{Load}
 use Rattle.lab_load.specs.Loaded.{Loaded, after_one, after_cycles, untold}
-use Rattle.lab_load.specs.Counts.{asked_machine, with_crossed, is_quiet, with_quiet, counts_after, counts_after_cycles}
+use Rattle.lab_counts.specs.Counts.{with_crossed}
+use Rattle.lab_load.specs.Counted.{asked_machine, is_quiet, with_quiet, counts_after, counts_after_cycles}
 
 -- one petit cycle: its crossings, and whether it left nothing
 pub counted_once : (n cap : ℕ) (load : Load) (before after : Loaded) (machine : Machine) (was now last : Counts)

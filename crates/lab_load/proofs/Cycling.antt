@@ -18,7 +18,7 @@ use Rattle.lab_load.specs.declared.sources.Source.{Source}
 use Rattle.lab_load.specs.Offers.{places}
 use Rattle.lab_load.specs.Asking.{Asking, asking_after_places}
 use Rattle.lab_load.specs.Telling.{injected_count, latencies_in}
-use Rattle.lab_load.specs.Counts.{asked_machine}
+use Rattle.lab_load.specs.Counted.{asked_machine}
 use Rattle.lab_load.specs.Loaded.{Loaded, all_ready, asking_of, machine_asked, load_after, cycled, after_one}
 
 module _ (n cap : ℕ) (load : Load) (routing : Routing) (chips asked_chips left ready : Chips)

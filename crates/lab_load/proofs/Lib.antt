@@ -3,6 +3,6 @@ pub mod Poking
 pub mod Adding
 pub mod Emptying
 pub mod Cycling
-pub mod CrossingLemmas
 pub mod Counting
+pub mod Histograms
 pub mod Beginning

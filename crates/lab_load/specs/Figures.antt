@@ -2,7 +2,7 @@
 use Rattle.std.specs.Prelude.{◌≡◌, ℕ, ◌+◌, ◌-◌, ◌*◌, ◌/◌, ◌^◌, ◌==◌, Bool, List, Option, length, max, fold, nat_le, sum_by, if◌then◌else◌}
 use Rattle.std.specs.List.{count_by, find, range_with_len}
 use Rattle.lab_load.specs.declared.offers.Load.{Load}
-use Rattle.lab_load.specs.declared.counts.Counts.{Counts}
+use Rattle.lab_counts.specs.declared.counts.Counts.{Counts}
 use Rattle.lab_load.specs.declared.figures.Figures.{Figures}
 use Rattle.lab_load.specs.Loaded.{Loaded, offered_in}
 

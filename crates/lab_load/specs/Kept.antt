@@ -5,7 +5,7 @@ use Rattle.cm_model.specs.Array.{Chips}
 use Rattle.cm_model.specs.Wiring.{Routing}
 use Rattle.cm_router.specs.Logs.{Log}
 use Rattle.cm_petit.specs.Routers.{machine_from_logs}
-use Rattle.lab_load.specs.declared.counts.Counts.{Counts}
+use Rattle.lab_counts.specs.declared.counts.Counts.{Counts}
 use Rattle.lab_load.specs.declared.cycles.Told.{Told}
 use Rattle.lab_load.specs.declared.sources.Source.{Source}
 use Rattle.lab_load.specs.Loaded.{Loaded}

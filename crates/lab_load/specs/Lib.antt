@@ -2,10 +2,10 @@ pub mod Offers
 pub mod Asking
 pub mod Telling
 pub mod Loaded
-pub mod Crossings
-pub mod Counts
+pub mod Counted
 pub mod Kept
 pub mod Figures
 pub mod Tables
+pub mod Latencies
 pub mod Trials
 pub mod Spreads

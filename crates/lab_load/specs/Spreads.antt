@@ -10,7 +10,7 @@ use Rattle.lab_load.specs.declared.spreads.Spread.{Spread}
 use Rattle.lab_load.specs.declared.spreads.Spreads.{Spreads}
 use Rattle.lab_load.specs.declared.spreads.TheConstants.{QUANTILES}
 use Rattle.lab_load.specs.declared.trials.Trial.{Trial}
-use Rattle.lab_load.specs.Counts.{nothing_counted}
+use Rattle.lab_counts.specs.Counts.{nothing_counted}
 use Rattle.lab_load.specs.Trials.{AreFiguresOf}
 
 -- the load of the seed that comes so many behind this one
@@ -84,8 +84,10 @@ pub record AreSpreads (rate : ℕ) (loads : List Figures) (spreads : Spreads) : 
   pub greatest : IsSpread Greatest loads spreads.greatest
 
 -- what a trial of several seeds answers at a rate: those of its loads of each seed
-pub record AreSpreadsOf (trial : Trial) (cuts : List WireEnd) (rate : ℕ) (spreads : Spreads) : Type 0 where
+pub record AreSpreadsOf (trial : Trial) (targets : List ℕ) (cuts : List WireEnd) (rate : ℕ) (spreads : Spreads)
+    : Type 0 where
   pub loads : List Figures
   pub count : length loads ≡ trial.seeds
-  pub each : (k : ℕ) (d : Figures) → k < length loads → AreFiguresOf (seeded trial k) cuts rate (get_or loads k d)
+  pub each : (k : ℕ) (d : Figures) → k < length loads → AreFiguresOf (seeded trial k) targets cuts rate
+      (get_or loads k d)
   pub are : AreSpreads rate loads spreads

@@ -2,11 +2,11 @@
 use Rattle.std.specs.Prelude.{ℕ, ◌/◌, ◌%◌, List, [], ◌∷◌, ◌++◌, Option, Some, None, codes, decimal, min, slice_index_or}
 use Rattle.std.specs.List.{flat_map, range_with_len}
 use Rattle.cm_bits.specs.Text.{number_cell, last_number_cell}
-use Rattle.lab_load.specs.declared.crossings.Crossings.{Crossings}
+use Rattle.lab_counts.specs.declared.crossings.Crossings.{Crossings}
 use Rattle.lab_load.specs.declared.figures.Figures.{Figures}
 use Rattle.lab_load.specs.declared.spreads.Spread.{Spread}
 use Rattle.lab_load.specs.declared.spreads.Spreads.{Spreads}
-use Rattle.lab_load.specs.Crossings.{no_crossings, in_all}
+use Rattle.lab_counts.specs.Crossings.{no_crossings, in_all}
 
 -- ---- numbers
 

@@ -1,6 +1,6 @@
 -- Loads as they are asked for, and which there are. Ours.
-use Rattle.std.specs.Prelude.{ℕ, ◌==◌, ◌||◌, ◌&&◌, Bool, true, false, not, List, Option, Some, None, nat_le, nat_lt}
-use Rattle.std.specs.Prelude.{if◌then◌else◌}
+use Rattle.std.specs.Prelude.{◌≡◌, ℕ, ◌==◌, ◌||◌, ◌&&◌, Bool, true, false, not, List, Option, Some, None, nat_le}
+use Rattle.std.specs.Prelude.{nat_lt, if◌then◌else◌}
 use Rattle.std.specs.List.{find}
 use Rattle.cm_model.specs.Wiring.{Routing}
 use Rattle.cm_image_format.specs.Cuts.{rule_of}
@@ -8,14 +8,16 @@ use Rattle.lab_fresh.specs.declared.blanks.WireEnd.{WireEnd}
 use Rattle.lab_fresh.specs.Fresh.{is_stray, fresh_routing}
 use Rattle.lab_load.specs.declared.offers.Load.{Load}
 use Rattle.lab_load.specs.declared.figures.Figures.{Figures}
+use Rattle.lab_load.specs.declared.latencies.Latencies.{Latencies as Told}
 use Rattle.lab_load.specs.declared.trials.Trial.{Trial}
 use Rattle.lab_load.specs.declared.trials.LoadFault.{LoadFault}
 use Rattle.lab_load.specs.declared.trials.LoadTable.{LoadTable}
-use Rattle.lab_load.specs.declared.trials.LoadTable.TheVariants.{Plain, Crossings, Dimensions}
+use Rattle.lab_load.specs.declared.trials.LoadTable.TheVariants.{Plain, Crossings, Dimensions, Latencies}
 use Rattle.lab_load.specs.declared.trials.LoadFault.TheVariants.{Dimension, Room, Wire, Rate, Cycles, Skip, Seeds, Rule, Background, Table}
-use Rattle.lab_load.specs.Counts.{counts_for}
+use Rattle.lab_load.specs.Counted.{counts_for}
 use Rattle.lab_load.specs.Loaded.{loaded_for}
 use Rattle.lab_load.specs.Figures.{AreFigures}
+use Rattle.lab_load.specs.Latencies.{histogram}
 
 -- the fault of an end that the cube has not, if there is one
 abbrev pub end_fault : ℕ → Option WireEnd → Option LoadFault
@@ -37,6 +39,7 @@ abbrev pub is_plain : LoadTable → Bool
 is_plain Plain = true
 is_plain Crossings = false
 is_plain Dimensions = false
+is_plain Latencies = false
 
 abbrev pub cycles_fault : Trial → Option LoadFault
 cycles_fault trial =
@@ -56,31 +59,41 @@ trial_fault trial cuts rates =
     else or_load_fault (end_fault trial.n (find (is_stray trial.n) cuts))
     (or_load_fault (rate_fault (find (nat_lt 1600) rates)) (cycles_fault trial))
 
--- the load of a trial at a rate
-abbrev pub load_of : Trial → ℕ → Load
-load_of trial rate = record {
-  dims = trial.n;
-  pattern = trial.pattern;
-  background = trial.background;
-  rate = rate;
-  until = trial.until;
-  seed = trial.seed;
-}
+-- the load of a trial at a rate, with these targets
+pub record IsLoadOf (trial : Trial) (targets : List ℕ) (rate : ℕ) (load : Load) : Type 0 where
+  pub dims : load.dims ≡ trial.n
+  pub pattern : load.pattern ≡ trial.pattern
+  pub background : load.background ≡ trial.background
+  pub rate_is : load.rate ≡ rate
+  pub until : load.until ≡ trial.until
+  pub seed : load.seed ≡ trial.seed
+  pub targets_are : load.targets.items ≡ targets
 
 -- a table that tells what is counted beside
 abbrev pub is_counted : LoadTable → Bool
 is_counted Plain = false
 is_counted Crossings = true
 is_counted Dimensions = true
+is_counted Latencies = false
 
 -- how the machine of a trial routes, of which the wires with these ends are cut
 abbrev pub trial_routing : Trial → List WireEnd → Routing
 trial_routing trial cuts = fresh_routing cuts (rule_of trial.rule)
 
 -- what a trial answers at a rate: the numbers of its load on a blank machine
-abbrev pub AreFiguresOf : Trial → List WireEnd → ℕ → Figures → Type 0
-AreFiguresOf trial cuts rate figures =
-    AreFigures (load_of trial rate) trial.skip trial.cycles
-    (loaded_for trial.room (load_of trial rate) (trial_routing trial cuts) trial.skip trial.cycles)
-    (counts_for (is_counted trial.table) trial.room (load_of trial rate) (trial_routing trial cuts) trial.skip trial.cycles)
-    figures
+pub record AreFiguresOf (trial : Trial) (targets : List ℕ) (cuts : List WireEnd) (rate : ℕ) (figures : Figures)
+    : Type 0 where
+  pub load : Load
+  pub is : IsLoadOf trial targets rate load
+  pub are : AreFigures load trial.skip trial.cycles
+      (loaded_for trial.room load (trial_routing trial cuts) trial.skip trial.cycles)
+      (counts_for (is_counted trial.table) trial.room load (trial_routing trial cuts) trial.skip trial.cycles) figures
+
+-- what it tells of latencies at a rate: how many messages of its load took how long there
+pub record AreLatenciesOf (trial : Trial) (targets : List ℕ) (cuts : List WireEnd) (rate : ℕ) (latencies : Told)
+    : Type 0 where
+  pub load : Load
+  pub is : IsLoadOf trial targets rate load
+  pub rate_is : latencies.rate ≡ rate
+  pub are : latencies.counts.items
+      ≡ histogram (loaded_for trial.room load (trial_routing trial cuts) trial.skip trial.cycles).latencies

@@ -6,10 +6,11 @@ ghost use Rattle.cm_petit.specs.Routers.{AreRouters};
 ghost use Rattle.lab_load.specs.Offers.{places};
 ghost use Rattle.lab_load.specs.Loaded.{after_one, after_cycles};
 ghost use Rattle.lab_load.specs.Kept.{loaded_of};
-ghost use Rattle.lab_load.specs.Counts.{nothing_counted, counts_after, counts_after_cycles};
+ghost use Rattle.lab_counts.specs.Counts.{nothing_counted};
+ghost use Rattle.lab_load.specs.Counted.{counts_after, counts_after_cycles};
 
 use crate::asking::ask_all;
-use crate::counts::{Counts, count_quiet, watched_cycle};
+use crate::quiet::count_quiet;
 use crate::logs::{empty_logs, fetch_all};
 use crate::offers::Load;
 use crate::sources::Source;
@@ -19,6 +20,7 @@ use cm_element::Run;
 use cm_message::Event;
 use cm_router::Routing;
 use cm_router_engine::{RouterEngine, Shape};
+use lab_counts::{Counts, watched_cycle};
 
 /// What was told so far.
 #[derive(Debug, Drop)]

@@ -10,12 +10,13 @@ ghost use Rattle.lab_load.specs.Offers.{places};
 ghost use Rattle.lab_load.specs.Asking.{no_source};
 ghost use Rattle.lab_load.specs.Loaded.{Loaded, offered_by, offered_in, loaded_for};
 ghost use Rattle.lab_load.specs.Kept.{IsToldOf};
-ghost use Rattle.lab_load.specs.declared.counts.Counts.{Counts as Counted};
-ghost use Rattle.lab_load.specs.Counts.{counts_for};
+ghost use Rattle.lab_counts.specs.declared.counts.Counts.{Counts as Counted};
+ghost use Rattle.lab_load.specs.Counted.{counts_for};
+ghost use Rattle.lab_load.specs.Latencies.{histogram};
 ghost use Rattle.lab_load.specs.Figures.{throughput_of, mean_of, is_reached, most_of, greatest_latency, AreFigures};
 
-use crate::counts::Counts;
 use crate::cycles::{Told, go_through};
+use crate::latencies::histogram;
 use crate::offers::Load;
 use crate::sources::Source;
 use cm_bits::NoMemory;
@@ -23,6 +24,7 @@ use cm_element::Run;
 use cm_message::Event;
 use cm_router::Routing;
 use cm_router_engine::{RouterEngine, Shape};
+use lab_counts::Counts;
 use std::alloc::Global;
 
 /// What was offered to a machine, and what became of it.
@@ -182,6 +184,25 @@ pub fn measure(
 {
     let told = tell(alloc, room, routing, load, period)?;
     Ok(figures_of(load, period.skip, period.cycles, &told))
+}
+
+/// How many messages took how long under a load on such a machine, in the same petit cycles.
+pub(crate) fn measure_latencies(
+    alloc: Global,
+    room: u8,
+    routing: &Routing,
+    load: &Load,
+    period: Period,
+) -> Result<Vec<u64>, NoMemory>
+    requires sizes { AreSizes load.now.dims room }
+    requires cube { routing.now.cuts.dims ≡ load.now.dims }
+    requires few { period.cycles ≤ 1000000 }
+    requires skip { period.skip ≤ period.cycles }
+    ensures value { IfOk result (λ counts. counts.items
+        ≡ histogram (loaded_for room load.now (routing_of routing.now) period.skip period.cycles).latencies) }
+{
+    let told = tell(alloc, room, routing, load, period)?;
+    histogram(alloc, &told.latencies)
 }
 
 /// The numbers of a load after so many petit cycles, of which these were told without the first so many.

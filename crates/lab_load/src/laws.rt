@@ -3,18 +3,22 @@
 ghost use Rattle.std.specs.Prelude.{◌≡◌, ◌%◌, [], ◌∷◌, codes, false, None, Some};
 ghost use Rattle.lab_load.specs.declared.offers.Pattern.TheVariants as pattern;
 ghost use Rattle.lab_load.specs.Offers.{aimed};
-ghost use Rattle.lab_load.specs.Counts.{nothing_counted};
+ghost use Rattle.lab_counts.specs.Counts.{nothing_counted};
 ghost use Rattle.lab_load.specs.Figures.{greatest_latency, mean_of, most_of, throughput_of};
+ghost use Rattle.lab_load.specs.declared.latencies.Latencies.{Latencies};
+ghost use Rattle.lab_load.specs.Latencies.{histogram, rate_name, took_cell, latency_table_of};
 ghost use Rattle.lab_load.specs.declared.spreads.Column.TheVariants.{Throughput};
 ghost use Rattle.lab_load.specs.Spreads.{quantile_of, half_squared, figures_with};
 ghost use Rattle.lab_load.specs.Tables.{load_line, spread_line};
 
 /// On four chips a place has six bits, on eight seven: of these places messages go to those, whatever is drawn.
 pub fn patterns_aim_so()
-    ensures halves { aimed pattern.Transpose 2 0 0b000_110 % 64 ≡ 0b110_000 }
-    ensures long_half { aimed pattern.Transpose 3 0 0b0001_011 % 128 ≡ 0b011_0001 }
-    ensures turned { aimed pattern.Reversal 2 0 0b000110 ≡ 0b011000 }
-    ensures hot { aimed pattern.HotSpot 2 0 0b10_1101 ≡ 0b1101 }
+    ensures halves { aimed pattern.Transpose [] 2 0 0b000_110 % 64 ≡ 0b110_000 }
+    ensures long_half { aimed pattern.Transpose [] 3 0 0b0001_011 % 128 ≡ 0b011_0001 }
+    ensures turned { aimed pattern.Reversal [] 2 0 0b000110 ≡ 0b011000 }
+    ensures hot { aimed pattern.HotSpot [] 2 0 0b10_1101 ≡ 0b1101 }
+    ensures own { aimed pattern.Own (7 ∷ 0 ∷ 5 ∷ []) 0 9 2 ≡ 5 }
+    ensures behind { aimed pattern.Own (7 ∷ 0 ∷ 5 ∷ []) 0 9 3 ≡ 0 }
 {}
 
 /// Of three messages, and of none: how long they took; and the line of a load.
@@ -38,6 +42,19 @@ pub fn loads_are_told_so()
       deepest = 0;
       counts = nothing_counted false;
     }) ≡ codes "0.50,51084,51083,51010,0.498,1.40,2,5,0\n" }
+{}
+
+/// Of four messages, and of none: how many took how long; the name of a rate's column, cells of a line, and the table
+/// of two loads, under each of which one message was delivered.
+pub fn latencies_are_told_so()
+    ensures counted { histogram (1 ∷ 3 ∷ 1 ∷ 4 ∷ []) ≡ 0 ∷ 2 ∷ 0 ∷ 1 ∷ 1 ∷ [] }
+    ensures none { histogram [] ≡ 0 ∷ [] }
+    ensures name { rate_name 1605 ≡ codes ",rate 16.05" }
+    ensures cell { took_cell 2 (0 ∷ 411 ∷ 491 ∷ []) ≡ codes ",491" }
+    ensures behind { took_cell 3 (0 ∷ 411 ∷ 491 ∷ []) ≡ codes ",0" }
+    ensures table { (low : Latencies) (high : Latencies) → low.rate ≡ 100 → high.rate ≡ 400
+        → low.counts.items ≡ 0 ∷ 0 ∷ 0 ∷ 1 ∷ [] → high.counts.items ≡ 0 ∷ 0 ∷ 1 ∷ []
+        → latency_table_of (low ∷ high ∷ []) ≡ codes "latency,rate 1.00,rate 4.00\n1,0,0\n2,0,1\n3,1,0\n" }
 {}
 
 /// Quantiles; the square of the half width of two loads, that of 12.707 times half their difference; and the line of

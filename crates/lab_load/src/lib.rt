@@ -2,23 +2,22 @@
 #![tactic(auto)]
 
 mod asking;
-mod counts;
-mod crossings;
 mod cycles;
 mod figures;
+mod latencies;
 mod laws;
 mod logs;
 mod offers;
+mod quiet;
 mod sources;
 mod spreads;
 mod tables;
 mod telling;
 mod trials;
 
-pub use counts::Counts;
-pub use crossings::Crossings;
 pub use figures::{Figures, Period, measure};
-pub use laws::{loads_are_told_so, patterns_aim_so, spreads_are_told_so};
+pub use latencies::{Latencies, latency_table};
+pub use laws::{latencies_are_told_so, loads_are_told_so, patterns_aim_so, spreads_are_told_so};
 pub use offers::{Load, Pattern};
 pub use spreads::{Column, Spread, Spreads};
 pub use tables::{crossing_table, dimension_table, spread_table, table};

@@ -21,10 +21,12 @@ pub enum Pattern {
     Reversal,
     /// To the processor of the same number on chip 0.
     HotSpot,
+    /// By the load's own targets.
+    Own,
 }
 
 /// What is offered to a machine.
-#[derive(Clone, Copy, Debug, PartialEq, Eq)]
+#[derive(Debug, Drop)]
 pub struct Load {
     /// Of how many dimensions its cube is.
     pub dims: u8,
@@ -36,6 +38,8 @@ pub struct Load {
     /// In so many first petit cycles something is offered, and in none behind them.
     pub until: u32,
     pub seed: u64,
+    /// By place, the place to which its messages go, where the pattern is these; place 0 behind the last of them.
+    pub targets: Vec<u64>,
 }
 
 impl Load {
@@ -71,7 +75,7 @@ impl Load {
     fn aimed(&self, t: u32, place: u32) -> u64
         requires dimension { self.now.dims ≤ 12 }
         requires place { place < 65536 }
-        ensures value { result ≡ aimed (pattern_for self.now t place) self.now.dims
+        ensures value { result ≡ aimed (pattern_for self.now t place) self.now.targets.items self.now.dims
             (draw_of self.now.seed (draw_number t place + 1)) place }
     {
         match self.pattern_for(t, place) {
@@ -79,6 +83,7 @@ impl Load {
             Pattern::Transpose => u64::from(transposed(self.dims, place)),
             Pattern::Reversal => u64::from(reversed(self.dims, place)),
             Pattern::HotSpot => u64::from(place % 16),
+            Pattern::Own => self.targets.get(place as usize).copied().unwrap_or(0),
         }
     }
 

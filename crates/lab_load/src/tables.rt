@@ -1,7 +1,7 @@
 //! The table of loads, as a text.
 
 ghost use Rattle.std.specs.Prelude.{◌≡◌, ◌++◌, ◌∷◌, [], ◌/◌, ◌%◌, ◌<◌, OnOk, IfOk, decimal, slice_index_or};
-ghost use Rattle.lab_load.specs.Crossings.{no_crossings};
+ghost use Rattle.lab_counts.specs.Crossings.{no_crossings};
 ghost use Rattle.lab_load.specs.Tables.{last_digit, last_two, hundredths_text, thousandths, column_if};
 ghost use Rattle.lab_load.specs.Tables.{loads_header, offer_columns, message_columns, latency_columns, load_line};
 ghost use Rattle.lab_load.specs.Tables.{loads_table};
@@ -10,10 +10,10 @@ ghost use Rattle.lab_load.specs.Tables.{dimension_header, dimension_line, dimens
 ghost use Rattle.lab_load.specs.Tables.{last_hundredths, spread_header, spread_columns, throughput_columns};
 ghost use Rattle.lab_load.specs.Tables.{spread_line, spread_table_of};
 
-use crate::crossings::{Crossings, in_all};
 use crate::figures::Figures;
 use crate::spreads::{Spread, Spreads};
 use cm_bits::NoMemory;
+use lab_counts::{Crossings, in_all};
 use lab_digits::{push_byte, push_number, push_piece};
 use std::alloc::Global;
 
@@ -265,7 +265,7 @@ fn push_thousandths(text: &mut Vec<u8>, number: u128) -> Result<(), NoMemory>
 }
 
 /// The last two digits of a number.
-fn push_last_two(text: &mut Vec<u8>, number: u128) -> Result<(), NoMemory>
+pub(crate) fn push_last_two(text: &mut Vec<u8>, number: u128) -> Result<(), NoMemory>
     ensures ok { OnOk result (text.new.items ≡ text.old.items ++ last_two number) }
 {
     push_last_digit(text, number / 10)?;

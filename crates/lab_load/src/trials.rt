@@ -8,9 +8,11 @@ ghost use Rattle.cm_router.specs.Routes.{routing_of};
 ghost use Rattle.lab_fresh.specs.Fresh.{is_stray};
 ghost use Rattle.lab_load.specs.declared.figures.Figures.{Figures};
 ghost use Rattle.lab_load.specs.Spreads.{seeded, AreSpreadsOf};
-ghost use Rattle.lab_load.specs.Trials.{is_counted, is_plain, trial_fault, trial_routing, AreFiguresOf};
+ghost use Rattle.lab_load.specs.Trials.{is_counted, is_plain, trial_fault, trial_routing, IsLoadOf};
+ghost use Rattle.lab_load.specs.Trials.{AreFiguresOf, AreLatenciesOf};
 
-use crate::figures::{Figures, Period, measure};
+use crate::figures::{Figures, Period, measure, measure_latencies};
+use crate::latencies::Latencies;
 use crate::offers::{Load, Pattern};
 use crate::spreads::{Spreads, spreads_of};
 use cm_bits::NoMemory;
@@ -52,6 +54,8 @@ pub enum LoadTable {
     Crossings,
     /// A line for each dimension.
     Dimensions,
+    /// A line for each number of petit cycles that a message took.
+    Latencies,
 }
 
 impl LoadTable {
@@ -162,32 +166,66 @@ impl Trial {
         }
     }
 
-    /// The numbers of its load at this rate, on a machine of which the wires with these ends are cut.
-    pub fn figures(&self, alloc: Global, cuts: &[WireEnd], rate: u16) -> Result<Figures, LoadFault>
-        ensures value { IfOk result (λ figures. AreFiguresOf self.now cuts.now rate figures) }
+    /// The numbers of its load at this rate, with these targets, on a machine of which the wires with these
+    /// ends are cut.
+    pub fn figures(
+        &self,
+        alloc: Global,
+        targets: &[u64],
+        cuts: &[WireEnd],
+        rate: u16,
+    ) -> Result<Figures, LoadFault>
+        ensures value { IfOk result (λ figures. AreFiguresOf self.now targets.now cuts.now rate figures) }
         ensures accepted { IfOk result (λ figures. trial_fault self.now cuts.now (rate ∷ []) ≡ None) }
         ensures refused { IfErr result (λ fault. fault ≢ LoadFault.Memory
             → trial_fault self.now cuts.now (rate ∷ []) ≡ Some fault) }
     {
         match self.fault(cuts, &[rate]) {
             Some(fault) => Err(fault),
-            None => match self.measured(alloc, cuts, rate) {
+            None => match self.measured(alloc, targets, cuts, rate) {
                 Ok(figures) => Ok(figures),
                 Err(_) => Err(LoadFault::Memory),
             },
         }
     }
 
-    /// The means and intervals of its loads of all seeds at this rate, on such a machine.
-    pub fn spreads(&self, alloc: Global, cuts: &[WireEnd], rate: u16) -> Result<Spreads, LoadFault>
-        requires some { 2 ≤ self.now.seeds }
-        ensures value { IfOk result (AreSpreadsOf self.now cuts.now rate) }
+    /// How many messages of its load at this rate took how long, on such a machine.
+    pub fn latencies(
+        &self,
+        alloc: Global,
+        targets: &[u64],
+        cuts: &[WireEnd],
+        rate: u16,
+    ) -> Result<Latencies, LoadFault>
+        ensures value { IfOk result (AreLatenciesOf self.now targets.now cuts.now rate) }
         ensures refused { IfErr result (λ fault. fault ≢ LoadFault.Memory
             → trial_fault self.now cuts.now (rate ∷ []) ≡ Some fault) }
     {
         match self.fault(cuts, &[rate]) {
             Some(fault) => Err(fault),
-            None => match self.all_measured(alloc, cuts, rate) {
+            None => match self.measured_latencies(alloc, targets, cuts, rate) {
+                Ok(latencies) => Ok(latencies),
+                Err(_) => Err(LoadFault::Memory),
+            },
+        }
+    }
+
+    /// The means and intervals of its loads of all seeds at this rate, on such a machine.
+    pub fn spreads(
+        &self,
+        alloc: Global,
+        targets: &[u64],
+        cuts: &[WireEnd],
+        rate: u16,
+    ) -> Result<Spreads, LoadFault>
+        requires some { 2 ≤ self.now.seeds }
+        ensures value { IfOk result (AreSpreadsOf self.now targets.now cuts.now rate) }
+        ensures refused { IfErr result (λ fault. fault ≢ LoadFault.Memory
+            → trial_fault self.now cuts.now (rate ∷ []) ≡ Some fault) }
+    {
+        match self.fault(cuts, &[rate]) {
+            Some(fault) => Err(fault),
+            None => match self.all_measured(alloc, targets, cuts, rate) {
                 Ok(loads) => Ok(spreads_of(rate, &loads)),
                 Err(_) => Err(LoadFault::Memory),
             },
@@ -198,6 +236,7 @@ impl Trial {
     fn all_measured(
         &self,
         alloc: Global,
+        targets: &[u64],
         cuts: &[WireEnd],
         rate: u16,
     ) -> Result<Vec<Figures>, NoMemory>
@@ -207,39 +246,85 @@ impl Trial {
         requires skip { self.now.skip ≤ self.now.cycles }
         ensures count { IfOk result (λ loads. length loads.items ≡ self.now.seeds) }
         ensures each { IfOk result (λ loads. (k : ℕ) (d : Figures) → k < length loads.items
-            → AreFiguresOf (seeded self.now k) cuts.now rate (get_or loads.items k d)) }
+            → AreFiguresOf (seeded self.now k) targets.now cuts.now rate (get_or loads.items k d)) }
     {
         let mut loads = Vec::new(alloc);
         for k in 0..self.seeds {
-            let figures = self.seeded(k).measured(alloc, cuts, rate)?;
+            let figures = self.seeded(k).measured(alloc, targets, cuts, rate)?;
             push_load(&mut loads, figures)?;
         }
         Ok(loads)
     }
 
     /// The same, where all of it is in its range.
-    fn measured(&self, alloc: Global, cuts: &[WireEnd], rate: u16) -> Result<Figures, NoMemory>
+    fn measured(
+        &self,
+        alloc: Global,
+        targets: &[u64],
+        cuts: &[WireEnd],
+        rate: u16,
+    ) -> Result<Figures, NoMemory>
         requires sizes { AreSizes self.now.n self.now.room }
         requires wires { find (is_stray self.now.n) cuts.now ≡ None }
         requires few { self.now.cycles ≤ 1000000 }
         requires skip { self.now.skip ≤ self.now.cycles }
-        ensures value { IfOk result (λ figures. AreFiguresOf self.now cuts.now rate figures) }
+        ensures value { IfOk result (λ figures. AreFiguresOf self.now targets.now cuts.now rate figures) }
     {
-        let load = Load {
+        let load = self.load(alloc, targets, rate)?;
+        let routing = self.routing(alloc, cuts)?;
+        measure(alloc, self.room as u8, &routing, &load, self.period())
+    }
+
+    /// The same of how long messages took.
+    fn measured_latencies(
+        &self,
+        alloc: Global,
+        targets: &[u64],
+        cuts: &[WireEnd],
+        rate: u16,
+    ) -> Result<Latencies, NoMemory>
+        requires sizes { AreSizes self.now.n self.now.room }
+        requires wires { find (is_stray self.now.n) cuts.now ≡ None }
+        requires few { self.now.cycles ≤ 1000000 }
+        requires skip { self.now.skip ≤ self.now.cycles }
+        ensures value { IfOk result (AreLatenciesOf self.now targets.now cuts.now rate) }
+    {
+        let load = self.load(alloc, targets, rate)?;
+        let routing = self.routing(alloc, cuts)?;
+        let counts = measure_latencies(alloc, self.room as u8, &routing, &load, self.period())?;
+        Ok(Latencies { rate, counts })
+    }
+
+    /// Its load at a rate, with these targets.
+    fn load(&self, alloc: Global, targets: &[u64], rate: u16) -> Result<Load, NoMemory>
+        requires dimension { self.now.n ≤ 12 }
+        ensures value { IfOk result (IsLoadOf self.now targets.now rate) }
+    {
+        let targets = Vec::from_slice(alloc, targets)?;
+        Ok(Load {
             dims: self.n as u8,
             pattern: self.pattern,
             background: self.background,
             rate,
             until: self.until,
             seed: self.seed,
-        };
-        let period = Period {
+            targets,
+        })
+    }
+
+    /// Which of its petit cycles are told of.
+    fn period(&self) -> Period
+        ensures value { result ≡ record {
+          skip = self.now.skip;
+          cycles = self.now.cycles;
+          counting = is_counted self.now.table;
+        } }
+    {
+        Period {
             skip: self.skip,
             cycles: self.cycles,
             counting: self.table.is_counted(),
-        };
-        let routing = self.routing(alloc, cuts)?;
-        measure(alloc, self.room as u8, &routing, &load, period)
+        }
     }
 
     /// How its machine routes.

@@ -8,9 +8,9 @@ use Rattle.std.proofs.lemmas.Bool.Decides.{nat_tests}
 use Rattle.lab_plot.specs.declared.axes.Axis.{Axis}
 use Rattle.lab_plot.specs.declared.panels.Panel.{Panel}
 use Rattle.lab_plot.specs.declared.points.Kind.{Kind}
-use Rattle.lab_plot.specs.declared.points.Kind.TheVariants.{Cycles, Messages, Loads, Compared}
+use Rattle.lab_plot.specs.declared.points.Kind.TheVariants.{Cycles, Messages, Loads, Latencies, Compared}
 use Rattle.lab_plot.specs.declared.points.Point.{Point}
-use Rattle.lab_plot.specs.declared.panels.Panel.TheVariants.{Moved, Held, Latency, Throughput, Bins, Columns}
+use Rattle.lab_plot.specs.declared.panels.Panel.TheVariants.{Moved, Held, Latency, Throughput, Bins, Took, Columns}
 use Rattle.lab_plot.specs.Axes.{place_along, axis_by, axis_of, highest, higher, in_columns, leftmost, rightmost}
 use Rattle.lab_plot.specs.Axes.{tick_step, whole_steps}
 use Rattle.lab_plot.specs.Pictures.{frame_of, right_unit}
@@ -130,6 +130,7 @@ some_right : (kind : Kind) → 0 < right_unit kind
 some_right Cycles = omega arith
 some_right Messages = omega arith
 some_right Loads = omega arith
+some_right Latencies = omega arith
 some_right Compared = omega arith
 
 some_upward : (panel : Panel) → 0 < unit_of panel
@@ -138,6 +139,7 @@ some_upward Held = omega arith
 some_upward Latency = omega arith
 some_upward Throughput = omega arith
 some_upward Bins = omega arith
+some_upward (Took count) = omega arith
 some_upward (Columns count) = omega arith
 
 -- a point of a panel's columns stands on it

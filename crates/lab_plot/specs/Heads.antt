@@ -1,13 +1,14 @@
 -- What stands before the panels of a picture. Ours.
 use Rattle.std.specs.Prelude.{ℕ, ◌/◌, List, ◌++◌, codes}
 use Rattle.lab_plot.specs.declared.points.Kind.{Kind}
-use Rattle.lab_plot.specs.declared.points.Kind.TheVariants.{Cycles, Messages, Loads, Compared}
+use Rattle.lab_plot.specs.declared.points.Kind.TheVariants.{Cycles, Messages, Loads, Latencies, Compared}
 use Rattle.lab_plot.specs.Pieces.{piece}
 
 abbrev pub title_of : Kind → List ℕ
 title_of Cycles = codes "What the router does in each petit cycle"
 title_of Messages = codes "How long messages took"
 title_of Loads = codes "Latency and throughput against load"
+title_of Latencies = codes "How long messages took under loads"
 title_of Compared = codes "Loads compared"
 
 -- how large a picture is

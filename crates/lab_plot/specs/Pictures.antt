@@ -4,9 +4,9 @@ use Rattle.std.specs.Prelude.{List, [], ◌∷◌, ◌++◌, codes}
 use Rattle.cm_bits.specs.Text.{lines_of}
 use Rattle.lab_plot.specs.declared.panels.Frame.{Frame}
 use Rattle.lab_plot.specs.declared.panels.Panel.{Panel}
-use Rattle.lab_plot.specs.declared.panels.Panel.TheVariants.{Moved, Held, Latency, Throughput, Bins, Columns}
+use Rattle.lab_plot.specs.declared.panels.Panel.TheVariants.{Moved, Held, Latency, Throughput, Bins, Took, Columns}
 use Rattle.lab_plot.specs.declared.points.Kind.{Kind}
-use Rattle.lab_plot.specs.declared.points.Kind.TheVariants.{Cycles, Messages, Loads, Compared}
+use Rattle.lab_plot.specs.declared.points.Kind.TheVariants.{Cycles, Messages, Loads, Latencies, Compared}
 use Rattle.lab_plot.specs.declared.points.Point.{Point}
 use Rattle.lab_plot.specs.declared.fault.PlotFault.{PlotFault}
 use Rattle.lab_plot.specs.declared.fault.PlotFault.TheVariants.{Empty, NoDelivery, NoPoint}
@@ -26,6 +26,7 @@ abbrev pub across_label : Kind → List ℕ
 across_label Cycles = codes "petit cycle"
 across_label Messages = codes "petit cycles"
 across_label Loads = codes "messages that a chip offers in a petit cycle"
+across_label Latencies = codes "petit cycles"
 across_label Compared = codes "messages that a chip offers in a petit cycle"
 
 -- numbers to the right are whole, but for rates
@@ -33,6 +34,7 @@ abbrev pub right_unit : Kind → ℕ
 right_unit Cycles = 1000
 right_unit Messages = 1000
 right_unit Loads = 1
+right_unit Latencies = 1000
 right_unit Compared = 1
 
 -- ---- the picture
@@ -42,6 +44,7 @@ abbrev pub has_stems : Kind → Bool
 has_stems Cycles = false
 has_stems Messages = true
 has_stems Loads = false
+has_stems Latencies = false
 has_stems Compared = false
 
 -- all panels of a picture have one axis to the right
@@ -60,6 +63,7 @@ panel_shown kind header x points panel i =
 abbrev pub panels_text : Kind → List ℕ → ℕ → List Point → List ℕ
 panels_text Cycles header x points = panel_shown Cycles header x points Moved 0 ++ panel_shown Cycles header x points Held 1
 panels_text Messages header x points = panel_shown Messages (codes "petit cycles,messages") x points Bins 0
+panels_text Latencies header x points = panel_shown Latencies header x points (Took (min 9 (width_of header - 1))) 0
 panels_text Compared header x points = panel_shown Compared header x points (Columns (min 9 (width_of header - 1))) 0
 panels_text Loads header x points = panel_shown Loads header x points Latency 0 ++ panel_shown Loads header x points Throughput 1
 
@@ -67,6 +71,7 @@ abbrev pub panel_count : Kind → ℕ
 panel_count Cycles = 2
 panel_count Messages = 1
 panel_count Loads = 2
+panel_count Latencies = 1
 panel_count Compared = 1
 
 -- a picture of these points, of which the first stands here to the right
@@ -79,12 +84,14 @@ abbrev pub axis_start : Kind → ℕ → ℕ
 axis_start Cycles x = x
 axis_start Messages x = 0
 axis_start Loads x = 0
+axis_start Latencies x = 0
 axis_start Compared x = 0
 
 -- the points that are drawn
 abbrev pub drawn_points : Kind → List Point → List Point
 drawn_points Cycles points = points
 drawn_points Loads points = points
+drawn_points Latencies points = points
 drawn_points Compared points = points
 drawn_points Messages points = bins points
 
@@ -93,6 +100,7 @@ abbrev pub nothing_of : Kind → PlotFault
 nothing_of Cycles = NoPoint
 nothing_of Messages = NoDelivery
 nothing_of Loads = NoPoint
+nothing_of Latencies = NoDelivery
 nothing_of Compared = NoPoint
 
 -- the picture of a table's points, if there are any

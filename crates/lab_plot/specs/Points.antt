@@ -1,32 +1,44 @@
 -- The points of a table: what its numbers say, to the right and upward. Ours.
-use Rattle.std.specs.Prelude.{ℕ, ◌+◌, ◌-◌, Bool, nat_eq, nat_le, if◌then◌else◌, Option, Some, None, Result, Ok, Err}
-use Rattle.std.specs.Prelude.{List, [], ◌∷◌, ◌++◌, codes}
+use Rattle.std.specs.Prelude.{ℕ, ◌+◌, ◌-◌, ◌||◌, Bool, nat_eq, nat_le, if◌then◌else◌, Option, Some, None, Result, Ok, Err}
+use Rattle.std.specs.Prelude.{List, [], ◌∷◌, ◌++◌, bytes_eq, codes}
 use Rattle.std.specs.List.{flat_map, range_with_len, starts_with}
 use Rattle.lab_plot.specs.Cells.{cell, has_words, cell_number, width_of}
 use Rattle.lab_plot.specs.declared.points.Kind.{Kind}
-use Rattle.lab_plot.specs.declared.points.Kind.TheVariants.{Cycles, Messages, Loads, Compared}
+use Rattle.lab_plot.specs.declared.points.Kind.TheVariants.{Cycles, Messages, Loads, Latencies, Compared}
 use Rattle.lab_plot.specs.declared.points.Point.{Point}
 use Rattle.lab_plot.specs.declared.fault.PlotFault.{PlotFault}
 use Rattle.lab_plot.specs.declared.fault.PlotFault.TheVariants.{Unknown, Wide}
 use Rattle.lab_plot.specs.Rows.{◌>>=◌, has_names, row_fault, value_unless}
 
+-- a first line of loads, and maybe of what is counted beside
+abbrev pub is_of_loads : List ℕ → Bool
+is_of_loads header =
+    has_names header (codes "rate,offered,taken,delivered,throughput,mean,p95,greatest,deepest")
+    || has_names header
+    (codes "rate,offered,taken,delivered,throughput,mean,p95,greatest,deepest,crossed,referred,refused,quiet")
+
 -- a first line of rates
 abbrev pub is_of_rates : List ℕ → Bool
 is_of_rates header = starts_with nat_eq (cell header 0) (codes "rate")
 
--- beside rates at most nine columns are compared
-abbrev pub compared : ℕ → ℕ → Result Kind PlotFault
-compared number columns = if nat_le columns 10 then Ok Compared else Err (Wide number columns)
+-- a first line of latencies
+abbrev pub is_of_latencies : List ℕ → Bool
+is_of_latencies header = bytes_eq (cell header 0) (codes "latency")
+
+-- a table of this kind, of which at most nine columns behind the first are drawn
+abbrev pub drawn_if_few : Kind → ℕ → ℕ → Result Kind PlotFault
+drawn_if_few kind number columns = if nat_le columns 10 then Ok kind else Err (Wide number columns)
 
 -- which table a text is, by its first line that is not blank, which has this number: of petit cycles, of messages, of
--- loads, of loads that are compared
+-- loads, of how long messages took under loads, of loads that are compared
 abbrev pub table_kind : ℕ → List ℕ → Result Kind PlotFault
 table_kind number header =
     if has_names header (codes "cycle,taken,delivered,referred,standing,full,asking") then Ok Cycles
     else (if has_names header (codes "chip,processor,taken,to chip,to processor,delivered,crossed,referred")
     then Ok Messages
-    else (if has_names header (codes "rate,offered,taken,delivered,throughput,mean,p95,greatest,deepest")
-    then Ok Loads else (if is_of_rates header then compared number (width_of header) else Err (Unknown number))))
+    else (if is_of_loads header then Ok Loads
+    else (if is_of_latencies header then drawn_if_few Latencies number (width_of header)
+    else (if is_of_rates header then drawn_if_few Compared number (width_of header) else Err (Unknown number)))))
 
 -- a point of a column, where two numbers are there
 abbrev pub point_of : ℕ → Option ℕ → Option ℕ → List Point
@@ -53,6 +65,7 @@ latency_point (Some taken) (Some delivered) = record { column = 1; x = latency_i
 abbrev pub row_points : Kind → ℕ → List ℕ → List Point
 row_points Cycles columns line = flat_map (point_in line) (range_with_len 1 (columns - 1))
 row_points Loads columns line = flat_map (point_in line) (range_with_len 1 (columns - 1))
+row_points Latencies columns line = flat_map (point_in line) (range_with_len 1 (columns - 1))
 row_points Compared columns line = flat_map (point_in line) (range_with_len 1 (columns - 1))
 row_points Messages columns line = latency_point (cell_number (cell line 2)) (cell_number (cell line 5))
 

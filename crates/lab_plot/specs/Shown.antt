@@ -3,7 +3,7 @@ use Rattle.std.specs.Prelude.{ℕ, ◌<◌, List, codes}
 use Rattle.std.specs.List.{after_first}
 use Rattle.lab_plot.specs.declared.panels.Frame.{Frame}
 use Rattle.lab_plot.specs.declared.panels.Panel.{Panel}
-use Rattle.lab_plot.specs.declared.panels.Panel.TheVariants.{Moved, Held, Latency, Throughput, Bins, Columns}
+use Rattle.lab_plot.specs.declared.panels.Panel.TheVariants.{Moved, Held, Latency, Throughput, Bins, Took, Columns}
 use Rattle.lab_plot.specs.Cells.{cell, is_colon}
 
 -- its axes go somewhere
@@ -18,6 +18,7 @@ label_of Held header = codes "routers, processors"
 label_of Latency header = codes "latency in petit cycles"
 label_of Throughput header = codes "throughput of a chip"
 label_of Bins header = codes "messages"
+label_of (Took count) header = codes "messages"
 label_of (Columns count) header = after_first is_colon (cell header 0)
 
 -- the first column that it shows, and how many
@@ -27,6 +28,7 @@ first_column Held = 5
 first_column Latency = 5
 first_column Throughput = 4
 first_column Bins = 1
+first_column (Took count) = 1
 first_column (Columns count) = 1
 
 abbrev pub columns_shown : Panel → ℕ
@@ -35,6 +37,7 @@ columns_shown Held = 2
 columns_shown Latency = 2
 columns_shown Throughput = 1
 columns_shown Bins = 1
+columns_shown (Took count) = count
 columns_shown (Columns count) = count
 
 -- ticks upward stand at whole numbers; at thousandths, where numbers are not whole
@@ -44,4 +47,5 @@ unit_of Held = 1000
 unit_of Latency = 1
 unit_of Throughput = 1
 unit_of Bins = 1000
+unit_of (Took count) = 1000
 unit_of (Columns count) = 1

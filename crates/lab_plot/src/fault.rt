@@ -11,8 +11,8 @@ pub enum PlotFault {
     /// The first line that is not blank.
     #[error("line {0}: no table of cm1lab study or load, no route of cm1lab route, nor a line that begins with rate")]
     Unknown(u64),
-    /// A first line of rates, and how many columns it has.
-    #[error("line {0}: {1} names, where rate and at most nine more are compared")]
+    /// A first line of rates or latencies, and how many columns it has.
+    #[error("line {0}: {1} names, where the first and at most nine more are drawn")]
     Wide(u64, usize),
     /// A line that has so many cells, and how many columns the table has.
     #[error("line {0}: {2} cells are wanted, as in the first line, not {1}")]

@@ -56,6 +56,12 @@ pub fn first_lines_tell_tables()
     ensures blanks { table_kind 1 (codes "cycle, taken,delivered,referred,standing,full,asking" ++ 13 ∷ [])
         ≡ Ok kind.Cycles }
     ensures compared { table_kind 1 (codes "rate:mean latency,who came first,the oldest") ≡ Ok kind.Compared }
+    ensures loads { table_kind 1 (codes "rate,offered,taken,delivered,throughput,mean,p95,greatest,deepest")
+        ≡ Ok kind.Loads }
+    ensures crossings { table_kind 1
+        (codes "rate,offered,taken,delivered,throughput,mean,p95,greatest,deepest,crossed,referred,refused,quiet")
+        ≡ Ok kind.Loads }
+    ensures latencies { table_kind 1 (codes "latency,rate 0.50") ≡ Ok kind.Latencies }
     ensures ten { table_kind 1 (codes "rate,a,b,c,d,e,f,g,h,i") ≡ Ok kind.Compared }
     ensures eleven { table_kind 2 (codes "rate,a,b,c,d,e,f,g,h,i,j") ≡ Err (fault.Wide 2 11) }
     ensures unknown { table_kind 3 (codes "cycle,taken") ≡ Err (fault.Unknown 3) }

@@ -32,6 +32,8 @@ pub(crate) enum Panel {
     Throughput,
     /// How many messages took how long.
     Bins,
+    /// The same under loads of so many rates.
+    Took(usize),
     /// So many columns that are compared.
     Columns(usize),
 }
@@ -42,7 +44,7 @@ impl Panel {
         ensures value { result.now ≡ label_of self header.now }
     {
         match self {
-            Panel::Moved | Panel::Bins => b"messages",
+            Panel::Moved | Panel::Bins | Panel::Took(_) => b"messages",
             Panel::Held => b"routers, processors",
             Panel::Latency => b"latency in petit cycles",
             Panel::Throughput => b"throughput of a chip",
@@ -56,7 +58,7 @@ impl Panel {
         ensures within { result ≤ 5 }
     {
         match self {
-            Panel::Moved | Panel::Bins | Panel::Columns(_) => 1,
+            Panel::Moved | Panel::Bins | Panel::Took(_) | Panel::Columns(_) => 1,
             Panel::Held | Panel::Latency => 5,
             Panel::Throughput => 4,
         }
@@ -70,7 +72,7 @@ impl Panel {
             Panel::Moved => 4,
             Panel::Held | Panel::Latency => 2,
             Panel::Throughput | Panel::Bins => 1,
-            Panel::Columns(count) => count,
+            Panel::Took(count) | Panel::Columns(count) => count,
         }
     }
 
@@ -80,7 +82,7 @@ impl Panel {
         ensures some { 0 < result }
     {
         match self {
-            Panel::Moved | Panel::Held | Panel::Bins => 1000,
+            Panel::Moved | Panel::Held | Panel::Bins | Panel::Took(_) => 1000,
             Panel::Latency | Panel::Throughput | Panel::Columns(_) => 1,
         }
     }

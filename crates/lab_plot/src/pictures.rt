@@ -99,7 +99,7 @@ fn nothing_of(kind: Kind) -> PlotFault
     ensures value { result ≡ nothing_of kind }
 {
     match kind {
-        Kind::Messages => PlotFault::NoDelivery,
+        Kind::Messages | Kind::Latencies => PlotFault::NoDelivery,
         Kind::Cycles | Kind::Loads | Kind::Compared => PlotFault::NoPoint,
     }
 }
@@ -110,7 +110,7 @@ fn start_of(kind: Kind, x: u64) -> u64
 {
     match kind {
         Kind::Cycles => x,
-        Kind::Messages | Kind::Loads | Kind::Compared => 0,
+        Kind::Messages | Kind::Loads | Kind::Latencies | Kind::Compared => 0,
     }
 }
 
@@ -119,7 +119,7 @@ fn drawn_points(alloc: Global, kind: Kind, points: Vec<Point>) -> Result<Vec<Poi
     ensures value { IfOk result (λ drawn. drawn.items ≡ drawn_points kind points.items) }
 {
     match kind {
-        Kind::Cycles | Kind::Loads | Kind::Compared => Ok(points),
+        Kind::Cycles | Kind::Loads | Kind::Latencies | Kind::Compared => Ok(points),
         Kind::Messages => bins(alloc, &points),
     }
 }
@@ -154,6 +154,10 @@ fn drawing(
             push_shown(&mut text, kind, &table, start, Panel::Latency, 0)?;
             push_shown(&mut text, kind, &table, start, Panel::Throughput, 1)?;
         }
+        Kind::Latencies => {
+            let panel = Panel::Took(width(header).saturating_sub(1).min(9));
+            push_shown(&mut text, kind, &table, start, panel, 0)?;
+        }
         Kind::Compared => {
             let panel = Panel::Columns(width(header).saturating_sub(1).min(9));
             push_shown(&mut text, kind, &table, start, panel, 0)?;
@@ -170,7 +174,7 @@ fn panel_count(kind: Kind) -> u32
 {
     match kind {
         Kind::Cycles | Kind::Loads => 2,
-        Kind::Messages | Kind::Compared => 1,
+        Kind::Messages | Kind::Latencies | Kind::Compared => 1,
     }
 }
 
@@ -259,7 +263,7 @@ fn has_stems(kind: Kind) -> bool
 {
     match kind {
         Kind::Messages => true,
-        Kind::Cycles | Kind::Loads | Kind::Compared => false,
+        Kind::Cycles | Kind::Loads | Kind::Latencies | Kind::Compared => false,
     }
 }
 
@@ -270,6 +274,7 @@ fn title_of(kind: Kind) -> &'static [u8]
         Kind::Cycles => b"What the router does in each petit cycle",
         Kind::Messages => b"How long messages took",
         Kind::Loads => b"Latency and throughput against load",
+        Kind::Latencies => b"How long messages took under loads",
         Kind::Compared => b"Loads compared",
     }
 }
@@ -280,7 +285,7 @@ fn across_of(kind: Kind) -> &'static [u8]
 {
     match kind {
         Kind::Cycles => b"petit cycle",
-        Kind::Messages => b"petit cycles",
+        Kind::Messages | Kind::Latencies => b"petit cycles",
         Kind::Loads | Kind::Compared => b"messages that a chip offers in a petit cycle",
     }
 }
@@ -291,7 +296,7 @@ fn right_unit(kind: Kind) -> u64
     ensures some { 0 < result }
 {
     match kind {
-        Kind::Cycles | Kind::Messages => 1000,
+        Kind::Cycles | Kind::Messages | Kind::Latencies => 1000,
         Kind::Loads | Kind::Compared => 1,
     }
 }

@@ -4,9 +4,8 @@ ghost use Rattle.std.specs.Prelude.{◌≡◌, ◌≢◌, ◌++◌, ◌∷◌, [
 ghost use Rattle.std.specs.List.{flat_map, range_with_len};
 ghost use Rattle.cm_bits.specs.Text.{lines_left};
 ghost use Rattle.lab_plot.specs.Cells.{cell, cell_number};
-ghost use Rattle.lab_plot.specs.Points.{is_of_rates, compared, table_kind, point_of, point_in, latency_point};
-ghost use Rattle.lab_plot.specs.Points.{row_points};
-ghost use Rattle.lab_plot.specs.Points.{points_with, points_after};
+ghost use Rattle.lab_plot.specs.Points.{is_of_loads, is_of_latencies, is_of_rates, drawn_if_few, table_kind};
+ghost use Rattle.lab_plot.specs.Points.{point_of, point_in, latency_point, row_points, points_with, points_after};
 
 use crate::cells::{cell, has_words, number_at, width};
 use crate::fault::PlotFault;
@@ -23,6 +22,8 @@ pub(crate) enum Kind {
     Messages,
     /// Of loads.
     Loads,
+    /// Of how long messages took under loads.
+    Latencies,
     /// Of loads that are compared: rates, and columns of any names.
     Compared,
 }
@@ -51,16 +52,29 @@ pub(crate) fn kind_of(number: u64, header: &[u8]) -> Result<Kind, PlotFault>
     ) {
         return Ok(Kind::Messages);
     }
-    if has_names(
-        header,
-        b"rate,offered,taken,delivered,throughput,mean,p95,greatest,deepest",
-    ) {
+    if is_of_loads(header) {
         return Ok(Kind::Loads);
     }
+    if is_of_latencies(header) {
+        return drawn_if_few(Kind::Latencies, number, width(header));
+    }
     if is_of_rates(header) {
-        return compared(number, width(header));
+        return drawn_if_few(Kind::Compared, number, width(header));
     }
     Err(PlotFault::Unknown(number))
+}
+
+/// Whether it has the names of loads, and maybe those of what is counted beside.
+fn is_of_loads(header: &[u8]) -> bool
+    ensures value { result ≡ is_of_loads header.now }
+{
+    has_names(
+        header,
+        b"rate,offered,taken,delivered,throughput,mean,p95,greatest,deepest",
+    ) || has_names(
+        header,
+        b"rate,offered,taken,delivered,throughput,mean,p95,greatest,deepest,crossed,referred,refused,quiet",
+    )
 }
 
 /// Whether it begins with rates.
@@ -70,12 +84,19 @@ fn is_of_rates(header: &[u8]) -> bool
     cell(header, 0).starts_with(b"rate")
 }
 
-/// Beside rates at most nine columns are compared.
-fn compared(number: u64, columns: usize) -> Result<Kind, PlotFault>
-    ensures value { result ≡ compared number columns }
+/// Whether it begins with latencies.
+fn is_of_latencies(header: &[u8]) -> bool
+    ensures value { result ≡ is_of_latencies header.now }
+{
+    cell(header, 0) == b"latency"
+}
+
+/// A table of this kind, of which at most nine columns behind the first are drawn.
+fn drawn_if_few(kind: Kind, number: u64, columns: usize) -> Result<Kind, PlotFault>
+    ensures value { result ≡ drawn_if_few kind number columns }
 {
     if columns <= 10 {
-        Ok(Kind::Compared)
+        Ok(kind)
     } else {
         Err(PlotFault::Wide(number, columns))
     }
@@ -143,7 +164,9 @@ fn push_row(
     ensures ok { OnOk result (points.new.items ≡ points.old.items ++ row_points kind columns line.now) }
 {
     match kind {
-        Kind::Cycles | Kind::Loads | Kind::Compared => push_columns(points, columns, line),
+        Kind::Cycles | Kind::Loads | Kind::Latencies | Kind::Compared => {
+            push_columns(points, columns, line)
+        }
         Kind::Messages => push_message(points, number_at(line, 2), number_at(line, 5)),
     }
 }

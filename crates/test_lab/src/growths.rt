@@ -9,7 +9,10 @@ use lab_data::{
 };
 use lab_fresh::{FreshFault, WireEnd, cut_wires, fresh};
 use lab_front::{FrontFault, ImageFault, SessionFault, front_image};
-use lab_load::{Figures, LoadFault, LoadTable, Pattern, Spreads, Trial, spread_table, table};
+use lab_load::{
+    Figures, Latencies, LoadFault, LoadTable, Pattern, Spreads, Trial, latency_table, spread_table,
+    table,
+};
 use lab_source::{AsmKind, SourceKind, expand};
 use std::alloc::Global;
 use test_generators::{Call, first_not_so};
@@ -71,6 +74,28 @@ static LOAD: &str =
 static MEANS: &str = "rate,throughput,throughput +-,mean,mean +-,p95,p95 +-,greatest,greatest +-\n\
     2.00,0.703,0.094,6.05,0.52,28.00,2.48,32.66,2.86\n";
 
+/// The processors of two chips send to the places in `TARGETS`.
+static SHUFFLED: Trial = Trial {
+    n: 1,
+    room: 3,
+    rule: 0,
+    pattern: Pattern::Own,
+    background: 0,
+    until: 8,
+    seed: 9,
+    cycles: 8,
+    skip: 0,
+    seeds: 1,
+    table: LoadTable::Latencies,
+};
+
+static TARGETS: [u64; 32] = [
+    1, 3, 5, 7, 9, 11, 13, 15, 17, 19, 21, 23, 25, 27, 29, 31, 0, 2, 4, 6, 8, 10, 12, 14, 16, 18,
+    20, 22, 24, 26, 28, 30,
+];
+
+static TOOK: &str = "latency,rate 6.00\n1,16\n2,2\n3,1\n4,2\n5,2\n";
+
 /// The bytes before those of the chips of a blank machine of two chips, whose wire is cut.
 static CUT: [u8; 21] = [
     0x43, 0x4d, 0x31, 0x49, 2, 1, 15, 0, 0, 0, 0, 0, 0, 0, 0, 0, 0, 1, 0, 0, 0,
@@ -131,12 +156,13 @@ enum Grown {
     Messages,
     Source,
     Load,
+    Latencies,
     Blank,
     Front,
     ForAll,
 }
 
-static GROWN: [Grown; 12] = [
+static GROWN: [Grown; 13] = [
     Grown::Read,
     Grown::Numbers,
     Grown::Picture,
@@ -146,6 +172,7 @@ static GROWN: [Grown; 12] = [
     Grown::Messages,
     Grown::Source,
     Grown::Load,
+    Grown::Latencies,
     Grown::Blank,
     Grown::Front,
     Grown::ForAll,
@@ -163,6 +190,7 @@ impl Call for Grown {
             Grown::Messages => Some(tells(alloc, Table::Messages, MESSAGES)),
             Grown::Source => Some(is_expanded(alloc)),
             Grown::Load => is_measured(alloc),
+            Grown::Latencies => is_timed(alloc),
             Grown::Blank => is_blank(alloc),
             Grown::Front => is_answered(alloc, &LINES),
             Grown::ForAll => is_answered(alloc, &FOR_ALL),
@@ -291,8 +319,8 @@ fn is_expanded(alloc: Global) -> bool {
 /// Whether a load has its line.
 fn is_measured(alloc: Global) -> Option<bool> {
     let wire = [WireEnd { chip: 0, dim: 0 }];
-    let figures = match TRIAL.figures(alloc, &wire, 200) {
-        Err(LoadFault::Memory) => TRIAL.figures(alloc, &wire, 200).ok()?,
+    let figures = match TRIAL.figures(alloc, &[], &wire, 200) {
+        Err(LoadFault::Memory) => TRIAL.figures(alloc, &[], &wire, 200).ok()?,
         figures => figures.ok()?,
     };
     let loads: [Figures; 1] = [figures];
@@ -300,8 +328,8 @@ fn is_measured(alloc: Global) -> Option<bool> {
         Err(NoMemory) => table(alloc, &loads).ok()?,
         Ok(told) => told,
     };
-    let means = match TRIAL.spreads(alloc, &wire, 200) {
-        Err(LoadFault::Memory) => TRIAL.spreads(alloc, &wire, 200).ok()?,
+    let means = match TRIAL.spreads(alloc, &[], &wire, 200) {
+        Err(LoadFault::Memory) => TRIAL.spreads(alloc, &[], &wire, 200).ok()?,
         means => means.ok()?,
     };
     let rates: [Spreads; 1] = [means];
@@ -310,6 +338,20 @@ fn is_measured(alloc: Global) -> Option<bool> {
         Ok(spread) => spread,
     };
     Some(told.as_slice() == LOAD.as_bytes() && spread.as_slice() == MEANS.as_bytes())
+}
+
+/// Whether a load by places of its own has its table of latencies.
+fn is_timed(alloc: Global) -> Option<bool> {
+    let latencies = match SHUFFLED.latencies(alloc, &TARGETS, &[], 600) {
+        Err(LoadFault::Memory) => SHUFFLED.latencies(alloc, &TARGETS, &[], 600).ok()?,
+        latencies => latencies.ok()?,
+    };
+    let loads: [Latencies; 1] = [latencies];
+    let told = match latency_table(alloc, &loads) {
+        Err(NoMemory) => latency_table(alloc, &loads).ok()?,
+        Ok(told) => told,
+    };
+    Some(told.as_slice() == TOOK.as_bytes())
 }
 
 /// Whether a blank machine has its bytes, and 35 zero bytes for each chip.

@@ -13,7 +13,7 @@ struct Row {
 }
 
 // Places are counted by hand: a panel is 5600 wide and 2400 high, and a tick is 1, 2 or 5 with zeros behind.
-static ROWS: [Row; 11] = [
+static ROWS: [Row; 12] = [
     // Petit cycles 10 to 14, a tick for each; up to 4 messages, a tick for each.
     Row {
         table: "cycle,taken,delivered,referred,standing,full,asking
@@ -83,6 +83,20 @@ static ROWS: [Row; 11] = [
             ">petit cycles</text>\n",
             "points=' 0,2400 0,2400 0,2400 1866,2400 1866,1200 1866,2400 3733,2400 3733,2400 3733,2400 5600,2400 5600,0 5600,2400'/>\n",
             ">messages</text>\n</g>\n</svg>\n",
+        ],
+    },
+    // Under one load two messages took one petit cycle; under another one took one, and four took two.
+    Row {
+        table: "latency,rate 0.50,rate 1.50\n1,2,1\n2,0,4\n",
+        parts: &[
+            " height='390' viewBox='0 0 8300 3900' ",
+            ">How long messages took under loads</text>\n",
+            ">petit cycles</text>\n",
+            ">messages</text>\n",
+            "points=' 2800,1200 5600,2400'/>\n",
+            ">rate 0.50</text>\n",
+            "points=' 2800,1800 5600,0'/>\n",
+            ">rate 1.50</text>\n</g>\n</svg>\n",
         ],
     },
     // Loads that are compared, with what is written upward, and names that XML has to have otherwise.

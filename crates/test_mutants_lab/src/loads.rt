@@ -28,15 +28,16 @@ pub fn fault(trial: &Trial, cuts: &[WireEnd], rates: &[u16]) -> Option<LoadFault
 pub fn figures(
     trial: &Trial,
     alloc: Global,
+    targets: &[u64],
     cuts: &[WireEnd],
     rate: u16,
 ) -> Result<Figures, LoadFault>
-    ensures value { IfOk result (λ figures. AreFiguresOf trial.now cuts.now rate figures) }
+    ensures value { IfOk result (λ figures. AreFiguresOf trial.now targets.now cuts.now rate figures) }
     ensures accepted { IfOk result (λ figures. trial_fault trial.now cuts.now (rate ∷ []) ≡ None) }
     ensures refused { IfErr result (λ fault. fault ≢ LoadFault.Memory
         → trial_fault trial.now cuts.now (rate ∷ []) ≡ Some fault) }
 {
-    trial.figures(alloc, cuts, rate)
+    trial.figures(alloc, targets, cuts, rate)
 }
 
 /// What `lab_load::table` promises, word for word.

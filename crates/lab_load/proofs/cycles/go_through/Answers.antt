@@ -3,8 +3,8 @@ use Rattle.cm_router.specs.Routes.{routing_of}
 use Rattle.lab_load.specs.declared.offers.Load.{Load}
 use Rattle.lab_load.specs.Loaded.{Loaded, after_one, after_cycles}
 use Rattle.lab_load.specs.Kept.{loaded_of}
-use Rattle.lab_load.specs.declared.counts.Counts.{Counts}
-use Rattle.lab_load.specs.Counts.{counts_after_cycles}
+use Rattle.lab_counts.specs.declared.counts.Counts.{Counts}
+use Rattle.lab_load.specs.Counted.{counts_after_cycles}
 use Rattle.lab_load.proofs.Counting.{none_counted, one_more_counted}
 use Rattle.lab_load.proofs.cycles.go_through.Goals as goal
 

@@ -1,7 +1,7 @@
 use Rattle.std.proofs.Common.{◌≡◌, ◌-◌, ◌*◌, ◌≤◌, ◌^◌}
 use Rattle.cm_router.specs.Routes.{routing_of}
 use Rattle.cm_petit.specs.Routers.{AreRouters}
-use Rattle.lab_load.specs.Counts.{counts_after_cycles}
+use Rattle.lab_load.specs.Counted.{counts_after_cycles}
 use Rattle.lab_load.specs.Loaded.{after_cycles}
 use Rattle.lab_load.specs.Kept.{loaded_of}
 use Rattle.lab_load.proofs.cycles.go_through.Given as goal

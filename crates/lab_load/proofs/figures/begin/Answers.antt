@@ -5,7 +5,7 @@ use Rattle.cm_router.specs.Routes.{routing_of}
 use Rattle.lab_load.specs.Offers.{places}
 use Rattle.lab_load.specs.Loaded.{Loaded, unloaded, loaded_for}
 use Rattle.lab_load.specs.Kept.{loaded_of}
-use Rattle.lab_load.specs.Counts.{counts_for}
+use Rattle.lab_load.specs.Counted.{counts_for}
 use Rattle.lab_load.proofs.Counting.{counted_anew}
 use Rattle.lab_load.proofs.Beginning.{begins, nothing_told, passed, routers}
 use Rattle.lab_load.proofs.figures.begin.Goals as goal

@@ -1,5 +1,5 @@
 use Rattle.cm_router.specs.Routes.{routing_of}
-use Rattle.lab_load.specs.Counts.{counts_for}
+use Rattle.lab_load.specs.Counted.{counts_for}
 use Rattle.lab_load.specs.Loaded.{loaded_for}
 use Rattle.lab_load.proofs.figures.measure.Goals as goal
 

@@ -4,4 +4,4 @@ use Rattle.lab_load.proofs.laws.patterns_aim_so.Goals as goal
 
 pub returns : goal.returns
 unfolding reverse_bits_onto
-returns c = record { halves = refl; long_half = refl; turned = refl; hot = refl }
+returns c = record { halves = refl; long_half = refl; turned = refl; hot = refl; own = refl; behind = refl }

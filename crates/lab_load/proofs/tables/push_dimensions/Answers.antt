@@ -1,6 +1,6 @@
 use Rattle.std.proofs.Common.{◌≡◌, ℕ, List, get_or, ap, ◌∙◌, ◌++◌}
-use Rattle.lab_load.specs.declared.crossings.Crossings.{Crossings}
-use Rattle.lab_load.specs.Crossings.{no_crossings}
+use Rattle.lab_counts.specs.declared.crossings.Crossings.{Crossings}
+use Rattle.lab_counts.specs.Crossings.{no_crossings}
 use Rattle.lab_load.specs.Tables.{dimension_line}
 use Rattle.lab_load.proofs.Adding.{number_more}
 use Rattle.lab_load.proofs.tables.push_dimensions.Goals as goal

@@ -1,6 +1,6 @@
 use Rattle.std.proofs.Common.{◌≡◌, ◌++◌, get_or}
 use Rattle.std.specs.List.{flat_map, range_with_len}
-use Rattle.lab_load.specs.Crossings.{no_crossings}
+use Rattle.lab_counts.specs.Crossings.{no_crossings}
 use Rattle.lab_load.specs.Tables.{dimension_line}
 use Rattle.lab_load.proofs.tables.push_dimensions.Given as goal
 

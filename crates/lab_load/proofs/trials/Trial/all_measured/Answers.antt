@@ -14,10 +14,11 @@ loop-k-preserved c =
     record {
       count = ap length c.in_ok-push_load.ensures.ok
           ∙ (length_push before c.in_ok-figures.figures ∙ ap (λ (n : ℕ). n + 1) c.loop-k.invariant.count);
-      each = each_pushed (λ (k : ℕ) (f : Figures). AreFiguresOf (seeded trial k) c.args.cuts.now c.args.rate f)
+      each = each_pushed
+          (λ (k : ℕ) (f : Figures). AreFiguresOf (seeded trial k) c.args.targets.now c.args.cuts.now c.args.rate f)
           before c.push_load.new.loads.items c.in_ok-figures.figures c.loop-k.k c.loop-k.invariant.count
           c.in_ok-push_load.ensures.ok
-          (subst (λ (t : Trial). AreFiguresOf t c.args.cuts.now c.args.rate c.in_ok-figures.figures)
+          (subst (λ (t : Trial). AreFiguresOf t c.args.targets.now c.args.cuts.now c.args.rate c.in_ok-figures.figures)
           c.seeded.ensures.value c.in_ok-figures.ensures.value)
           c.loop-k.invariant.each;
     }

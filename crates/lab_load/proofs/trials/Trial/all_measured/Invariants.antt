@@ -9,5 +9,5 @@ abbrev pub invariant-loop-k : goal.invariant-loop-k
 invariant-loop-k l = record {
   count : length l.loads.items ≡ l.k;
   each : (k : ℕ) (d : Figures) → k < length l.loads.items
-      → AreFiguresOf (seeded l.self k) l.cuts l.rate (get_or l.loads.items k d);
+      → AreFiguresOf (seeded l.self k) l.targets l.cuts l.rate (get_or l.loads.items k d);
 }

@@ -1,0 +1,35 @@
+-- Crossings that are counted in a petit cycle, dimension after dimension.
+use Rattle.std.proofs.Common.{◌≡◌, ℕ, zero, suc, ◌+◌, ◌^◌, List, get_or, set, refl, sym, ap, ◌∙◌, arith, add-one}
+use Rattle.cm_model.specs.declared.message.Message.{Message}
+use Rattle.cm_model.specs.Wiring.{Routing}
+use Rattle.cm_model.specs.Machine.{Machine}
+use Rattle.cm_model.specs.Buffers.{buffers_after_dimension, machine_after_injection, machine_after_dimension}
+use Rattle.cm_model.proofs.Cycles.{after_crossings-more}
+use Rattle.cm_petit.proofs.Cycling.{under_way, crossed_more}
+use Rattle.lab_counts.specs.declared.crossings.Crossings.{Crossings}
+use Rattle.lab_counts.specs.Crossings.{crossings_added, no_crossings, crossings_to, machine_before, crossings_through}
+
+pub machine_before-is : (n cap : ℕ) (m : Machine) (d : ℕ) → machine_before n cap m d ≡ under_way n cap m d
+unfolding machine_before
+machine_before-is n cap m zero = refl
+machine_before-is n cap m (suc d) =
+    ap (machine_after_dimension n cap d) (machine_before-is n cap m d)
+    ∙ (sym (after_crossings-more n cap (machine_after_injection n cap m) d)
+    ∙ ap (under_way n cap m) (add-one d))
+
+-- one dimension more
+pub before_more : (n cap : ℕ) (m : Machine) (d : ℕ) {now : Machine} {next : List (List Message)}
+    → now ≡ machine_before n cap m d → next ≡ buffers_after_dimension m.routing n cap d now.buffers
+    → record now { buffers = next } ≡ machine_before n cap m (d + 1)
+before_more n cap m d was is =
+    crossed_more n cap m d (was ∙ machine_before-is n cap m d) is ∙ sym (machine_before-is n cap m (d + 1))
+
+pub through_more : (n cap : ℕ) (m : Machine) (dims old : List Crossings) (d : ℕ) (entry more : Crossings)
+    (buffers : List (List Message)) → old ≡ crossings_through n cap m dims d → entry ≡ get_or old d no_crossings
+    → more ≡ crossings_to m.routing cap d buffers (2 ^ n) → buffers ≡ (machine_before n cap m d).buffers
+    → set old d (crossings_added entry more) ≡ crossings_through n cap m dims (d + 1)
+unfolding crossings_through
+through_more n cap m dims old d entry more buffers was reads counts stand =
+    (λ i. set old d (crossings_added (reads i) (counts i)))
+    ∙ ((λ i. set (was i) d (crossings_added (get_or (was i) d no_crossings) (crossings_to m.routing cap d (stand i) (2 ^ n))))
+    ∙ ap (λ (k : ℕ). crossings_through n cap m dims k) (sym (add-one d)))

@@ -1,0 +1,169 @@
+//! What a petit cycle does in each dimension.
+
+ghost use Rattle.std.specs.Prelude.{◌≡◌, ◌+◌, ◌^◌, ◌<◌, ◌≤◌, length};
+ghost use Rattle.std.specs.List.{All, count_by};
+ghost use Rattle.cm_model.specs.declared.act.Act.TheVariants as act;
+ghost use Rattle.cm_model.specs.Router.{has_to_cross};
+ghost use Rattle.cm_model.specs.Buffers.{after_act};
+ghost use Rattle.cm_router.specs.Routes.{routing_of};
+ghost use Rattle.cm_router.specs.Logs.{log_rooms_of, HaveLogRoom};
+ghost use Rattle.cm_petit.specs.Routers.{machine_from_logs, AreRouters};
+ghost use Rattle.lab_counts.specs.Crossings.{crossings_added, in_all, was_referred, crossings_at, crossings_to};
+ghost use Rattle.lab_counts.specs.Crossings.{crossings_through};
+
+use cm_element::Run;
+use cm_message::{Event, Message, Rule};
+use cm_petit::{deliver, inject};
+use cm_router::{Node, Routing};
+use cm_router_engine::{RouterEngine, Shape};
+
+/// What messages did in a dimension.
+#[derive(Clone, Copy, Debug, PartialEq, Eq)]
+pub struct Crossings {
+    /// How often one crossed it.
+    pub crossed: u64,
+    /// How often one did that had not to.
+    pub referred: u64,
+    /// How often one had to cross it, and stayed.
+    pub refused: u64,
+}
+
+impl Crossings {
+    /// None.
+    pub(crate) const NONE: Crossings = Crossings {
+        crossed: 0,
+        referred: 0,
+        refused: 0,
+    };
+
+    /// Those of both.
+    fn added(self, more: Crossings) -> Crossings
+        ensures value { result ≡ crossings_added self more }
+    {
+        Crossings {
+            crossed: self.crossed.saturating_add(more.crossed),
+            referred: self.referred.saturating_add(more.referred),
+            refused: self.refused.saturating_add(more.refused),
+        }
+    }
+}
+
+/// Those of all dimensions.
+pub fn in_all(dims: &[Crossings]) -> Crossings
+    ensures value { result ≡ in_all dims.now }
+{
+    let mut all = Crossings::NONE;
+    for more in dims {
+        all = all.added(*more);
+    }
+    all
+}
+
+/// One petit cycle, as `cycle` of cm_petit is one, of which the crossings are counted.
+pub(crate) fn counted_cycle(
+    sizes: Shape,
+    routing: &Routing,
+    run: &mut Run,
+    crossing: &mut RouterEngine,
+    logs: &mut [Vec<Event>],
+    clock: &mut u64,
+    dims: &mut [Crossings; 12],
+)
+    requires cube { routing.now.cuts.dims ≡ sizes.dims }
+    requires routers { AreRouters (2 ^ sizes.dims) sizes.room run.old crossing.old.buffers logs.old }
+    requires log_room { HaveLogRoom (4 + sizes.room) (log_rooms_of logs.old) }
+    requires counter { clock.old < 2 ^ 63 }
+    ensures value { machine_from_logs (routing_of routing.now) run.new crossing.new.buffers logs.new clock.new
+        ≡ after_act sizes.dims sizes.room
+        (machine_from_logs (routing_of routing.now) run.old crossing.old.buffers logs.old clock.old) act.Cycle }
+    ensures counter { clock.new ≡ clock.old + 1 }
+    ensures routers { AreRouters (2 ^ sizes.dims) sizes.room run.new crossing.new.buffers logs.new }
+    ensures crossings { dims.new ≡ crossings_through sizes.dims sizes.room
+        (machine_from_logs (routing_of routing.now) run.old crossing.old.buffers logs.old clock.old) dims.old
+        sizes.dims }
+{
+    inject(sizes, 0, run, crossing, logs, *clock);
+    *clock += 1;
+    for dim in 0..sizes.dims {
+        let more = crossings_over(sizes, routing, crossing, dim);
+        let d = usize::from(dim);
+        dims[d] = dims[d].added(more);
+        crossing.cross(sizes, sizes.dims, routing, 0, dim);
+    }
+    deliver(sizes, 0, run, crossing, logs);
+}
+
+/// Those of all chips in a dimension, before it is crossed.
+fn crossings_over(
+    sizes: Shape,
+    routing: &Routing,
+    crossing: &mut RouterEngine,
+    dim: u8,
+) -> Crossings
+    requires cube { routing.now.cuts.dims ≡ sizes.dims }
+    requires dim { dim < sizes.dims }
+    requires count { length crossing.old.buffers ≡ 2 ^ sizes.dims }
+    requires within { All (λ here. length here ≤ sizes.room) crossing.old.buffers }
+    ensures value { result
+        ≡ crossings_to (routing_of routing.now) sizes.room dim crossing.old.buffers (2 ^ sizes.dims) }
+    ensures same { crossing.new.buffers ≡ crossing.old.buffers }
+{
+    crossing.gather();
+    let chips = crossing.chips() as u16;
+    let mut all = Crossings::NONE;
+    for chip in 0..chips {
+        let cut = routing.cuts.has(chip, dim);
+        let here = crossing.buffer(usize::from(chip));
+        all = all.added(crossings_at(sizes.room, cut, routing.rule, here, dim));
+    }
+    all
+}
+
+/// Those of a chip, over whose wire messages go so, where these stand.
+fn crossings_at(room: u8, cut: bool, rule: Rule, here: &[Message], dim: u8) -> Crossings
+    requires some { 0 < room }
+    requires most { room ≤ 15 }
+    requires dim { dim < 12 }
+    requires within { length here.now ≤ room }
+    ensures value { result ≡ crossings_at (record { cut = cut; rule = rule }) room dim here.now }
+{
+    let mut node = Node::new(room);
+    for message in here {
+        node.arrive(*message);
+    }
+    let leaver = node.leave(dim, cut, rule);
+    Crossings {
+        crossed: u64::from(leaver.is_some()),
+        referred: u64::from(is_referral(dim, leaver)),
+        refused: wanting(dim, node.messages()),
+    }
+}
+
+/// Whether a message that crossed a dimension had not to.
+fn is_referral(dim: u8, leaver: Option<Message>) -> bool
+    requires dim { dim < 12 }
+    ensures value { result ≡ was_referred dim leaver }
+{
+    match leaver {
+        Some(message) => has_to_cross(dim, &message),
+        None => false,
+    }
+}
+
+/// How many messages have to cross a dimension.
+fn wanting(dim: u8, here: &[Message]) -> u64
+    requires dim { dim < 12 }
+    ensures value { result ≡ count_by (has_to_cross dim) here.now }
+{
+    here.iter()
+        .filter(|message| has_to_cross(dim, message))
+        .count() as u64
+}
+
+/// Whether a message has to cross a dimension.
+fn has_to_cross(dim: u8, message: &Message) -> bool
+    requires dim { dim < 12 }
+    ensures value { result ≡ has_to_cross dim message.now }
+{
+    message.rel >> dim & 1 == 1
+}

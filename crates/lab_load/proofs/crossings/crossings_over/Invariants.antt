@@ -1,9 +1,0 @@
-use Rattle.std.proofs.Common.{◌≡◌}
-use Rattle.cm_router.specs.Routes.{routing_of}
-use Rattle.lab_load.specs.Crossings.{crossings_to}
-use Rattle.lab_load.proofs.crossings.crossings_over.Given as goal
-
--- those of so many chips
-abbrev pub invariant-loop-chip : goal.invariant-loop-chip
-invariant-loop-chip l =
-    l.all ≡ crossings_to (routing_of l.routing) l.sizes.room l.dim l.fn.crossing.buffers l.chip

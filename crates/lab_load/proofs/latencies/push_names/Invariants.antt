@@ -1,0 +1,8 @@
+use Rattle.std.proofs.Common.{◌≡◌, ◌++◌, take}
+use Rattle.std.specs.List.{flat_map}
+use Rattle.lab_load.specs.Latencies.{rate_name}
+use Rattle.lab_load.proofs.latencies.push_names.Given as goal
+
+-- those of so many loads
+abbrev pub invariant-loop-load : goal.invariant-loop-load
+invariant-loop-load l = l.text.items ≡ l.fn.text.items ++ flat_map (λ load. rate_name load.rate) (take l.load-index l.loads)
