@@ -138,7 +138,8 @@ fn are_apart(at: u16, count: u16, first: u16, width: u16) -> bool
     first + width <= at
 }
 
-/// The first of the chips that are near, when this chip is among them.
+/// Lays the near chips back and brings the chips around this one near; answers the first of these. Does nothing where
+/// this chip is near already.
 fn come_near(far: &mut Run, near: &mut Run, first: u16, width: u16, chips: u16, chip: u16) -> u16
     requires near { AreNear far.old near.old first width chips }
     requires chip { chip < chips }

@@ -367,6 +367,7 @@ is_begun n cap header c m rest whole to = record {
   routing_is = to.routing_is;
 }
 
+-- a fault in the chips still to be read is the fault of the whole image (for `finish`)
 pub left_wrong : (n cap : ℕ) (header : Head × ℕ) (c : ℕ) (m : Machine) (rest whole : List ℕ) (fault : ImageFault)
     → IsReadTo n cap header c m rest whole → chips_onto n cap header.1 c m rest ≡ Err fault
     → read_image n cap whole ≡ Err fault

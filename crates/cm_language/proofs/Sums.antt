@@ -79,6 +79,7 @@ high_part n v s false h e = grind (arith, nat_tests, e, mul-zero n)
 
 -- ---- what each macro adds up
 
+-- add
 abbrev pub both : Bool → Bool → ℕ
 both x y = bit_number x + bit_number y
 
@@ -88,6 +89,7 @@ total-both [] (y ∷ ys) h = absurd (omega (arith, h))
 total-both (x ∷ xs) [] h = absurd (omega (arith, h))
 total-both (x ∷ xs) (y ∷ ys) h = omega (arith, total-both xs ys (omega (arith, h)))
 
+-- sub
 abbrev pub first_but_second : Bool → Bool → ℕ
 first_but_second x y = bit_number x + bit_number (not y)
 
@@ -98,6 +100,7 @@ total-first_but_second [] (y ∷ ys) h = absurd (omega (arith, h))
 total-first_but_second (x ∷ xs) [] h = absurd (omega (arith, h))
 total-first_but_second (x ∷ xs) (y ∷ ys) h = omega (arith, total-first_but_second xs ys (omega (arith, h)))
 
+-- shift: twice the first operand, whatever the second
 abbrev pub first_twice : Bool → Bool → ℕ
 first_twice x y = 2 * bit_number x
 

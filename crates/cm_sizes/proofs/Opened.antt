@@ -127,6 +127,7 @@ no_fault A (Some fault) never told =
 same_fault : {a b : ImageFault} → Image a ≡ Image b → a ≡ b
 same_fault {a} {b} h = let same : Image a ≡ Image b = h in cc
 
+-- the fault that `load` answers is one of `open_image`: the bytes' own, or want of memory where the header has none
 pub unopened : (A : Type 0) (bytes : List ℕ) (n cap : ℕ) (fault : ImageFault) → read_shape bytes ≡ Ok (n, cap)
     → is_own_room cap ≡ true → IfSome (header_fault n cap bytes) (λ first. IsErrOf {T = A} (Err fault) first)
     → (fault ≢ image.Memory → fault_in (read_image n cap bytes) ≡ Some fault) → IsUnopened bytes (Image fault)

@@ -42,7 +42,7 @@ a_line_on heard given rest line place len is part inside ends =
     ∙ (λ i. sym one i ++ drop-drop (len + 1) place heard i) in
     ap (λ (xs : List ℕ). given ++ xs) parts ∙ sym (append_assoc given (line ++ 10 ∷ []) (drop (place + (len + 1)) heard))
 
--- of a line none is seen to end
+-- while no byte of the open line was looked at (`seen` is 0 in the loop of `front`), no line end was seen in it
 pub none_seen : (bytes : List ℕ) → IsUnended (take 0 bytes)
 none_seen bytes k h = absurd (omega (arith, h, no_length bytes)) where
   no_length : (bytes : List ℕ) → length (take 0 bytes) ≡ 0

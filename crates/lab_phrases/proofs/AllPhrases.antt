@@ -115,7 +115,7 @@ not_false false h = absurd cc
 same_number : (a b : ℕ) → not (eqb a b) ≡ false → a ≡ b
 same_number a b h = grind (arith, nat_tests, not_false (eqb a b) h)
 
--- where two tests say how fields meet, one of them holds
+-- where two fields do not meet partly, they are the same or apart
 some_holds : (t u : Bool) → is_partly (if t then Same else (if u then Apart else Partly)) ≡ false
     → (t ≡ true) ⊎ (u ≡ true)
 some_holds true u h = inl refl

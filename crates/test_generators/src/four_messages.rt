@@ -98,7 +98,8 @@ pub fn cut_in_two_places(alloc: Global, rule: Rule) -> Option<Machine<4, 7>> {
     builder.done().ok()
 }
 
-/// Whether after them chip 15 has sent four, got one and has three more for its processor 5.
+/// Whether, after the acts of `four_messages_each` on a blank machine, chip 15 has sent four messages and got one for
+/// its processor 5. Three wait, since nothing sets that processor's RECV to 0 again.
 pub fn has_one_of_four(alloc: Global, machine: &Machine<4, 7>) -> bool {
     let waiting = [
         one_of_four(0, 0, 3),
