@@ -1,6 +1,7 @@
 pub mod Telling
 pub mod State
 pub mod Longest
+pub mod Gathering
 pub mod BufferedOutput
 pub mod Talk
 pub mod Taking

@@ -1,10 +1,10 @@
 //! Answers on their way to a sink: those of many lines go out in one write.
 
-ghost use Rattle.std.specs.Prelude.{◌≡◌, ◌+◌, ◌<◌, ◌^◌, ◌++◌, [], false, length, is_err, OnOk, IfErr, Err};
+ghost use Rattle.std.specs.Prelude.{◌≡◌, ◌+◌, ◌<◌, ◌≤◌, ◌^◌, ◌++◌, [], false, length, is_err, OnOk, IfErr, Err};
 ghost use Rattle.std.specs.Prelude.{if◌then◌else◌};
 ghost use Rattle.std.specs.Io.KnownBytes.{Appends};
 ghost use Rattle.cm_session.specs.Ends.{is_session_no_thread, is_write};
-ghost use Rattle.cm_debug.specs.BufferedOutput.{answered_bytes, with_gathered, AbortsBetween, IsShortWriteAfter};
+ghost use Rattle.cm_debug.specs.Gathering.{GATHERED_LIMIT};
 ghost use Rattle.cm_debug.specs.Telling.{is_thread};
 ghost use Rattle.cm_debug.specs.declared.out_of.OutOf.TheVariants.{Thread};
 
@@ -14,7 +14,7 @@ use cm_session::SessionFault;
 use std::alloc::Global;
 
 /// The most bytes that are gathered.
-const ROOM: usize = 65536;
+const GATHERED_LIMIT: usize = 65536;
 
 /// A write failed, or took no byte, after so many bytes of all answers went out.
 #[derive(Clone, Copy, Debug, PartialEq, Eq)]
@@ -27,9 +27,12 @@ pub struct BufferedOutput {
     pub line: Vec<u8>,
     pub bytes: Vec<u8>,
     pub sent: u128,
+    ghost few: { length bytes.items ≤ GATHERED_LIMIT },
 }
 
 impl BufferedOutput {
+    ghost use Rattle.cm_debug.specs.BufferedOutput.{answered_bytes, with_gathered, AbortsBetween, IsShortWriteAfter};
+
     /// Before the first answer.
     pub fn new(alloc: Global) -> BufferedOutput
         ensures none { result.bytes.items ≡ [] }
@@ -77,7 +80,7 @@ impl BufferedOutput {
         ensures line { self.new.line.items ≡ self.old.line.items }
         ensures sent { self.new.sent ≡ self.old.sent }
     {
-        self.line.len() <= ROOM.saturating_sub(self.bytes.len())
+        self.line.len() <= GATHERED_LIMIT - self.bytes.len()
             && self.bytes.extend_from_slice(&self.line).is_ok()
     }
 

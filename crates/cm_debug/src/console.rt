@@ -175,16 +175,18 @@ impl<'a> Console<'a> {
             (talk machine.new.machine self.new (O.contents out.new) (R.threads_lacked runner.new)) result }
         ensures failed { O.has_failed out.new ≡ is_write result }
     {
-        self.output.line.clear();
-        match self
-            .debugger
-            .answer(machine, runner, asked, &mut self.output.line)
-        {
-            Ok(()) => match self.output.add_line(out) {
+        let Console {
+            debugger,
+            output,
+            ..
+        } = self;
+        output.line.clear();
+        match debugger.answer(machine, runner, asked, &mut output.line) {
+            Ok(()) => match output.add_line(out) {
                 Ok(()) => Ok(()),
                 Err(cut) => Err(SessionFault::Write(cut.0)),
             },
-            Err(want) => Err(self.output.give_up(want, out)),
+            Err(want) => Err(output.give_up(want, out)),
         }
     }
 }
