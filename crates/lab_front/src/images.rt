@@ -1,6 +1,6 @@
 //! A front end over the machine of an image.
 
-ghost use Rattle.std.specs.Prelude.{◌≡◌, false, IfErr, IfOk};
+ghost use Rattle.std.specs.Prelude.{◌≡◌, false, IfErr, IfOk, IsErrOf};
 ghost use Rattle.cm_sizes.specs.Sizes.{sized};
 ghost use Rattle.lab_front.specs.Images.{EndsImage, FailsImage, HasEnded, HasFailed};
 
@@ -57,6 +57,7 @@ pub fn front_image<I: Source, O: Sink>(
         (O.contents out.old) (O.contents out.new) text.items) }
     ensures err { IfErr result (FailsImage image.now (I.left commands.old) (I.left commands.new) (O.contents out.old)
         (O.contents out.new)) }
+    ensures no_thread { ¬ IsErrOf result (FrontFault.Ended SessionFault.NoThread) }
 {
     match open_image(alloc, image) {
         Ok(machine) => front_any(alloc, machine, commands, out),
@@ -77,6 +78,7 @@ fn front_any<I: Source, O: Sink>(
         (O.contents out.old) (O.contents out.new) text.items) }
     ensures err { IfErr result (HasFailed (sized machine) (I.left commands.old) (I.left commands.new)
         (O.contents out.old) (O.contents out.new)) }
+    ensures no_thread { ¬ IsErrOf result (FrontFault.Ended SessionFault.NoThread) }
 {
     on_machine!(machine, machine => front_sized(alloc, machine, commands, out))
 }
@@ -94,6 +96,7 @@ fn front_sized<const N: usize, const CAP: usize, I: Source, O: Sink>(
         (I.left commands.old) (I.left commands.new) (O.contents out.old) (O.contents out.new) text.items) }
     ensures err { IfErr result (HasFailed (record { n = N; cap = CAP; machine = machine.entry.machine })
         (I.left commands.old) (I.left commands.new) (O.contents out.old) (O.contents out.new)) }
+    ensures no_thread { ¬ IsErrOf result (FrontFault.Ended SessionFault.NoThread) }
 {
     front_on(alloc, &mut machine, commands, out)
 }
@@ -111,6 +114,7 @@ fn front_on<const N: usize, const CAP: usize, I: Source, O: Sink>(
         (I.left commands.old) (I.left commands.new) (O.contents out.old) (O.contents out.new) text.items) }
     ensures err { IfErr result (HasFailed (record { n = N; cap = CAP; machine = machine.old.machine })
         (I.left commands.old) (I.left commands.new) (O.contents out.old) (O.contents out.new)) }
+    ensures no_thread { ¬ IsErrOf result (FrontFault.Ended SessionFault.NoThread) }
 {
     match front(alloc, machine, commands, out, &mut Plain) {
         Ok(()) => {}
