@@ -75,7 +75,11 @@ fn tell_each<R: Eprint + Clock>(
             crossing_table(alloc, &measure_each(rt, alloc, loads, targets, cuts)?)
         }
         LoadTable::Dimensions => {
-            dimension_table(alloc, trial.n, &measure_each(rt, alloc, loads, targets, cuts)?)
+            dimension_table(
+                alloc,
+                trial.n,
+                &measure_each(rt, alloc, loads, targets, cuts)?,
+            )
         }
         LoadTable::Latencies => latency_table(alloc, &time_each(rt, alloc, loads, targets, cuts)?),
     };

@@ -10,9 +10,9 @@ ghost use Rattle.lab_counts.specs.Counts.{nothing_counted};
 ghost use Rattle.lab_load.specs.Counted.{counts_after, counts_after_cycles};
 
 use crate::asking::ask_all;
-use crate::quiet::count_quiet;
 use crate::logs::{empty_logs, fetch_all};
 use crate::offers::Load;
+use crate::quiet::count_quiet;
 use crate::sources::Source;
 use crate::telling::{push_latencies, taken_in};
 use cm_bits::NoMemory;

@@ -88,7 +88,7 @@ fn is_of_rates(header: &[u8]) -> bool
 fn is_of_latencies(header: &[u8]) -> bool
     ensures value { result ≡ is_of_latencies header.now }
 {
-    cell(header, 0) == b"latency"
+    cell(header, 0) == b"latency".as_slice()
 }
 
 /// A table of this kind, of which at most nine columns behind the first are drawn.
