@@ -1,5 +1,8 @@
 pub mod Adding
 pub mod Counts
+pub mod Holdings
+pub mod Repeats
+pub mod RoundLaws
 pub mod RouteLines
 pub mod Routes
 pub mod Study
