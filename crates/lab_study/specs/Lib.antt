@@ -5,6 +5,7 @@ pub mod Repeats
 pub mod RoundLaws
 pub mod RouteLines
 pub mod Routes
+pub mod Studies
 pub mod Study
 pub mod StudyLaws
 pub mod Tables

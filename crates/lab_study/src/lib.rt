@@ -19,7 +19,6 @@ mod ways;
 mod whereabouts;
 
 pub use counts::Counts;
-pub use repeating::repeats;
 pub use round_laws::{rounds_are_told_so, routers_go_round};
 pub use routes::{Excerpt, RouteFault, route};
 pub use studies::{StudyFault, Table, study};

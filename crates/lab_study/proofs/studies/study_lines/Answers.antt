@@ -1,11 +1,11 @@
 use Rattle.std.proofs.Common.{◌+◌, Ok, drop, sym, ap, ◌∙◌}
 use Rattle.std.proofs.lemmas.List.{drop_all}
-use Rattle.lab_study.specs.Study.{studied, study_preceded_by, act_lacks_room, acts_table, study_table}
+use Rattle.lab_study.specs.Study.{studied, study_preceded_by, act_lacks_room, acts_table, lines_table}
 use Rattle.lab_study.proofs.Going.{next_act, one_act_more, no_act_more, no_acts}
-use Rattle.lab_study.proofs.studies.study.Goals as goal
+use Rattle.lab_study.proofs.studies.study_lines.Goals as goal
 
 pub loop-done-init : goal.loop-done-init
-unfolding study_table
+unfolding lines_table
 loop-done-init g c = λ j. study_preceded_by (sym c.in_ok-text.ensures.value j)
     (acts_table c.args.machine.now.n c.args.machine.now.cap c.args.table (sym c.in_ok-known.ensures.value j)
     c.args.acts.now)
