@@ -400,16 +400,18 @@ class Machine:
         with TextFile(self.image(), "the machine") as image:
             return Picture(command("cm1lab", "picture", "--png", image, *what))
 
-    def study(self, source: str, messages: bool = False, room: Optional[int] = None) -> Table:
-        """What the router would do under a source, a record for each petit cycle, or with `messages` for each message.
+    def study(self, source: str, messages: bool = False, room: Optional[int] = None, repeats: bool = False) -> Table:
+        """What the router would do under a source, a record for each petit cycle, or with `messages` for each message,
+        or with `repeats` where the routers come to hold again what they held and so go round for ever.
 
         With `room`, 1 to 15, each router has room for so many messages, and not for as many as the machine's.
 
         The machine stays as it is: the source runs on an image of it (`cm1lab study`). Columns by petit cycle: cycle,
         taken, delivered, referred, standing, full, asking; by message: chip, processor, taken, to chip, to processor,
-        delivered (None where it stands in a router), crossed, referred.
+        delivered (None where it stands in a router), crossed, referred; of repeats: from, period, standing, arrived.
         """
-        options = [*(["--messages"] if messages else []), *_words("--room", room)]
+        table = ["--repeats"] if repeats else ["--messages"] if messages else []
+        options = [*table, *_words("--room", room)]
         with TextFile(expand(source), "the program") as program, TextFile(self.image(), "the machine") as image:
             return Table(command("cm1lab", "study", *options, image, program).decode())
 

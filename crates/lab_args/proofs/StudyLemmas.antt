@@ -5,39 +5,38 @@ use Rattle.std.specs.Prelude.{if◌then◌else◌}
 use Rattle.std.proofs.lemmas.List.{take_rest}
 use Rattle.std.specs.Borrow.{Bor}
 use Rattle.lab_study.specs.declared.studies.Table.{Table}
-use Rattle.lab_study.specs.declared.studies.Table.TheVariants.{Messages}
 use Rattle.lab_route_plot.specs.declared.legs.Cycles.{Cycles}
 use Rattle.lab_args.specs.declared.tasks.RouteAsked.{RouteAsked}
 use Rattle.lab_args.specs.Words.{texts}
 use Rattle.lab_args.specs.Refusals.{Refusal, Words, ◌>>=◌}
 use Rattle.lab_args.specs.Requests.{Request, TaskAsked}
 use Rattle.lab_args.specs.Commands.{plotting_of, with_bound}
-use Rattle.lab_args.specs.Tasks.{room_named, studied_with, studying_in, routed, routed_with, is_route_setting}
-use Rattle.lab_args.specs.Tasks.{with_route_setting, with_waits}
+use Rattle.lab_args.specs.Tasks.{is_table_option, table_named, room_named, studied_with, studying_in, routed}
+use Rattle.lab_args.specs.Tasks.{is_route_setting, routed_with, with_route_setting, with_waits}
 
 -- ---- studies
 
--- what comes of two words and those behind them, where the first asks for messages, for a room, or neither
+-- what comes of two words and those behind them, where the first says what is told, asks for a room, or neither
 study_by : Option ℕ → Table → List ℕ → List ℕ → List (List ℕ) → Bool → Bool → Result TaskAsked Refusal
-study_by room table a b rest messages roomed =
-    if messages then studied_with room Messages (b ∷ rest)
+study_by room table a b rest tabled roomed =
+    if tabled then studied_with room (table_named a) (b ∷ rest)
     else (if roomed then room_named b >>= (λ given. studied_with given table rest) else studying_in room table (a ∷ b ∷ rest))
 
--- behind `--messages` the words go on
-pub messages_go_on : (room : Option ℕ) (table : Table) (words : List (Bor (List ℕ))) (d : Bor (List ℕ)) → 2 ≤ length words
-    → bytes_eq (get_or words 0 d).now (codes "--messages") ≡ true
+-- behind what says the table the words go on
+pub table_goes_on : (room : Option ℕ) (table : Table) (words : List (Bor (List ℕ))) (d : Bor (List ℕ)) → 2 ≤ length words
+    → is_table_option (get_or words 0 d).now ≡ true
     → studied_with room table (texts words)
-    ≡ studied_with room Messages (texts (take (length words - 1) (drop 1 words)))
+    ≡ studied_with room (table_named (get_or words 0 d).now) (texts (take (length words - 1) (drop 1 words)))
 unfolding study_by
-messages_go_on room table [] d h is = absurd (omega arith)
-messages_go_on room table (a ∷ []) d h is = absurd (omega arith)
-messages_go_on room table (a ∷ b ∷ rest) d h is =
+table_goes_on room table [] d h is = absurd (omega arith)
+table_goes_on room table (a ∷ []) d h is = absurd (omega arith)
+table_goes_on room table (a ∷ b ∷ rest) d h is =
     ap (λ (t : Bool). study_by room table a.now b.now (texts rest) t (bytes_eq a.now (codes "--room"))) is
-    ∙ ap (λ (ws : List (Bor (List ℕ))). studied_with room Messages (texts ws)) (sym (take_rest (a ∷ b ∷ rest) 1))
+    ∙ ap (λ (ws : List (Bor (List ℕ))). studied_with room (table_named a.now) (texts ws)) (sym (take_rest (a ∷ b ∷ rest) 1))
 
 -- and behind a room that was read
 pub room_goes_on : (room given : Option ℕ) (table : Table) (words : List (Bor (List ℕ))) (d : Bor (List ℕ))
-    → 2 ≤ length words → bytes_eq (get_or words 0 d).now (codes "--messages") ≡ false
+    → 2 ≤ length words → is_table_option (get_or words 0 d).now ≡ false
     → bytes_eq (get_or words 0 d).now (codes "--room") ≡ true
     → room_named (get_or words 1 d).now ≡ Ok given
     → studied_with room table (texts words) ≡ studied_with given table (texts (take (length words - 2) (drop 2 words)))
@@ -52,7 +51,7 @@ room_goes_on room given table (a ∷ b ∷ rest) d h other is e =
 
 -- what is no option is the image
 pub study_comes : (room : Option ℕ) (table : Table) (words : List (Bor (List ℕ))) (d : Bor (List ℕ)) → 2 ≤ length words
-    → bytes_eq (get_or words 0 d).now (codes "--messages") ≡ false
+    → is_table_option (get_or words 0 d).now ≡ false
     → bytes_eq (get_or words 0 d).now (codes "--room") ≡ false
     → studied_with room table (texts words) ≡ studying_in room table (texts words)
 unfolding study_by

@@ -10,7 +10,7 @@ use Rattle.lab_args.specs.Requests.{Do, Expand, Fresh, Front, Load, Plot, Reques
 use Rattle.lab_route_plot.specs.declared.legs.Cycles.{Cycles}
 use Rattle.lab_args.specs.declared.operands.Operand.TheVariants as operand
 use Rattle.lab_args.specs.Operands.{file_named, is_option, operand_below}
-use Rattle.lab_args.specs.Tasks.{is_route_setting, is_setting, is_sign, task_of}
+use Rattle.lab_args.specs.Tasks.{is_route_setting, is_setting, is_sign, is_table_option, task_of}
 use Rattle.lab_args.specs.Blanks.{blank}
 use Rattle.lab_args.specs.Loads.{load}
 use Rattle.lab_args.specs.Usage.{usage_of}
@@ -117,7 +117,7 @@ abbrev pub is_option_of : Text → Text → Bool
 is_option_of command word =
     if bytes_eq command (codes "put") then bytes_eq word (codes "--rows")
     else (if bytes_eq command (codes "picture") then is_sign word || is_setting word
-    else (if bytes_eq command (codes "study") then bytes_eq word (codes "--messages") || bytes_eq word (codes "--room")
+    else (if bytes_eq command (codes "study") then is_table_option word || bytes_eq word (codes "--room")
     else (if bytes_eq command (codes "route") then bytes_eq word (codes "--why") || is_route_setting word
     else (if bytes_eq command (codes "front") then bytes_eq word (codes "--out")
     else (if bytes_eq command (codes "fresh") then is_fresh_option word

@@ -8,7 +8,7 @@ use Rattle.lab_figures.specs.declared.looks.Look.{Look}
 use Rattle.lab_figures.specs.declared.picture.Form.TheVariants.{Raw, Plain}
 use Rattle.cm_bits.specs.Span.{Span}
 use Rattle.lab_study.specs.declared.studies.Table.{Table}
-use Rattle.lab_study.specs.declared.studies.Table.TheVariants.{Cycles, Messages}
+use Rattle.lab_study.specs.declared.studies.Table.TheVariants.{Cycles, Messages, Repeats}
 use Rattle.lab_data.specs.declared.lab.Task.{Task}
 use Rattle.lab_data.specs.declared.lab.Task.TheVariants.{Get, Flags, Put, Show, Paint, Study, Route}
 use Rattle.lab_data.specs.declared.order.Order.{Order}
@@ -141,12 +141,20 @@ abbrev pub studying_in : Option ℕ → Table → List Text → Result TaskAsked
 studying_in room table (image ∷ program ∷ []) = Ok (reporting_task (Study room table) image (Program program))
 studying_in room table _ = Err Words
 
+-- an option that says what a study tells
+abbrev pub is_table_option : Text → Bool
+is_table_option word = bytes_eq word (codes "--messages") || bytes_eq word (codes "--repeats")
+
+-- the table that it says
+abbrev pub table_named : Text → Table
+table_named word = if bytes_eq word (codes "--repeats") then Repeats else Messages
+
 -- these, before which options may stand
 abbrev pub studied_with : Option ℕ → Table → List Text → Result TaskAsked Refusal
 studied_with room table [] = Err Words
 studied_with room table (option ∷ []) = Err Words
 studied_with room table (option ∷ word ∷ rest) =
-    if bytes_eq option (codes "--messages") then studied_with room Messages (word ∷ rest)
+    if is_table_option option then studied_with room (table_named option) (word ∷ rest)
     else (if bytes_eq option (codes "--room") then room_named word >>= (λ given. studied_with given table rest)
     else studying_in room table (option ∷ word ∷ rest))
 

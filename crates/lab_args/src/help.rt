@@ -6,7 +6,7 @@ ghost use Rattle.lab_args.specs.Usage.{behind_word, first_word, usage_of, with_u
 ghost use Rattle.lab_args.specs.Commands.{is_command, is_fresh_option, is_load_option, is_option_of, unknown_option};
 
 use crate::operands::is_option;
-use crate::tasks::{is_route_setting, is_setting, is_sign};
+use crate::tasks::{is_route_setting, is_setting, is_sign, is_table_option};
 use cm_bits::NoMemory;
 use std::alloc::Global;
 
@@ -47,6 +47,10 @@ cm1lab study --messages [--room CAP] IMAGE PROGRAM
     tells a line for each message: who sent it and in which petit cycle, where it is
     bound for, when it was delivered, how many dimensions it crossed, how often it was
     referred
+cm1lab study --repeats [--room CAP] IMAGE PROGRAM
+    tells a line where routers come to hold again what they held, and nothing came in or out
+    since, so that they go round for ever: from which petit cycle on and with which period,
+    how many messages stand there, and how often in a period one stands at its chip
 cm1lab route [--why] [--from T] [--to T] [--room CAP] IMAGE PROGRAM CHIP PROC CYCLE
     runs the program and tells the way of the message that processor PROC of CHIP sent and
     that was taken in in petit cycle CYCLE: a line for each petit cycle with the chips on its
@@ -185,7 +189,7 @@ fn is_option_of(command: &str, word: &str) -> bool
     match command {
         "put" => word == "--rows",
         "picture" => is_sign(word) || is_setting(word),
-        "study" => word == "--messages" || word == "--room",
+        "study" => is_table_option(word) || word == "--room",
         "route" => word == "--why" || is_route_setting(word),
         "front" => word == "--out",
         "fresh" => is_fresh_option(word),

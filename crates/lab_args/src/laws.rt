@@ -66,6 +66,9 @@ pub fn lines_ask_for()
         (codes "cm1lab" ∷ codes "route" ∷ codes "a.image" ∷ codes "p.txt" ∷ codes "12" ∷ codes "3" ∷ codes "70" ∷ [])
         ≡ Ok (Do (reporting_task (task.Route None (record { from = 0; to = 2 ^ 64 - 1; waits = false })
         (record { chip = 12; proc = 3; birth = 70 })) (codes "a.image") (Program (codes "p.txt")))) }
+    ensures study_repeats { request_of
+        (codes "cm1lab" ∷ codes "study" ∷ codes "--repeats" ∷ codes "a.image" ∷ codes "p.txt" ∷ [])
+        ≡ Ok (Do (reporting_task (task.Study None table.Repeats) (codes "a.image") (Program (codes "p.txt")))) }
     ensures study_room { request_of
         (codes "cm1lab" ∷ codes "study" ∷ codes "--room" ∷ codes "3" ∷ codes "--messages" ∷ codes "a.image"
         ∷ codes "p.txt" ∷ [])

@@ -8,7 +8,7 @@ ghost use Rattle.lab_args.specs.Tasks.{field_pictured, filled, filling, filling_
 ghost use Rattle.lab_args.specs.Tasks.{is_setting, is_sign, looked_at, painted, painting, picture_asked, picturing};
 ghost use Rattle.lab_args.specs.Tasks.{is_route_setting, room_named, routed, routed_with, routing, sender_words};
 ghost use Rattle.lab_args.specs.Tasks.{field_shown, span_pictured, studied_with, studying, studying_in, tag};
-ghost use Rattle.lab_args.specs.Tasks.{with_route_setting, with_waits};
+ghost use Rattle.lab_args.specs.Tasks.{is_table_option, table_named, with_route_setting, with_waits};
 ghost use Rattle.lab_args.specs.Tasks.{task_of, telling, reporting_task, with_setting, with_sign};
 
 use crate::fault::CommandFault;
@@ -372,8 +372,8 @@ fn read_studied_with<'a>(
 {
     match words {
         [option, word, after @ ..] => {
-            if *option == "--messages" {
-                read_studied_with(alloc, room, Table::Messages, &words[1..])
+            if is_table_option(option) {
+                read_studied_with(alloc, room, table_named(option), &words[1..])
             } else if *option == "--room" {
                 let given = room_named(alloc, word)?;
                 read_studied_with(alloc, given, table, after)
@@ -382,6 +382,24 @@ fn read_studied_with<'a>(
             }
         }
         _ => Err(CommandFault::Words),
+    }
+}
+
+/// Whether an option says what a study tells.
+pub(crate) fn is_table_option(option: &str) -> bool
+    ensures { result ≡ is_table_option option.now }
+{
+    option == "--messages" || option == "--repeats"
+}
+
+/// The table that such an option says.
+fn table_named(option: &str) -> Table
+    ensures { result ≡ table_named option.now }
+{
+    if option == "--repeats" {
+        Table::Repeats
+    } else {
+        Table::Messages
     }
 }
 

@@ -10,7 +10,7 @@ use Rattle.cm_language.specs.declared.fault.AsmFault.{AsmFault}
 use Rattle.cm_language.specs.Program.{ProgramText, program_of}
 use Rattle.lab_study.specs.declared.studies.StudyFault.{StudyFault}
 use Rattle.lab_study.specs.declared.studies.StudyFault.TheVariants as study
-use Rattle.lab_study.specs.Study.{study_table}
+use Rattle.lab_study.specs.Studies.{study_table}
 use Rattle.lab_study.specs.declared.studies.Table.{Table}
 use Rattle.lab_study.specs.declared.routes.Excerpt.{Excerpt}
 use Rattle.lab_study.specs.declared.routes.RouteFault.{RouteFault}

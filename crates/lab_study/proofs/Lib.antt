@@ -1,6 +1,9 @@
 pub mod Agreeing
 pub mod Following
 pub mod Going
+pub mod Idling
+pub mod Repeated
+pub mod Rounds
 pub mod Routing
 pub mod Searching
 pub mod Sending

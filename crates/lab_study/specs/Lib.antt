@@ -1,7 +1,11 @@
 pub mod Adding
 pub mod Counts
+pub mod Holdings
+pub mod Repeats
+pub mod RoundLaws
 pub mod RouteLines
 pub mod Routes
+pub mod Studies
 pub mod Study
 pub mod StudyLaws
 pub mod Tables

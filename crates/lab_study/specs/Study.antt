@@ -5,8 +5,8 @@ use Rattle.cm_model.specs.declared.act.Act.TheVariants.{Nano, Sense, Cycle}
 use Rattle.cm_model.specs.Machine.{Machine, run_of}
 use Rattle.lab_study.specs.declared.studies.StudyFault.{StudyFault}
 use Rattle.lab_study.specs.declared.studies.StudyFault.TheVariants.{Clock}
-use Rattle.lab_study.specs.declared.studies.Table.{Table}
-use Rattle.lab_study.specs.declared.studies.Table.TheVariants.{Cycles, Messages}
+use Rattle.lab_study.specs.declared.studies.LinesOf.{LinesOf}
+use Rattle.lab_study.specs.declared.studies.LinesOf.TheVariants.{Cycles, Messages}
 use Rattle.lab_study.specs.declared.known.Known.{Known}
 use Rattle.lab_study.specs.Counts.{log_lengths, counts_of}
 use Rattle.lab_study.specs.Tables.{cycles_header, cycle_line, messages_header, delivered_text, standing_text}
@@ -34,22 +34,22 @@ one_cycle_on n studied machine =
 
 -- what is told of a petit cycle at this count, which left this machine, where so many events were told by chip and
 -- this was known before
-abbrev pub study_cycle_text : ℕ → ℕ → Table → ℕ → List ℕ → Traces → Machine → List ℕ
+abbrev pub study_cycle_text : ℕ → ℕ → LinesOf → ℕ → List ℕ → Traces → Machine → List ℕ
 study_cycle_text n cap Cycles clock told traces machine = cycle_line clock (counts_of n cap told traces machine)
 study_cycle_text n cap Messages clock told traces machine = delivered_text n clock told traces machine
 
 -- the same, of what was studied so far
-abbrev pub cycle_text : ℕ → ℕ → Table → Studied → Machine → List ℕ
+abbrev pub cycle_text : ℕ → ℕ → LinesOf → Studied → Machine → List ℕ
 cycle_text n cap table before machine =
     study_cycle_text n cap table before.machine.clock before.told before.traces machine
 
 -- what is told at the end
-abbrev pub end_text : ℕ → Table → Studied → List ℕ
+abbrev pub end_text : ℕ → LinesOf → Studied → List ℕ
 end_text n Cycles studied = []
 end_text n Messages studied = standing_text n studied.traces studied.machine
 
 -- the first line
-abbrev pub table_header : Table → List ℕ
+abbrev pub table_header : LinesOf → List ℕ
 table_header Cycles = cycles_header
 table_header Messages = messages_header
 
@@ -67,7 +67,7 @@ act_lacks_room clock Sense = false
 act_lacks_room clock (Nano nano) = false
 
 -- what is told of an act
-abbrev pub act_text : ℕ → ℕ → Table → Studied → Act → List ℕ
+abbrev pub act_text : ℕ → ℕ → LinesOf → Studied → Act → List ℕ
 act_text n cap table studied Cycle = cycle_text n cap table studied (run_of n cap studied.machine (Cycle ∷ []))
 act_text n cap table studied Sense = []
 act_text n cap table studied (Nano nano) = []
@@ -79,7 +79,7 @@ one_act_on n cap studied Sense = record studied { machine = run_of n cap studied
 one_act_on n cap studied (Nano nano) = record studied { machine = run_of n cap studied.machine (Nano nano ∷ []) }
 
 -- what acts tell, one after another, and the end; or the counter has no room for one of them
-unfoldable pub acts_table : ℕ → ℕ → Table → Studied → List Act → Result (List ℕ) StudyFault
+unfoldable pub acts_table : ℕ → ℕ → LinesOf → Studied → List Act → Result (List ℕ) StudyFault
 acts_table n cap table studied [] = Ok (end_text n table studied)
 acts_table n cap table studied (act ∷ acts) =
     if act_lacks_room studied.machine.clock act then Err Clock
@@ -87,5 +87,5 @@ acts_table n cap table studied (act ∷ acts) =
 
 -- the table of a program of these acts, on a machine of a cube of n dimensions whose routers have room for cap
 -- messages each
-unfoldable pub study_table : ℕ → ℕ → Table → Machine → List Act → Result (List ℕ) StudyFault
-study_table n cap table machine acts = study_preceded_by (table_header table) (acts_table n cap table (study_opening n machine) acts)
+unfoldable pub lines_table : ℕ → ℕ → LinesOf → Machine → List Act → Result (List ℕ) StudyFault
+lines_table n cap table machine acts = study_preceded_by (table_header table) (acts_table n cap table (study_opening n machine) acts)

@@ -7,7 +7,7 @@ ghost use Rattle.lab_study.specs.Study.{studied, study_opening, study_cycle_text
 
 use crate::counting::{counts, log_lengths};
 use lab_machine::LabMachine;
-use crate::studies::Table;
+use crate::studies::LinesOf;
 use crate::tables::{push_cycle, push_delivered, push_standing};
 use crate::ways::Ways;
 use cm_bits::NoMemory;
@@ -42,7 +42,7 @@ impl Known {
         alloc: Global,
         machine: &mut LabMachine,
         act: &Act,
-        table: Table,
+        table: LinesOf,
         text: &mut Vec<u8>,
     ) -> Result<(), NoMemory>
         ensures machine { OnOk result (machine.new ≡ lab_after machine.old act.now) }
@@ -63,7 +63,7 @@ impl Known {
         &mut self,
         alloc: Global,
         machine: &mut LabMachine,
-        table: Table,
+        table: LinesOf,
         text: &mut Vec<u8>,
     ) -> Result<(), NoMemory>
         ensures machine { OnOk result (machine.new ≡ lab_after machine.old act.Cycle) }
@@ -86,7 +86,7 @@ impl Known {
         &self,
         clock: u64,
         machine: &LabMachine,
-        table: Table,
+        table: LinesOf,
         text: &mut Vec<u8>,
     ) -> Result<(), NoMemory>
         ensures ok { OnOk result (text.new.items
@@ -95,8 +95,8 @@ impl Known {
             machine.now.machine) }
     {
         match table {
-            Table::Cycles => push_cycle(text, clock, counts(&self.told, &self.ways, machine)),
-            Table::Messages => push_delivered(text, clock, &self.told, &self.ways, machine),
+            LinesOf::Cycles => push_cycle(text, clock, counts(&self.told, &self.ways, machine)),
+            LinesOf::Messages => push_delivered(text, clock, &self.told, &self.ways, machine),
         }
     }
 
@@ -104,15 +104,15 @@ impl Known {
     pub(crate) fn tell_end(
         &self,
         machine: &LabMachine,
-        table: Table,
+        table: LinesOf,
         text: &mut Vec<u8>,
     ) -> Result<(), NoMemory>
         ensures ok { OnOk result (text.new.items
             ≡ text.old.items ++ end_text machine.now.n table (studied machine.now.machine self.now)) }
     {
         match table {
-            Table::Cycles => Ok(()),
-            Table::Messages => push_standing(text, &self.ways, machine),
+            LinesOf::Cycles => Ok(()),
+            LinesOf::Messages => push_standing(text, &self.ways, machine),
         }
     }
 }

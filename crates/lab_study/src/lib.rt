@@ -3,7 +3,10 @@
 
 mod counting;
 mod counts;
+mod holdings;
 mod known;
+mod repeating;
+mod round_laws;
 mod route_lines;
 mod routes;
 mod studies;
@@ -16,6 +19,7 @@ mod ways;
 mod whereabouts;
 
 pub use counts::Counts;
+pub use round_laws::{rounds_are_told_so, routers_go_round};
 pub use routes::{Excerpt, RouteFault, route};
 pub use studies::{StudyFault, Table, study};
 pub use study_laws::{counts_agree_with_the_account, ways_are_told_so};

@@ -1,9 +1,11 @@
 //! A study of a program.
 
 ghost use Rattle.std.specs.Prelude.{◌≡◌, ◌≢◌, ◌^◌, ◌-◌, Ok, Err, IfOk, IfErr};
-ghost use Rattle.lab_study.specs.Study.{table_header, act_lacks_room, study_table};
+ghost use Rattle.lab_study.specs.Studies.{study_table};
+ghost use Rattle.lab_study.specs.Study.{table_header, act_lacks_room, lines_table};
 
 use crate::known::Known;
+use crate::repeating::repeats;
 use lab_machine::{LAST_CLOCK, LabMachine};
 use crate::watch::Watch;
 use cm_bits::NoMemory;
@@ -17,6 +19,15 @@ pub enum Table {
     /// A line for each petit cycle.
     Cycles,
     /// A line for each message: of those that were delivered when they were, of the others at the end.
+    Messages,
+    /// A line where routers come to hold again what they held.
+    Repeats,
+}
+
+/// What each line is of, where a table has as many as there are of these.
+#[derive(Clone, Copy, Debug, PartialEq, Eq)]
+pub(crate) enum LinesOf {
+    Cycles,
     Messages,
 }
 
@@ -41,6 +52,7 @@ impl From<NoMemory> for StudyFault {
 }
 
 /// Has a machine run a program's acts, and tells the table of them.
+#[tactic(auto, unfolding(crate::specs::Studies::study_table))]
 pub fn study<W: Watch>(
     alloc: Global,
     machine: &mut LabMachine,
@@ -52,6 +64,26 @@ pub fn study<W: Watch>(
         study_table machine.old.n machine.old.cap table machine.old.machine acts.now ≡ Ok text.items) }
     ensures refused { IfErr result (λ fault. fault ≢ StudyFault.Memory
         → study_table machine.old.n machine.old.cap table machine.old.machine acts.now ≡ Err fault) }
+{
+    match table {
+        Table::Cycles => study_lines(alloc, machine, acts, LinesOf::Cycles, watch),
+        Table::Messages => study_lines(alloc, machine, acts, LinesOf::Messages, watch),
+        Table::Repeats => repeats(alloc, machine, acts, watch),
+    }
+}
+
+/// The same, of a table of petit cycles or messages.
+fn study_lines<W: Watch>(
+    alloc: Global,
+    machine: &mut LabMachine,
+    acts: &[Act],
+    table: LinesOf,
+    watch: &mut W,
+) -> Result<Vec<u8>, StudyFault>
+    ensures value { IfOk result (λ text.
+        lines_table machine.old.n machine.old.cap table machine.old.machine acts.now ≡ Ok text.items) }
+    ensures refused { IfErr result (λ fault. fault ≢ StudyFault.Memory
+        → lines_table machine.old.n machine.old.cap table machine.old.machine acts.now ≡ Err fault) }
 {
     let mut text = opening_text(alloc, table)?;
     let mut known = Known::opening(alloc, machine)?;
@@ -67,12 +99,12 @@ pub fn study<W: Watch>(
 }
 
 /// The first line of a table.
-fn opening_text(alloc: Global, table: Table) -> Result<Vec<u8>, NoMemory>
+fn opening_text(alloc: Global, table: LinesOf) -> Result<Vec<u8>, NoMemory>
     ensures value { IfOk result (λ text. text.items ≡ table_header table) }
 {
     let line = match table {
-        Table::Cycles => b"cycle,taken,delivered,referred,standing,full,asking\n".as_slice(),
-        Table::Messages => {
+        LinesOf::Cycles => b"cycle,taken,delivered,referred,standing,full,asking\n".as_slice(),
+        LinesOf::Messages => {
             b"chip,processor,taken,to chip,to processor,delivered,crossed,referred\n".as_slice()
         }
     };

@@ -43,6 +43,11 @@ static CYCLES: &str = "cycle,taken,delivered,referred,standing,full,asking\n0,4,
 static MESSAGES: &str =
     "chip,processor,taken,to chip,to processor,delivered,crossed,referred\n0,0,0,0,0,0,0,0\n0,1,0,0,0,,0,0\n0,2,0,0,0,,0,0\n0,3,0,0,0,,0,0\n";
 
+/// Then they wait in the full router for the processor to fetch what it received.
+static ALL_WAIT: &str = "set 12\ncycle\ncycle\ncycle\n";
+
+static REPEATS: &str = "from,period,standing,arrived\n2,1,7,7\n";
+
 static SOURCE: &str = "constant K 2\nfield x 0 1\nrepeat K\nnot x\nadd x x\nend\n";
 
 static PROGRAM: &str = "field x 0 1 ; 2
@@ -154,6 +159,7 @@ enum Grown {
     Slide,
     Cycles,
     Messages,
+    Repeats,
     Source,
     Load,
     Latencies,
@@ -170,6 +176,7 @@ static GROWN: [Grown; 13] = [
     Grown::Slide,
     Grown::Cycles,
     Grown::Messages,
+    Grown::Repeats,
     Grown::Source,
     Grown::Load,
     Grown::Latencies,
@@ -188,6 +195,7 @@ impl Call for Grown {
             Grown::Slide => is_for_a_slide(alloc),
             Grown::Cycles => Some(tells(alloc, Table::Cycles, CYCLES)),
             Grown::Messages => Some(tells(alloc, Table::Messages, MESSAGES)),
+            Grown::Repeats => Some(is_repeated(alloc)),
             Grown::Source => Some(is_expanded(alloc)),
             Grown::Load => is_measured(alloc),
             Grown::Latencies => is_timed(alloc),
@@ -243,6 +251,11 @@ fn is_made(alloc: Global, task: &Task, image: &[u8], given: &str, wanted: &str) 
         Ok(text) => text.as_slice() == wanted.as_bytes(),
         Err(_) => false,
     }
+}
+
+fn is_repeated(alloc: Global) -> bool {
+    let task = Task::Study(None, Table::Repeats);
+    is_made(alloc, &task, &BLANK, ALL_WAIT, REPEATS)
 }
 
 fn come_back(alloc: Global) -> Option<bool> {

@@ -59,6 +59,7 @@ fn each_act_is_told_in_its_turn(rt: HostRuntime) -> Result<(), Fail> {
     let told = [
         told_of(alloc, Task::Study(None, Table::Cycles)),
         told_of(alloc, Task::Study(None, Table::Messages)),
+        told_of(alloc, Task::Study(None, Table::Repeats)),
         told_of_route(alloc, 0),
         told_of_route(alloc, 1),
         told_of(alloc, Task::Show(Shown::Buffers, plain(Format::Png))),
@@ -66,6 +67,7 @@ fn each_act_is_told_in_its_turn(rt: HostRuntime) -> Result<(), Fail> {
     assert_eq!(rt;
         told,
         [
+            Some((4, 4)),
             Some((4, 4)),
             Some((4, 4)),
             Some((2, 4)),

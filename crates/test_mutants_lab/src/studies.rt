@@ -2,7 +2,7 @@
 
 ghost use Rattle.std.specs.Prelude.{◌≡◌, ◌≢◌, Ok, Err, IfOk, IfErr};
 ghost use Rattle.lab_study.specs.Routes.{route_of};
-ghost use Rattle.lab_study.specs.Study.{study_table};
+ghost use Rattle.lab_study.specs.Studies.{study_table};
 
 use cm_model::{Act, Tag};
 use lab_machine::LabMachine;

@@ -1,4 +1,4 @@
-use Rattle.lab_study.specs.Study.{study_table}
+use Rattle.lab_study.specs.Studies.{study_table}
 use Rattle.lab_data.specs.Lab.{of_table}
 use Rattle.lab_data.proofs.Studying.{no_program}
 use Rattle.lab_data.proofs.lab.studied.Goals as goal

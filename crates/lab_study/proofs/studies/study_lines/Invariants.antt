@@ -1,10 +1,10 @@
 use Rattle.std.proofs.Common.{◌≡◌, drop}
-use Rattle.lab_study.specs.Study.{studied, study_preceded_by, acts_table, study_table}
-use Rattle.lab_study.proofs.studies.study.Given as goal
+use Rattle.lab_study.specs.Study.{studied, study_preceded_by, acts_table, lines_table}
+use Rattle.lab_study.proofs.studies.study_lines.Given as goal
 
 -- what was told, and what the acts that are left tell, are the table
 abbrev pub invariant-loop-done : goal.invariant-loop-done
 invariant-loop-done g l =
-    study_table l.initial.machine.n l.initial.machine.cap l.table l.initial.machine.machine l.acts
+    lines_table l.initial.machine.n l.initial.machine.cap l.table l.initial.machine.machine l.acts
     ≡ study_preceded_by l.text.items
     (acts_table l.machine.n l.machine.cap l.table (studied l.machine.machine l.known) (drop l.done l.acts))

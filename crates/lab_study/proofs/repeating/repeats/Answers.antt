@@ -1,14 +1,16 @@
-use Rattle.std.proofs.Common.{◌+◌, Ok, drop, sym, ap, ◌∙◌}
+use Rattle.std.proofs.Common.{◌+◌, drop, sym, ap, ◌∙◌}
 use Rattle.std.proofs.lemmas.List.{drop_all}
-use Rattle.lab_study.specs.Study.{studied, study_preceded_by, act_lacks_room, acts_table, study_table}
-use Rattle.lab_study.proofs.Going.{next_act, one_act_more, no_act_more, no_acts}
-use Rattle.lab_study.proofs.studies.study.Goals as goal
+use Rattle.lab_study.specs.Repeats.{repeats_from, repeats_table}
+use Rattle.lab_study.specs.Study.{study_preceded_by, act_lacks_room}
+use Rattle.lab_study.proofs.Going.{next_act}
+use Rattle.lab_study.proofs.Repeated.{one_act_followed, no_act_followed, none_followed}
+use Rattle.lab_study.proofs.repeating.repeats.Goals as goal
 
 pub loop-done-init : goal.loop-done-init
-unfolding study_table
+unfolding repeats_table
 loop-done-init g c = λ j. study_preceded_by (sym c.in_ok-text.ensures.value j)
-    (acts_table c.args.machine.now.n c.args.machine.now.cap c.args.table (sym c.in_ok-known.ensures.value j)
-    c.args.acts.now)
+    (repeats_from c.args.machine.now.n c.args.machine.now.cap (sym c.none-calm.ensures.value j)
+    c.args.machine.now.machine c.args.acts.now)
 
 pub returns-then-lacks_room-clause-refused : goal.returns-then-lacks_room-clause-refused
 returns-then-lacks_room-clause-refused g c = λ other.
@@ -16,11 +18,11 @@ returns-then-lacks_room-clause-refused g c = λ other.
     let i = c.loop-done.done in
     let act = c.index-acts-done.result in
     let lab = c.loop-done.machine in
-    let before = studied lab.machine c.loop-done.known in
     c.loop-done.invariant
-    ∙ ap (λ left. study_preceded_by c.loop-done.text.items (acts_table lab.n lab.cap c.args.table before left))
+    ∙ ap (λ left. study_preceded_by c.loop-done.text.items
+    (repeats_from lab.n lab.cap c.loop-done.calm lab.machine left))
     (next_act acts i act c.loop-done-test.true c.index-acts-done.is)
-    ∙ no_act_more lab.n lab.cap c.args.table before act (drop (i + 1) acts) c.loop-done.text.items
+    ∙ no_act_followed lab.n lab.cap c.loop-done.calm lab.machine act (drop (i + 1) acts) c.loop-done.text.items
     (ap (λ clock. act_lacks_room clock act) (sym c.clock.ensures.value) ∙ sym c.lacks_room.ensures.value
     ∙ c.if-lacks_room.true)
 
@@ -30,16 +32,17 @@ loop-done-preserved g c =
     let i = c.loop-done.done in
     let act = c.index-acts-done.result in
     let lab = c.loop-done.machine in
-    let before = studied lab.machine c.loop-done.known in
     c.loop-done.invariant
-    ∙ ap (λ left. study_preceded_by c.loop-done.text.items (acts_table lab.n lab.cap c.args.table before left))
+    ∙ ap (λ left. study_preceded_by c.loop-done.text.items
+    (repeats_from lab.n lab.cap c.loop-done.calm lab.machine left))
     (next_act acts i act c.loop-done-test.true c.index-acts-done.is)
-    ∙ one_act_more lab.n lab.cap c.args.table before act (drop (i + 1) acts) c.loop-done.text.items
+    ∙ one_act_followed lab c.follow.new.machine c.loop-done.calm act (drop (i + 1) acts) c.loop-done.text.items
     (ap (λ clock. act_lacks_room clock act) (sym c.clock.ensures.value) ∙ sym c.lacks_room.ensures.value
     ∙ c.if-lacks_room.false)
+    c.in_ok-follow.ensures.machine
     ∙ (λ j. study_preceded_by (sym c.in_ok-follow.ensures.text j)
-    (acts_table (sym c.in_ok-follow.ensures.machine j).n (sym c.in_ok-follow.ensures.machine j).cap c.args.table
-    (sym c.in_ok-follow.ensures.studied j) (drop (i + 1) acts)))
+    (repeats_from c.follow.new.machine.n c.follow.new.machine.cap (sym c.in_ok-follow.ensures.calm j)
+    c.follow.new.machine.machine (drop (i + 1) acts)))
 
 pub returns-clause-value : goal.returns-clause-value
 returns-clause-value g c =
@@ -47,6 +50,5 @@ returns-clause-value g c =
     let i = c.loop-done.done in
     let lab = c.loop-done.machine in
     c.loop-done.invariant
-    ∙ no_acts lab.n lab.cap c.args.table (studied lab.machine c.loop-done.known) (drop i acts) c.loop-done.text.items
+    ∙ none_followed lab.n lab.cap c.loop-done.calm lab.machine (drop i acts) c.loop-done.text.items
     (drop_all i acts c.loop-done-test.false)
-    ∙ ap (λ text. Ok text) (sym c.in_ok-tell_end.ensures.ok)
