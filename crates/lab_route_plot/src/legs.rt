@@ -69,11 +69,7 @@ pub(crate) struct Leg {
 }
 
 /// The legs that the lines of a route tell.
-pub(crate) fn read_legs(
-    alloc: Global,
-    text: &[u8],
-    cycles: Cycles,
-) -> Result<Vec<Leg>, PlotFault>
+pub(crate) fn read_legs(alloc: Global, text: &[u8], cycles: Cycles) -> Result<Vec<Leg>, PlotFault>
     ensures value { IfOk result (λ legs. legs_after cycles 1 [] (lines_of text.now) ≡ Ok legs.items) }
     ensures refused { IfErr result (λ fault. fault ≢ PlotFault.Memory
         → legs_after cycles 1 [] (lines_of text.now) ≡ Err fault) }
@@ -94,12 +90,7 @@ pub(crate) fn read_legs(
 }
 
 /// The legs of a line of this number, whatever blanks stand around it; a blank line has none.
-fn push_line(
-    legs: &mut Vec<Leg>,
-    number: u64,
-    line: &[u8],
-    cycles: Cycles,
-) -> Result<(), PlotFault>
+fn push_line(legs: &mut Vec<Leg>, number: u64, line: &[u8], cycles: Cycles) -> Result<(), PlotFault>
     ensures ok { OnOk result (legs_with cycles number legs.old.items line.now ≡ Ok legs.new.items) }
     ensures err { IfErr result (λ fault. fault ≢ PlotFault.Memory
         → legs_with cycles number legs.old.items line.now ≡ Err fault) }
@@ -112,12 +103,7 @@ fn push_line(
 }
 
 /// Those of a line that has to be one of a route.
-fn push_told(
-    legs: &mut Vec<Leg>,
-    number: u64,
-    line: &[u8],
-    cycles: Cycles,
-) -> Result<(), PlotFault>
+fn push_told(legs: &mut Vec<Leg>, number: u64, line: &[u8], cycles: Cycles) -> Result<(), PlotFault>
     ensures ok { OnOk result (legs_told cycles number legs.old.items line.now ≡ Ok legs.new.items) }
     ensures err { IfErr result (λ fault. fault ≢ PlotFault.Memory
         → legs_told cycles number legs.old.items line.now ≡ Err fault) }

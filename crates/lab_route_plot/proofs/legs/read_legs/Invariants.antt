@@ -5,5 +5,5 @@ use Rattle.lab_route_plot.proofs.legs.read_legs.Given as goal
 
 -- what is left gives what all of it gave at the start
 abbrev pub invariant-loop-line : goal.invariant-loop-line
-invariant-loop-line l = 
+invariant-loop-line l =
     legs_after l.cycles l.number l.legs.items (lines_left l.line-iterator) ≡ legs_after l.cycles 1 [] (lines_of l.fn.text)
