@@ -546,11 +546,7 @@ fn read_routed<'a>(
     ensures refused { IfErr result (Reports (routed asked image.now program.now (texts words.now))) }
 {
     let sent = read_sender(alloc, words)?;
-    Ok(reporting(
-        Task::Route(asked.room, asked.excerpt, sent),
-        image,
-        program,
-    ))
+    Ok(reporting(Task::Route(asked.room, asked.excerpt, sent), image, program))
 }
 
 /// Which message it is, by the words that say who sent it.

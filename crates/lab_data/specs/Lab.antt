@@ -12,11 +12,11 @@ use Rattle.lab_study.specs.declared.studies.StudyFault.{StudyFault}
 use Rattle.lab_study.specs.declared.studies.StudyFault.TheVariants as study
 use Rattle.lab_study.specs.Studies.{study_table}
 use Rattle.lab_study.specs.declared.studies.Table.{Table}
-use Rattle.lab_study.specs.declared.routes.Excerpt.{Excerpt}
-use Rattle.lab_study.specs.declared.routes.RouteFault.{RouteFault}
+use Rattle.lab_route.specs.declared.routes.Excerpt.{Excerpt}
+use Rattle.lab_route.specs.declared.routes.RouteFault.{RouteFault}
 use Rattle.lab_machine.specs.declared.machine.RoomFault.{RoomFault}
 use Rattle.lab_machine.specs.Machines.{room_fault}
-use Rattle.lab_study.specs.Routes.{route_of}
+use Rattle.lab_route.specs.Routes.{route_of}
 use Rattle.cm_image_format.specs.Whole.{text_of}
 use Rattle.cm_sizes.specs.declared.opening.OpenFault.{OpenFault}
 use Rattle.cm_sizes.specs.declared.opening.OpenFault.TheVariants as unopened

@@ -26,9 +26,8 @@ use lab_figures::{
     write_numbers,
 };
 use lab_machine::{LabMachine, RoomFault};
-use lab_study::{
-    Excerpt, RouteFault, StudyFault, Table, Unwatched, Watch, route, study,
-};
+use lab_route::{Excerpt, RouteFault, route};
+use lab_study::{StudyFault, Table, Unwatched, Watch, study};
 use std::alloc::Global;
 use thiserror::Error;
 

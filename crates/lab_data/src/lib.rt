@@ -17,7 +17,8 @@ pub use lab_figures::{
     write_in, write_look, write_numbers,
 };
 pub use lab_machine::RoomFault;
-pub use lab_study::{Excerpt, RouteFault, Table, Watch};
+pub use lab_route::{Excerpt, RouteFault};
+pub use lab_study::{Table, Watch};
 pub use order::Order;
 pub use picture_laws::{dots_are_places, pictures_read_back};
 pub use pictures::{ShowFault, Shown, show};

@@ -1,10 +1,7 @@
 pub mod Agreeing
-pub mod Following
 pub mod Going
 pub mod Idling
 pub mod Repeated
 pub mod Rounds
-pub mod Routing
-pub mod Searching
 pub mod Sending
 pub mod Sums

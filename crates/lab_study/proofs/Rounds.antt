@@ -17,7 +17,7 @@ use Rattle.cm_model.proofs.Runs.{length-buffers-run_of}
 use Rattle.cm_model.proofs.Unlogged.{same_tag-true}
 use Rattle.lab_study.specs.declared.holdings.Held.{Held}
 use Rattle.lab_study.specs.Holdings.{held, held_at, holdings, same_message, same_held, same_holdings, event_count}
-use Rattle.lab_study.specs.RoundLaws.{cycles_on, IsStill, GoesOn}
+use Rattle.lab_study.specs.RoundLaws.{cycles_on, IsStill, GoesRound}
 use Rattle.lab_study.proofs.Idling.{crossed_buffers, chips_in, buffers_in, out_of, cycled, run_of-cycle, IsIdle}
 use Rattle.lab_study.proofs.Idling.{idle_from_still, still_from_idle, none_taken, asks_stay, receives_stay}
 
@@ -266,7 +266,7 @@ rounds n cap period machine (suc k) is some round =
 pub go_round : (n cap period : ℕ) (machine : Machine) → length machine.buffers ≡ 2 ^ n → 0 < period
     → ((k : ℕ) → k < period → IsStill n cap machine k)
     → same_holdings (holdings n (cycles_on n cap machine period)) (holdings n machine) ≡ true
-    → (k : ℕ) → GoesOn n cap period machine k
+    → (k : ℕ) → GoesRound n cap period machine k
 go_round n cap period machine is some still same k =
     let round = rounds n cap period machine k is some (round_first n cap period machine is still same) in
     record {

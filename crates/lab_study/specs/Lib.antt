@@ -3,12 +3,8 @@ pub mod Counts
 pub mod Holdings
 pub mod Repeats
 pub mod RoundLaws
-pub mod RouteLines
-pub mod Routes
 pub mod Studies
 pub mod Study
 pub mod StudyLaws
 pub mod Tables
 pub mod Traces
-pub mod Waits
-pub mod Whereabouts

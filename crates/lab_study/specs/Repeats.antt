@@ -34,12 +34,12 @@ abbrev pub place_of : List Held → List (List Held) → Option ℕ
 place_of now times = position (λ time. same_holdings time now) times
 
 -- at the chip that it is bound for
-abbrev pub has_come : Held → Bool
-has_come h = has_arrived h.message
+abbrev pub is_at_its_chip : Held → Bool
+is_at_its_chip h = has_arrived h.message
 
 -- of messages, how many stand there
 abbrev pub come_count : List Held → ℕ
-come_count now = count_by has_come now
+come_count now = count_by is_at_its_chip now
 
 -- the line of a round that ended at this count of petit cycles: at which count it began, how many petit cycles it has,
 -- how many messages stand, and how often in it one stands at the chip that it is bound for
@@ -48,9 +48,9 @@ round_line clock round = number_cell (clock - length round) ++ number_cell (leng
     ++ number_cell (length (nth_or_nil round 0)) ++ last_number_cell (sum_by come_count round)
 
 -- what is told where the routers hold what they held at a place of these times
-abbrev pub place_text : ℕ → List (List Held) → Option ℕ → List ℕ
-place_text clock times None = []
-place_text clock times (Some place) = round_line clock (drop place times)
+abbrev pub repeat_text : ℕ → List (List Held) → Option ℕ → List ℕ
+repeat_text clock times None = []
+repeat_text clock times (Some place) = round_line clock (drop place times)
 
 -- what is kept then: it is told once
 abbrev pub calm_to : Calm → List Held → Option ℕ → Calm
@@ -65,7 +65,7 @@ calm_before n calm machine = record calm { times = times_before n calm.times mac
 
 -- what a calm tells that goes on with it
 abbrev pub calm_text : ℕ → Calm → Machine → List ℕ
-calm_text n calm after = place_text after.clock calm.times (place_of (holdings n after) calm.times)
+calm_text n calm after = repeat_text after.clock calm.times (place_of (holdings n after) calm.times)
 
 -- what is told
 abbrev pub cycle_repeat : ℕ → Calm → Machine → Machine → List ℕ

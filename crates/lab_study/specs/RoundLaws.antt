@@ -16,7 +16,7 @@ IsStill n cap machine count =
     event_count n (cycles_on n cap machine (suc count)) ≡ event_count n (cycles_on n cap machine count)
 
 -- and the routers hold then what they hold a period later
-pub record GoesOn (n cap period : ℕ) (machine : Machine) (count : ℕ) : Type 0 where
+pub record GoesRound (n cap period : ℕ) (machine : Machine) (count : ℕ) : Type 0 where
   pub still : IsStill n cap machine count
   pub same : holdings n (cycles_on n cap machine (count + period)) ≡ holdings n (cycles_on n cap machine count)
 
@@ -26,7 +26,7 @@ abbrev pub RoutersGoRound : Type 0
 RoutersGoRound = (n cap period : ℕ) (machine : Machine) → length machine.buffers ≡ 2 ^ n → 0 < period
     → ((count : ℕ) → count < period → IsStill n cap machine count)
     → same_holdings (holdings n (cycles_on n cap machine period)) (holdings n machine) ≡ true
-    → (count : ℕ) → GoesOn n cap period machine count
+    → (count : ℕ) → GoesRound n cap period machine count
 
 -- a message to processor 3 of chip 2 that stands at chip c
 abbrev pub wanderer : ℕ → ℕ → Held

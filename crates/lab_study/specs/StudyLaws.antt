@@ -5,7 +5,6 @@ use Rattle.cm_model.specs.Machine.{Machine, run_of}
 use Rattle.cm_model.specs.Account.{newly_injected}
 use Rattle.cm_model.specs.Deliveries.{standing_lines, newly_delivered}
 use Rattle.lab_study.specs.declared.counts.Counts.{Counts}
-use Rattle.lab_study.specs.declared.whereabouts.Stand.{Stand}
 use Rattle.lab_study.specs.Counts.{log_lengths, counts_of}
 use Rattle.lab_study.specs.Traces.{Traces}
 
@@ -22,12 +21,3 @@ abbrev pub CountsAgreeWithTheAccount : Type 0
 CountsAgreeWithTheAccount = (n cap : ℕ) (traces : Traces) (machine : Machine)
     → AgreesWithTheAccount n machine (run_of n cap machine (Cycle ∷ []))
     (counts_of n cap (log_lengths n machine) traces (run_of n cap machine (Cycle ∷ [])))
-
--- a message to processor 15 of chip 0 that stands at chip c, at this place of so many
-abbrev pub example_stand : ℕ → ℕ → ℕ → Stand
-example_stand c place count = record {
-  chip = c;
-  place = place;
-  count = count;
-  message = record { rel = c; proc = 15; payload = 0; tag = record { chip = 15; proc = 0; birth = 0 } };
-}

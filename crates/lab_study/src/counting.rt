@@ -13,20 +13,17 @@ ghost use Rattle.lab_study.specs.Counts.{counts_of};
 ghost use Rattle.lab_study.specs.Traces.{trace_of, referrals};
 
 use crate::counts::Counts;
-use lab_machine::LabMachine;
 use crate::ways::Ways;
 use cm_bits::{FlagNo, NoMemory, Proc};
 use cm_element::ChipView;
 use cm_model::{Event, Message};
+use lab_machine::LabMachine;
 use std::alloc::Global;
 
 const PROCESSORS: u8 = 16;
 
 /// By chip, how many events its log has.
-pub(crate) fn log_lengths(
-    alloc: Global,
-    machine: &LabMachine,
-) -> Result<Vec<usize>, NoMemory>
+pub fn log_lengths(alloc: Global, machine: &LabMachine) -> Result<Vec<usize>, NoMemory>
     ensures value { IfOk result (λ lengths. lengths.items ≡ log_lengths machine.now.n machine.now.machine) }
 {
     let chips = machine.chips();
@@ -70,11 +67,7 @@ fn counts_at(before: &[usize], ways: &Ways, machine: &LabMachine, chip: u16) -> 
 }
 
 /// The events of a chip behind those that were there before: by chip so many.
-pub(crate) fn events_behind<'a>(
-    before: &[usize],
-    machine: &'a LabMachine,
-    chip: u16,
-) -> &'a [Event]
+pub fn events_behind<'a>(before: &[usize], machine: &'a LabMachine, chip: u16) -> &'a [Event]
     requires chip { chip < 2 ^ machine.now.n }
     ensures value { result.now ≡ events_behind before.now machine.now.machine chip }
 {

@@ -6,12 +6,12 @@ ghost use Rattle.lab_machine.specs.Machines.{lab_after};
 ghost use Rattle.lab_study.specs.Study.{studied, study_opening, study_cycle_text, end_text, act_text, one_act_on};
 
 use crate::counting::{counts, log_lengths};
-use lab_machine::LabMachine;
 use crate::studies::LinesOf;
 use crate::tables::{push_cycle, push_delivered, push_standing};
 use crate::ways::Ways;
 use cm_bits::NoMemory;
 use cm_model::Act;
+use lab_machine::LabMachine;
 use std::alloc::Global;
 
 /// By chip, how many of its events were told; and what is known of the messages that stand in routers.
@@ -23,10 +23,7 @@ pub(crate) struct Known {
 
 impl Known {
     /// At the start of a study.
-    pub(crate) fn opening(
-        alloc: Global,
-        machine: &LabMachine,
-    ) -> Result<Known, NoMemory>
+    pub(crate) fn opening(alloc: Global, machine: &LabMachine) -> Result<Known, NoMemory>
         ensures value { IfOk result (λ known.
             studied machine.now.machine known ≡ study_opening machine.now.n machine.now.machine) }
     {

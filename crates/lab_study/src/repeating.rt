@@ -5,8 +5,8 @@ ghost use Rattle.std.specs.Prelude.{not, Ok, Err, IfOk, IfErr, IfSome, OnOk, dro
 ghost use Rattle.cm_model.specs.declared.act.Act.TheVariants as act;
 ghost use Rattle.lab_machine.specs.Machines.{lab_after};
 ghost use Rattle.lab_study.specs.Holdings.{holdings, event_count};
-ghost use Rattle.lab_study.specs.Repeats.{no_calm, times_before, place_of, has_come, come_count, round_line};
-ghost use Rattle.lab_study.specs.Repeats.{place_text, calm_to, cycle_repeat, calm_after_cycle, act_repeat, calm_after};
+ghost use Rattle.lab_study.specs.Repeats.{no_calm, times_before, place_of, is_at_its_chip, come_count, round_line};
+ghost use Rattle.lab_study.specs.Repeats.{repeat_text, calm_to, cycle_repeat, calm_after_cycle, act_repeat, calm_after};
 ghost use Rattle.lab_study.specs.Repeats.{repeats_header, repeats_table};
 
 use crate::holdings::{Held, are_same_holdings, event_count, holdings};
@@ -122,11 +122,11 @@ fn come_in_round(round: &[Vec<Held>]) -> u128
 fn come_count(now: &[Held]) -> usize
     ensures value { result ≡ come_count now.now }
 {
-    now.iter().filter(|held| has_come(held)).count()
+    now.iter().filter(|held| is_at_its_chip(held)).count()
 }
 
-fn has_come(held: &Held) -> bool
-    ensures value { result ≡ has_come held.now }
+fn is_at_its_chip(held: &Held) -> bool
+    ensures value { result ≡ is_at_its_chip held.now }
 {
     held.message.rel == 0
 }
@@ -211,7 +211,7 @@ impl Calm {
     /// Looks for what the routers hold now among the times, and tells the round, or keeps it.
     fn look(&mut self, now: Vec<Held>, clock: u64, text: &mut Vec<u8>) -> Result<(), NoMemory>
         ensures text { OnOk result (text.new.items ≡ text.old.items
-            ++ place_text clock self.old.times (place_of now.items self.old.times)) }
+            ++ repeat_text clock self.old.times (place_of now.items self.old.times)) }
         ensures calm { OnOk result (self.new ≡ calm_to self.old now.items (place_of now.items self.old.times)) }
     {
         match self.times.place_of(&now) {

@@ -6,10 +6,10 @@ ghost use Rattle.lab_study.specs.Study.{table_header, act_lacks_room, lines_tabl
 
 use crate::known::Known;
 use crate::repeating::repeats;
-use lab_machine::{LAST_CLOCK, LabMachine};
 use crate::watch::Watch;
 use cm_bits::NoMemory;
 use cm_model::Act;
+use lab_machine::{LAST_CLOCK, LabMachine};
 use std::alloc::Global;
 use thiserror::Error;
 
@@ -112,7 +112,7 @@ fn opening_text(alloc: Global, table: LinesOf) -> Result<Vec<u8>, NoMemory>
 }
 
 /// Whether the act is a petit cycle for which the counter has no room.
-pub(crate) fn lacks_room(clock: u64, act: &Act) -> bool
+pub fn lacks_room(clock: u64, act: &Act) -> bool
     ensures value { result ≡ act_lacks_room clock act.now }
 {
     match act {

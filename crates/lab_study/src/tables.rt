@@ -10,12 +10,12 @@ ghost use Rattle.lab_study.specs.Traces.{trace_of};
 
 use crate::counting::events_behind;
 use crate::counts::Counts;
-use lab_machine::LabMachine;
 use crate::trace::Trace;
 use crate::ways::Ways;
 use cm_bits::NoMemory;
 use cm_model::{Event, Message};
 use lab_digits::{push_byte, push_number};
+use lab_machine::LabMachine;
 
 /// The line of a petit cycle.
 #[tactic(auto, unfolding(crate::specs::Tables::cycle_line))]

@@ -7,10 +7,10 @@ ghost use Rattle.cm_model.specs.Found.{same_tag};
 ghost use Rattle.lab_study.specs.declared.trace.Trace.{Trace};
 ghost use Rattle.lab_study.specs.Traces.{trace_of, trace_after, by_sender, traces_after};
 
-use lab_machine::LabMachine;
 use crate::trace::Trace;
 use cm_bits::NoMemory;
 use cm_model::{Message, Tag};
+use lab_machine::LabMachine;
 use std::alloc::Global;
 use std::marker::Model;
 
@@ -54,11 +54,7 @@ impl Ways {
     }
 
     /// What is known one petit cycle on, when the machine is this.
-    pub(crate) fn after(
-        &self,
-        alloc: Global,
-        machine: &LabMachine,
-    ) -> Result<Ways, NoMemory>
+    pub(crate) fn after(&self, alloc: Global, machine: &LabMachine) -> Result<Ways, NoMemory>
         ensures value { IfOk result (λ ways. ways ≡ traces_after machine.now.n self.now machine.now.machine) }
     {
         let mut next = Ways::blank(alloc, machine)?;
@@ -151,7 +147,8 @@ fn known_of(traces: &[Trace], tag: &Tag) -> Option<Trace>
     None
 }
 
-pub(crate) fn are_same(left: &Tag, right: &Tag) -> bool
+/// Whether two tags are one.
+pub fn are_same(left: &Tag, right: &Tag) -> bool
     ensures value { result ≡ same_tag left.now right.now }
 {
     left.chip == right.chip && left.proc.get() == right.proc.get() && left.birth == right.birth

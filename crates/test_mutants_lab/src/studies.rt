@@ -1,12 +1,13 @@
-//! Calls of lab_study.
+//! Calls of lab_study and lab_route.
 
 ghost use Rattle.std.specs.Prelude.{◌≡◌, ◌≢◌, Ok, Err, IfOk, IfErr};
-ghost use Rattle.lab_study.specs.Routes.{route_of};
+ghost use Rattle.lab_route.specs.Routes.{route_of};
 ghost use Rattle.lab_study.specs.Studies.{study_table};
 
 use cm_model::{Act, Tag};
 use lab_machine::LabMachine;
-use lab_study::{Excerpt, RouteFault, StudyFault, Table, Watch};
+use lab_route::{Excerpt, RouteFault};
+use lab_study::{StudyFault, Table, Watch};
 use std::alloc::Global;
 
 /// What `lab_study::study` promises, word for word.
@@ -25,7 +26,7 @@ pub fn study<W: Watch>(
     lab_study::study(alloc, machine, acts, table, watch)
 }
 
-/// What `lab_study::route` promises, word for word.
+/// What `lab_route::route` promises, word for word.
 pub fn route<W: Watch>(
     alloc: Global,
     machine: &mut LabMachine,
@@ -39,5 +40,5 @@ pub fn route<W: Watch>(
     ensures refused { IfErr result (λ fault. fault ≢ RouteFault.Memory
         → route_of machine.old.n machine.old.cap excerpt tag machine.old.machine acts.now ≡ Err fault) }
 {
-    lab_study::route(alloc, machine, acts, excerpt, tag, watch)
+    lab_route::route(alloc, machine, acts, excerpt, tag, watch)
 }

@@ -1,4 +1,4 @@
-use Rattle.lab_study.specs.Routes.{route_of}
+use Rattle.lab_route.specs.Routes.{route_of}
 use Rattle.lab_data.specs.Lab.{of_route}
 use Rattle.lab_data.proofs.Studying.{no_program}
 use Rattle.lab_data.proofs.lab.routed.Goals as goal

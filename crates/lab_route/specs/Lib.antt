@@ -1,0 +1,5 @@
+pub mod RouteLaws
+pub mod RouteLines
+pub mod Routes
+pub mod Waits
+pub mod Whereabouts
