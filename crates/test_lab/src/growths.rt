@@ -168,7 +168,7 @@ enum Grown {
     ForAll,
 }
 
-static GROWN: [Grown; 13] = [
+static GROWN: [Grown; 14] = [
     Grown::Read,
     Grown::Numbers,
     Grown::Picture,
