@@ -1,6 +1,6 @@
 -- Texts of numbers: words that are numbers, separated by blanks and the ends of lines. Ours.
 use Rattle.std.specs.Prelude.{ℕ, ◌+◌, ◌^◌, ◌%◌, ◌==◌, nat_lt, if◌then◌else◌, Option, Some, None, Result, Ok, Err, List, []}
-use Rattle.std.specs.Prelude.{◌∷◌, ◌++◌, length, decimal}
+use Rattle.std.specs.Prelude.{◌∷◌, ◌++◌, length, decimal, codes}
 use Rattle.cm_bits.specs.Text.{lines_of, words_of, number_of}
 use Rattle.lab_figures.specs.declared.numbers.NumbersFault.{NumbersFault}
 use Rattle.lab_figures.specs.declared.numbers.NumbersFault.TheVariants.{NotNumber, TooLarge, TooMany, TooFew}
@@ -36,6 +36,10 @@ numbers_after_lines len count line numbers (text ∷ texts) =
 -- the numbers of a text, which is to have so many, each of so many bits; or its first fault, lines counted from 1
 abbrev pub numbers_in : ℕ → ℕ → List ℕ → Result (List ℕ) NumbersFault
 numbers_in len count text = numbers_after_lines len count 1 [] (lines_of text)
+
+-- what a noun ends in that so many are counted of
+abbrev pub plural : ℕ → List ℕ
+plural count = if count == 1 then [] else codes "s"
 
 -- ---- writing
 

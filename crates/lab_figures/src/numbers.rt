@@ -3,7 +3,7 @@
 ghost use Rattle.std.specs.Prelude.{◌≡◌, ◌≢◌, ◌<◌, ◌≤◌, ◌++◌, ◌∷◌, [], ◌^◌, nat_lt, Ok, Err, IfOk, IfErr, OnOk, length};
 ghost use Rattle.cm_bits.specs.Text.{words_of};
 ghost use Rattle.lab_figures.specs.Numbers.{numbers_after_words, one_number_more, numbers_in, numbers_text};
-ghost use Rattle.lab_figures.specs.Numbers.{separator_behind};
+ghost use Rattle.lab_figures.specs.Numbers.{separator_behind, plural};
 
 use cm_bits::{Lines, NoMemory, Words, read_number};
 use lab_digits::push_number;
@@ -19,7 +19,7 @@ pub enum NumbersFault {
     TooLarge(u64),
     #[error("line {0}: more numbers than processors")]
     TooMany(u64),
-    #[error("only {0} numbers")]
+    #[error("only {0} number{ending}", ending = plural(.0))]
     TooFew(u64),
     #[error("out of memory")]
     Memory,
@@ -34,6 +34,13 @@ impl From<NoMemory> for NumbersFault {
     fn from(_: NoMemory) -> NumbersFault {
         NumbersFault::Memory
     }
+}
+
+/// What a noun ends in that so many are counted of.
+fn plural(count: &u64) -> &'static str
+    ensures value { result.now ≡ plural count.now }
+{
+    if *count == 1 { "" } else { "s" }
 }
 
 /// The numbers of a text, which is to have so many, each of so many bits.

@@ -1,7 +1,9 @@
 pub mod Agreeing
+pub mod Calms
 pub mod Going
 pub mod Idling
 pub mod Repeated
 pub mod Rounds
 pub mod Sending
 pub mod Sums
+pub mod ToldRounds

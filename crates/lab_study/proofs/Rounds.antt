@@ -17,7 +17,7 @@ use Rattle.cm_model.proofs.Runs.{length-buffers-run_of}
 use Rattle.cm_model.proofs.Unlogged.{same_tag-true}
 use Rattle.lab_study.specs.declared.holdings.Held.{Held}
 use Rattle.lab_study.specs.Holdings.{held, held_at, holdings, same_message, same_held, same_holdings, event_count}
-use Rattle.lab_study.specs.RoundLaws.{cycles_on, IsStill, GoesRound}
+use Rattle.lab_study.specs.RoundLaws.{cycles_on, IsStill, IsRound, GoesRound}
 use Rattle.lab_study.proofs.Idling.{crossed_buffers, chips_in, buffers_in, out_of, cycled, run_of-cycle, IsIdle}
 use Rattle.lab_study.proofs.Idling.{idle_from_still, still_from_idle, none_taken, asks_stay, receives_stay}
 
@@ -42,7 +42,7 @@ one_held h k e =
     λ i. record { chip = chip i; message = message i }
 
 -- lists that pass the test are one
-one_list : (now time : List Held) → same_holdings now time ≡ true → now ≡ time
+pub one_list : (now time : List Held) → same_holdings now time ≡ true → now ≡ time
 one_list [] [] e = refl
 one_list [] (k ∷ ks) e = absurd cc
 one_list (h ∷ hs) [] e = absurd cc
@@ -263,13 +263,12 @@ rounds n cap period machine zero is some round = round
 rounds n cap period machine (suc k) is some round =
     round_next n cap period machine k is some (rounds n cap period machine k is some round)
 
-pub go_round : (n cap period : ℕ) (machine : Machine) → length machine.buffers ≡ 2 ^ n → 0 < period
-    → ((k : ℕ) → k < period → IsStill n cap machine k)
-    → same_holdings (holdings n (cycles_on n cap machine period)) (holdings n machine) ≡ true
-    → (k : ℕ) → GoesRound n cap period machine k
-go_round n cap period machine is some still same k =
-    let round = rounds n cap period machine k is some (round_first n cap period machine is still same) in
+pub go_round : (n cap period : ℕ) (machine : Machine) → IsRound n cap period machine → (k : ℕ)
+    → GoesRound n cap period machine k
+go_round n cap period machine first k =
+    let round = rounds n cap period machine k first.buffers first.some
+    (round_first n cap period machine first.buffers first.still first.same) in
     record {
-      still = idle_still n cap machine k is (round.idle k (omega arith) (omega (arith, some)));
+      still = idle_still n cap machine k first.buffers (round.idle k (omega arith) (omega (arith, first.some)));
       same = sym (alike_holdings n cap (cycles_on n cap machine k) (cycles_on n cap machine (k + period)) round.alike);
     }
