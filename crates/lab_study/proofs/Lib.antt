@@ -1,6 +1,7 @@
 pub mod Agreeing
 pub mod Going
 pub mod Idling
+pub mod Lines
 pub mod Repeated
 pub mod Rounds
 pub mod Sending

@@ -42,7 +42,7 @@ one_held h k e =
     λ i. record { chip = chip i; message = message i }
 
 -- lists that pass the test are one
-one_list : (now time : List Held) → same_holdings now time ≡ true → now ≡ time
+pub one_list : (now time : List Held) → same_holdings now time ≡ true → now ≡ time
 one_list [] [] e = refl
 one_list [] (k ∷ ks) e = absurd cc
 one_list (h ∷ hs) [] e = absurd cc
@@ -170,7 +170,7 @@ alike_next n cap a b alike idle =
 
 -- ---- petit cycle after petit cycle
 
-long : (n cap : ℕ) (machine : Machine) (k : ℕ) → length machine.buffers ≡ 2 ^ n
+pub long : (n cap : ℕ) (machine : Machine) (k : ℕ) → length machine.buffers ≡ 2 ^ n
     → length (cycles_on n cap machine k).buffers ≡ 2 ^ n
 long n cap machine zero is = is
 long n cap machine (suc k) is = length-buffers-run_of n cap (cycles_on n cap machine k) (Cycle ∷ [])
@@ -240,11 +240,10 @@ round_next n cap period machine k is some round =
 
 round_first : (n cap period : ℕ) (machine : Machine) → length machine.buffers ≡ 2 ^ n
     → ((k : ℕ) → k < period → IsStill n cap machine k)
-    → same_holdings (holdings n (cycles_on n cap machine period)) (holdings n machine) ≡ true
+    → holdings n machine ≡ holdings n (cycles_on n cap machine period)
     → Round n cap period machine zero
-round_first n cap period machine is still same =
+round_first n cap period machine is still held_so =
     let kept_so = stays n cap machine is period still in
-    let held_so = sym (one_list (holdings n (cycles_on n cap machine period)) (holdings n machine) same) in
     let place : period ≡ 0 + period = omega arith in
     record {
       idle = λ i from below. still_idle n cap machine i is (still i (omega (arith, below)));
@@ -263,13 +262,23 @@ rounds n cap period machine zero is some round = round
 rounds n cap period machine (suc k) is some round =
     round_next n cap period machine k is some (rounds n cap period machine k is some round)
 
-pub go_round : (n cap period : ℕ) (machine : Machine) → length machine.buffers ≡ 2 ^ n → 0 < period
+-- where the routers hold then what they held
+pub goes_on : (n cap period : ℕ) (machine : Machine) → length machine.buffers ≡ 2 ^ n → 0 < period
     → ((k : ℕ) → k < period → IsStill n cap machine k)
-    → same_holdings (holdings n (cycles_on n cap machine period)) (holdings n machine) ≡ true
+    → holdings n machine ≡ holdings n (cycles_on n cap machine period)
     → (k : ℕ) → GoesRound n cap period machine k
-go_round n cap period machine is some still same k =
+goes_on n cap period machine is some still same k =
     let round = rounds n cap period machine k is some (round_first n cap period machine is still same) in
     record {
       still = idle_still n cap machine k is (round.idle k (omega arith) (omega (arith, some)));
       same = sym (alike_holdings n cap (cycles_on n cap machine k) (cycles_on n cap machine (k + period)) round.alike);
     }
+
+-- the same by the test that the code makes
+pub go_round : (n cap period : ℕ) (machine : Machine) → length machine.buffers ≡ 2 ^ n → 0 < period
+    → ((k : ℕ) → k < period → IsStill n cap machine k)
+    → same_holdings (holdings n (cycles_on n cap machine period)) (holdings n machine) ≡ true
+    → (k : ℕ) → GoesRound n cap period machine k
+go_round n cap period machine is some still same k =
+    goes_on n cap period machine is some still
+    (sym (one_list (holdings n (cycles_on n cap machine period)) (holdings n machine) same)) k

@@ -16,7 +16,7 @@ mod ways;
 
 pub use counting::{events_behind, log_lengths};
 pub use counts::Counts;
-pub use round_laws::{rounds_are_told_so, routers_go_round};
+pub use round_laws::{lines_tell_rounds, rounds_are_told_so, routers_go_round};
 pub use studies::{StudyFault, Table, lacks_room, study};
 pub use study_laws::counts_agree_with_the_account;
 pub use trace::Trace;

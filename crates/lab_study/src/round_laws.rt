@@ -2,11 +2,16 @@
 
 ghost use Rattle.std.specs.Prelude.{◌≡◌, [], ◌∷◌, None, Some, codes};
 ghost use Rattle.lab_study.specs.Repeats.{place_of, repeat_text};
-ghost use Rattle.lab_study.specs.RoundLaws.{RoutersGoRound, wanderer};
+ghost use Rattle.lab_study.specs.RoundLaws.{RoutersGoRound, LinesTellRounds, wanderer};
 
 /// Where nothing comes in or out while they come to hold it again, it goes on so for any number of petit cycles.
 pub fn routers_go_round()
     ensures { RoutersGoRound }
+{}
+
+/// Each line that a program's repeats tell is of a round that ended with the petit cycle that tells it, and goes on so.
+pub fn lines_tell_rounds()
+    ensures { LinesTellRounds }
 {}
 
 /// A message goes from chip 0 over chip 1 to chip 3 in a petit cycle and back in the next, or waits where it has come.
