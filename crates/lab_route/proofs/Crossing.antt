@@ -19,9 +19,15 @@ use Rattle.cm_model.specs.Buffers.{leaving_place, outgoing, sent_across}
 use Rattle.cm_model.specs.Found.{same_tag}
 use Rattle.cm_model.proofs.Places.{element_at-one_behind}
 use Rattle.lab_route.specs.declared.waits.Wait.{Wait}
-use Rattle.lab_route.specs.declared.waits.Wait.TheVariants.{Cut}
+use Rattle.lab_route.specs.declared.waits.Wait.TheVariants.{Cut, Behind}
 use Rattle.lab_route.specs.declared.whereabouts.Stand.{Stand}
 use Rattle.lab_route.specs.Waits.{wait_at, wait_behind}
+
+apart : true ≡ false → ⊥
+apart e = absurd cc
+
+some_none : {X : Type 0} (x : X) → Some x ≡ None → ⊥
+some_none x e = absurd cc
 
 -- ---- a buffer
 
@@ -41,7 +47,7 @@ first_there d i here m l has =
     ∙ there here k inside)
     (λ (past : length here ≤ k).
     let fails = fails_before_first (has_to_cross d) here i m (omega (arith, l, past)) in
-    let no : true ≡ false = sym has ∙ fails in absurd cc)
+    absurd (apart (sym has ∙ fails)))
     (cases_lt k (length here))
 
 -- by rule 1
@@ -99,7 +105,8 @@ who_goes d tag None some e = absurd cc
 who_goes d tag (Some q) some e =
     ⊎_elim
     (λ (same : same_tag q.tag tag ≡ true). same)
-    (λ (other : same_tag q.tag tag ≡ false). let no = rw other at e in absurd cc)
+    (λ (other : same_tag q.tag tag ≡ false).
+    absurd (some_none (Behind d q.tag) (sym (ap (λ (b : Bool). if b then None else Some (Behind d q.tag)) other) ∙ e)))
     (cases_Bool (same_tag q.tag tag))
 
 pub crosses : (cap d i : ℕ) (machine : Machine) (stand : Stand) (m : Message)
@@ -117,8 +124,8 @@ crosses cap d i machine stand m l at has none =
     else wait_behind d tag sent) else None) has) ∙ none in
     ⊎_elim
     (λ (cut : is_cut machine.routing stand.chip d ≡ true).
-    let no : Some (Cut d) ≡ None =
-    sym (ap (λ (b : Bool). if b then Some (Cut d) else wait_behind d tag sent) cut) ∙ waits in absurd cc)
+    absurd (some_none (Cut d)
+    (sym (ap (λ (b : Bool). if b then Some (Cut d) else wait_behind d tag sent) cut) ∙ waits)))
     (λ (whole : is_cut machine.routing stand.chip d ≡ false).
     who_goes d tag sent
     (somebody (way_of machine.routing stand.chip d) cap d i (nth_or_nil machine.buffers stand.chip) m whole l

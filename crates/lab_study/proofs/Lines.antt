@@ -21,6 +21,9 @@ use Rattle.lab_study.specs.Repeats.{calm_text, cycle_repeat, calm_after_cycle, a
 use Rattle.lab_study.specs.RoundLaws.{cycles_on, IsStill, TellsRound, EachTellsRound}
 use Rattle.lab_study.proofs.Rounds.{one_list, long, goes_on}
 
+apart : true ≡ false → ⊥
+apart e = absurd cc
+
 -- ---- petit cycles one after another
 
 later : (n cap : ℕ) (machine : Machine) (place count : ℕ)
@@ -116,7 +119,7 @@ round_told n cap times before after place lasts led same found =
     let first = cycles_on n cap lasts.first place in
     let come : cycles_on n cap first period ≡ after =
     later n cap lasts.first place period ∙ ap (cycles_on n cap lasts.first) ends ∙ now in
-    let at = λ (i : ℕ) (l : i < suc lasts.count).
+    let at : (i : ℕ) → i < suc lasts.count → get_or times i [] ≡ f i = λ i l.
     (λ j. get_or (lasts.times_are j) i []) ∙ get_or-each_below (suc lasts.count) f i [] l in
     let stills : (k : ℕ) → k < period → IsStill n cap first k = λ k l.
     let one : place + suc k ≡ suc (place + k) = omega arith in
@@ -165,7 +168,7 @@ told_none : (n cap : ℕ) (calm : Calm) (machine : Machine) → calm.told ≡ tr
 told_none n cap calm machine told keeps =
     ⊎_elim (λ (none : calm.times ≡ []). none)
     (λ (both : (calm.told ≡ false) × Lasts n cap calm.times machine).
-    let other : true ≡ false = sym told ∙ both.0 in absurd cc)
+    absurd (apart (sym told ∙ both.0)))
     keeps
 
 -- a petit cycle: was a line told, is it calm, and where did the routers hold the same
