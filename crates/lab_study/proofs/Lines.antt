@@ -199,8 +199,11 @@ one_cycle n cap calm before after false true None told is at led long keeps =
     record {
       tells = λ some. absurd (some (λ j. if told j then [] else if is j then repeat_text after.clock times (at j) else []));
       keeps = subst (λ (k : Calm). Keeps n cap k after) (sym next)
-          (inr (told, one_more n cap times before after
-          (begun n cap calm.times before long (lasting n cap calm before keeps)) led same));
+          (inr (
+            told,
+            one_more n cap times before after
+                (begun n cap calm.times before long (lasting n cap calm before keeps)) led same,
+          ));
     }
 one_cycle n cap calm before after false true (Some place) told is at led long keeps =
     let same = eqb-true (event_count n after) (event_count n before)
@@ -230,14 +233,16 @@ one_act n cap calm Sense machine long keeps =
 one_act n cap calm (Nano nano) machine long keeps =
     silent n cap [] no_calm (run_of n cap machine (Nano nano ∷ [])) refl (inl refl)
 
-pub each_tells : (n cap : ℕ) (calm : Calm) (machine : Machine) (acts : List Act) → length machine.buffers ≡ 2 ^ n
+each_tells : (n cap : ℕ) (calm : Calm) (machine : Machine) (acts : List Act) → length machine.buffers ≡ 2 ^ n
     → Keeps n cap calm machine → EachTellsRound n cap calm machine acts
 each_tells n cap calm machine [] long keeps = tt
 each_tells n cap calm machine (act ∷ acts) long keeps =
     let follows = one_act n cap calm act machine long keeps in
-    let after = run_of n cap machine (act ∷ []) in
-    (follows.tells, each_tells n cap (calm_after n calm act machine after) after acts
-    (length-buffers-run_of n cap machine (act ∷ [])) follows.keeps)
+    let after = run_of n cap machine (act ∷ []) in (
+      follows.tells,
+      each_tells n cap (calm_after n calm act machine after) after acts
+          (length-buffers-run_of n cap machine (act ∷ [])) follows.keeps,
+    )
 
 -- from no calm on
 pub lines_tell : (n cap : ℕ) (machine : Machine) (acts : List Act) → length machine.buffers ≡ 2 ^ n
