@@ -7,6 +7,7 @@ use Rattle.cm_image_format.specs.Cuts.{rule_of}
 use Rattle.lab_fresh.specs.declared.blanks.WireEnd.{WireEnd}
 use Rattle.lab_fresh.specs.Fresh.{is_stray, fresh_routing}
 use Rattle.lab_load.specs.declared.offers.Load.{Load}
+use Rattle.lab_load.specs.declared.offers.Pattern.TheVariants.{Uniform}
 use Rattle.lab_load.specs.declared.figures.Figures.{Figures}
 use Rattle.lab_load.specs.declared.latencies.Latencies.{Latencies as Told}
 use Rattle.lab_load.specs.declared.trials.Trial.{Trial}
@@ -58,6 +59,22 @@ trial_fault trial cuts rates =
     else if trial.room == 0 || nat_lt 15 trial.room then Some (Room trial.room)
     else or_load_fault (end_fault trial.n (find (is_stray trial.n) cuts))
     (or_load_fault (rate_fault (find (nat_lt 1600) rates)) (cycles_fault trial))
+
+-- worked: a trial with these numbers
+abbrev pub trial_with : ℕ → ℕ → ℕ → ℕ → ℕ → ℕ → ℕ → LoadTable → Trial
+trial_with n room cycles skip seeds rule background table = record {
+  n = n;
+  room = room;
+  rule = rule;
+  pattern = Uniform;
+  background = background;
+  until = 0;
+  seed = 1;
+  cycles = cycles;
+  skip = skip;
+  seeds = seeds;
+  table = table;
+}
 
 -- the load of a trial at a rate, with these targets
 pub record IsLoadOf (trial : Trial) (targets : List ℕ) (rate : ℕ) (load : Load) : Type 0 where

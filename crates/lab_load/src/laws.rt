@@ -1,6 +1,6 @@
 //! Laws over the definitions: values that are known from elsewhere, so that a wrong rule is not proved.
 
-ghost use Rattle.std.specs.Prelude.{◌≡◌, ◌%◌, [], ◌∷◌, codes, false, None, Some};
+ghost use Rattle.std.specs.Prelude.{◌≡◌, ◌%◌, [], ◌∷◌, codes, false, map, None, Some};
 ghost use Rattle.lab_load.specs.declared.offers.Pattern.TheVariants as pattern;
 ghost use Rattle.lab_load.specs.Offers.{aimed};
 ghost use Rattle.lab_counts.specs.Counts.{nothing_counted};
@@ -10,6 +10,9 @@ ghost use Rattle.lab_load.specs.Latencies.{histogram, rate_name, took_cell, late
 ghost use Rattle.lab_load.specs.declared.spreads.Column.TheVariants.{Throughput};
 ghost use Rattle.lab_load.specs.Spreads.{quantile_of, half_squared, figures_with};
 ghost use Rattle.lab_load.specs.Tables.{load_line, spread_line};
+ghost use Rattle.lab_load.specs.declared.trials.LoadFault.TheVariants as fault;
+ghost use Rattle.lab_load.specs.declared.trials.LoadTable.TheVariants as shown;
+ghost use Rattle.lab_load.specs.Trials.{trial_fault, trial_with};
 
 /// On four chips a place has six bits, on eight seven: of these places messages go to those, whatever is drawn.
 pub fn patterns_aim_so()
@@ -60,8 +63,8 @@ pub fn latencies_are_told_so()
 /// Quantiles; the square of the half width of two loads, that of 12.707 times half their difference; and the line of
 /// the loads of a rate.
 pub fn spreads_are_told_so()
-    ensures first_quantile { quantile_of 2 ≡ 12707 }
-    ensures fifth_quantile { quantile_of 6 ≡ 2571 }
+    ensures first_quantiles { map quantile_of (2 ∷ 3 ∷ 4 ∷ 5 ∷ 6 ∷ 7 ∷ 8 ∷ 9 ∷ 10 ∷ 11 ∷ [])
+        ≡ 12707 ∷ 4303 ∷ 3183 ∷ 2777 ∷ 2571 ∷ 2447 ∷ 2365 ∷ 2307 ∷ 2263 ∷ 2229 ∷ [] }
     ensures last_quantile { quantile_of 31 ≡ 2043 }
     ensures later_quantile { quantile_of 1000 ≡ 2043 }
     ensures of_two { half_squared Throughput (figures_with 3733 ∷ figures_with 4000 ∷ []) ≡ 2877720 }
@@ -73,4 +76,24 @@ pub fn spreads_are_told_so()
       most = record { mean = 950; half = 3176 };
       greatest = record { mean = 1200; half = 3812 };
     }) ≡ codes "4.25,3.866,1.696,2.10,4.12,9.50,31.76,12.00,38.12\n" }
+{}
+
+/// A trial in which nothing is in its range has this first fault; with this one mended it has the next one, and so on.
+pub fn faults_come_in_order()
+    ensures dimension { trial_fault (trial_with 13 16 0 9 0 2 101 shown.Crossings) [] (1601 ∷ [])
+        ≡ Some (fault.Dimension 13) }
+    ensures room { trial_fault (trial_with 12 16 0 9 0 2 101 shown.Crossings) (record { chip = 4096; dim = 0 } ∷ [])
+        (1601 ∷ []) ≡ Some (fault.Room 16) }
+    ensures wire { trial_fault (trial_with 12 15 0 9 0 2 101 shown.Crossings) (record { chip = 4096; dim = 0 } ∷ [])
+        (1601 ∷ []) ≡ Some (fault.Wire 12 4096 0) }
+    ensures rate { trial_fault (trial_with 12 15 0 9 0 2 101 shown.Crossings) (record { chip = 4095; dim = 11 } ∷ [])
+        (1600 ∷ 1601 ∷ []) ≡ Some (fault.Rate 1601) }
+    ensures cycles { trial_fault (trial_with 12 15 0 9 0 2 101 shown.Crossings) [] (1600 ∷ []) ≡ Some (fault.Cycles 0) }
+    ensures skip { trial_fault (trial_with 12 15 9 9 0 2 101 shown.Crossings) [] (1600 ∷ []) ≡ Some (fault.Skip 9 9) }
+    ensures seeds { trial_fault (trial_with 12 15 10 9 0 2 101 shown.Crossings) [] (1600 ∷ []) ≡ Some (fault.Seeds 0) }
+    ensures rule { trial_fault (trial_with 12 15 10 9 2 2 101 shown.Crossings) [] (1600 ∷ []) ≡ Some (fault.Rule 2) }
+    ensures background { trial_fault (trial_with 12 15 10 9 2 1 101 shown.Crossings) [] (1600 ∷ [])
+        ≡ Some (fault.Background 101) }
+    ensures table { trial_fault (trial_with 12 15 10 9 2 1 100 shown.Crossings) [] (1600 ∷ []) ≡ Some (fault.Table 2) }
+    ensures none { trial_fault (trial_with 12 15 1000000 9 1000 1 100 shown.Plain) [] (1600 ∷ []) ≡ None }
 {}

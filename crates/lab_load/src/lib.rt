@@ -17,7 +17,10 @@ mod trials;
 
 pub use figures::{Figures, Period, measure};
 pub use latencies::{Latencies, latency_table};
-pub use laws::{latencies_are_told_so, loads_are_told_so, patterns_aim_so, spreads_are_told_so};
+pub use laws::{
+    faults_come_in_order, latencies_are_told_so, loads_are_told_so, patterns_aim_so,
+    spreads_are_told_so,
+};
 pub use offers::{Load, Pattern};
 pub use spreads::{Column, Spread, Spreads};
 pub use tables::{crossing_table, dimension_table, spread_table, table};

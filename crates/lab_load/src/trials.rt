@@ -198,6 +198,7 @@ impl Trial {
         rate: u16,
     ) -> Result<Latencies, LoadFault>
         ensures value { IfOk result (AreLatenciesOf self.now targets.now cuts.now rate) }
+        ensures accepted { IfOk result (λ latencies. trial_fault self.now cuts.now (rate ∷ []) ≡ None) }
         ensures refused { IfErr result (λ fault. fault ≢ LoadFault.Memory
             → trial_fault self.now cuts.now (rate ∷ []) ≡ Some fault) }
     {
@@ -220,6 +221,7 @@ impl Trial {
     ) -> Result<Spreads, LoadFault>
         requires some { 2 ≤ self.now.seeds }
         ensures value { IfOk result (AreSpreadsOf self.now targets.now cuts.now rate) }
+        ensures accepted { IfOk result (λ spreads. trial_fault self.now cuts.now (rate ∷ []) ≡ None) }
         ensures refused { IfErr result (λ fault. fault ≢ LoadFault.Memory
             → trial_fault self.now cuts.now (rate ∷ []) ≡ Some fault) }
     {

@@ -1,3 +1,4 @@
+pub mod Crossing
 pub mod Following
 pub mod Routing
 pub mod Searching

@@ -7,6 +7,6 @@ mod routes;
 mod waits;
 mod whereabouts;
 
-pub use route_laws::ways_are_told_so;
+pub use route_laws::{ways_are_told_so, who_need_not_wait_crosses};
 pub use routes::{Excerpt, RouteFault, route};
 pub use waits::Wait;

@@ -1,9 +1,14 @@
-//! Worked lines of routes.
+//! Laws of routes: what each function is named for holds, of every machine; and worked lines.
 
 ghost use Rattle.std.specs.Prelude.{◌≡◌, [], ◌∷◌, codes};
 ghost use Rattle.lab_route.specs.declared.waits.Wait.TheVariants as wait;
 ghost use Rattle.lab_route.specs.RouteLines.{delivery_line, undelivered_line, stand_line};
-ghost use Rattle.lab_route.specs.RouteLaws.{example_stand};
+ghost use Rattle.lab_route.specs.RouteLaws.{WhoNeedNotWaitCrosses, example_stand};
+
+/// A message that has to cross a dimension, and for which no reason to wait is told, is the one that crosses it.
+pub fn who_need_not_wait_crosses()
+    ensures { WhoNeedNotWaitCrosses }
+{}
 
 /// On a cube of four dimensions a message to processor 15 of chip 0 goes so, and these are the lines that tell it.
 pub fn ways_are_told_so()

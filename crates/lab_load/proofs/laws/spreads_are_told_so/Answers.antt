@@ -6,8 +6,7 @@ use Rattle.lab_load.proofs.laws.spreads_are_told_so.Goals as goal
 pub returns : goal.returns
 unfolding spread_line digits
 returns c = record {
-  first_quantile = refl;
-  fifth_quantile = refl;
+  first_quantiles = refl;
   last_quantile = refl;
   later_quantile = refl;
   of_two = refl;
