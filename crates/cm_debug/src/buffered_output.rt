@@ -106,7 +106,8 @@ impl BufferedOutput {
         }
     }
 
-    /// What a session ends by that wants something: what is gathered is written first.
+    /// Ends a session that lacks memory or a thread: writes the answers that are gathered. Returns the fault of this
+    /// write if the write fails, else the fault of what is lacking.
     pub fn give_up<O: Sink>(&mut self, want: OutOf, out: &mut O) -> SessionFault
         requires writer { O.has_failed out.old ≡ false }
         requires room { answered_bytes self.old < 2 ^ 128 }

@@ -17,9 +17,8 @@ use crate::out_of::OutOf;
 use crate::stretch::{is_look, lacks_room, stretch_len};
 use cm_array::{Machine, RunFault, Runner};
 use cm_model::Act;
+use cm_session::CLOCK;
 use std::alloc::AllocError;
-
-const CLOCK: u64 = 7;
 
 impl Debugger<'_> {
     /// Runs the acts from the position on until the session stops, and tells what it answers.

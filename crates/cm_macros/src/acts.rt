@@ -9,11 +9,9 @@ use cm_bits::{Addr, Dir, Field, FlagNo};
 use cm_language::Context;
 use cm_model::Nano;
 
-pub(crate) const CARRY_FLAG: u8 = 7;
+const CARRY_FLAG: u8 = 7;
 
-pub(crate) const FACTOR_FLAG: u8 = 6;
-
-pub(crate) const ZERO_FLAG: u8 = 8;
+const FACTOR_FLAG: u8 = 6;
 
 /// The truth table of memory and that of the flag.
 #[derive(Clone, Copy, Debug, PartialEq, Eq)]
@@ -152,7 +150,7 @@ pub fn factor() -> FlagNo
 pub fn zero() -> FlagNo
     ensures { result ≡ ZERO }
 {
-    FlagNo::new(ZERO_FLAG).unwrap()
+    FlagNo::ZERO
 }
 
 /// The address of bit `i` of a field.

@@ -6,13 +6,9 @@ ghost use Rattle.cm_language.specs.Faults.{is_conditional_product, first_fault, 
 ghost use Rattle.cm_language.specs.Faults.{is_fixed};
 ghost use Rattle.cm_bits.specs.Field.{meeting};
 
-use crate::acts::{CARRY_FLAG, FACTOR_FLAG, ZERO_FLAG};
+use crate::acts::{carry, factor};
 use cm_bits::{Field, FlagNo, Meets};
 use cm_language::{Context, Macro, MacroFault};
-
-const NEWS_FLAG: u8 = 10;
-
-const DAISY_FLAG: u8 = 11;
 
 /// The first cause to refuse a macro under a context.
 pub fn fault_of(wanted: &Macro, context: &Context) -> Option<MacroFault>
@@ -67,10 +63,10 @@ fn writes(wanted: &Macro, flag: FlagNo) -> bool
     ensures { result ≡ writes wanted.now flag }
 {
     match *wanted {
-        Macro::Add(_, _) | Macro::Sub(_, _) | Macro::Less(_, _) => flag.get() == CARRY_FLAG,
-        Macro::Equal(_, _) | Macro::Shift(_) => flag.get() == CARRY_FLAG,
-        Macro::Mul(_, _, _) => flag.get() == FACTOR_FLAG || flag.get() == CARRY_FLAG,
-        Macro::Set(own) | Macro::Clear(own) => flag.get() == own.get(),
+        Macro::Add(_, _) | Macro::Sub(_, _) | Macro::Less(_, _) => flag == carry(),
+        Macro::Equal(_, _) | Macro::Shift(_) => flag == carry(),
+        Macro::Mul(_, _, _) => flag == factor() || flag == carry(),
+        Macro::Set(own) | Macro::Clear(own) => flag == own,
         Macro::Move(_, _) | Macro::Select(_, _, _) | Macro::Const(_, _) => false,
     }
 }
@@ -105,7 +101,7 @@ fn is_conditional(context: &Context) -> bool
 fn is_fixed(flag: FlagNo) -> bool
     ensures { result ≡ is_fixed flag }
 {
-    flag.get() == ZERO_FLAG || flag.get() == NEWS_FLAG || flag.get() == DAISY_FLAG
+    flag == FlagNo::ZERO || flag == FlagNo::NEWS || flag == FlagNo::DAISY
 }
 
 fn lengths_differ(a: Field, b: Field) -> bool

@@ -24,7 +24,7 @@ use Rattle.cm_resident.specs.Standing.{block_number, IsRunBlock, AreEndsBefore, 
 use Rattle.cm_resident.specs.Gathering.{AreAll, AreFrom}
 use Rattle.cm_resident.specs.Teams.{HasEnds, IsWorkerParts, HasWorkerParts}
 use Rattle.cm_resident.proofs.Places.{place_below}
-use Rattle.cm_resident.proofs.Numbered.{none_yet, one_more}
+use Rattle.cm_resident.proofs.Numbered.{one_more}
 
 -- ---- blocks that were just cut
 
@@ -61,12 +61,6 @@ just_cut n cap k cycles machine acts blocks cut fresh counted late =
 
 -- ---- ends, those of one block behind those of the blocks before it
 
-pub no_ends : (run : Run) (whose : Run → ℕ → ℕ → ℕ) (count w : ℕ) → AreEndsBefore run whose 0 count w 0 []
-no_ends run whose count w = record {
-  len = (let e : 0 ≡ 0 * ends_each run.k = omega arith in e);
-  each = λ i j d l k. absurd (omega (arith, l));
-}
-
 one_row : (m each : ℕ) → m * each + each ≡ (m + 1) * each
 one_row m each = grind arith
 
@@ -94,13 +88,6 @@ pub record HasFirst (run : Run) (count w m : ℕ) (blocks : List BlockView) (sen
   pub blocks_are : AreAll (λ i. IsRunBlock run (block_number count w i)) m blocks
   pub sends_are : AreEndsBefore run own 0 count w m sends
   pub gets_are : AreEndsBefore run givers 0 count w m gets
-
-pub none_of_them : (run : Run) (count w : ℕ) → HasFirst run count w 0 [] [] []
-none_of_them run count w = record {
-  blocks_are = none_yet (λ i. IsRunBlock run (block_number count w i));
-  sends_are = no_ends run own count w;
-  gets_are = no_ends run givers count w;
-}
 
 -- one more of them
 pub one_more_of_them : (run : Run) (count w m : ℕ) (worker_parts : List WorkerParts) (one : WorkerParts)

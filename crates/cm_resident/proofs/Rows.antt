@@ -95,14 +95,6 @@ pub record AreRowsTaken {X : Type 0} (total q : ℕ) (hands : List (Vec X Global
       → get_or things (i * length hands + w) d ≡ get_or (hand hands e w) i d
   pub taken : (w : ℕ) (e : Vec X Global) → w < length hands → hand now e w ≡ drop q (hand hands e w)
 
-pub no_rows : {X : Type 0} (total : ℕ) (hands : List (Vec X Global)) → AreRowsTaken total 0 hands hands []
-no_rows total hands = record {
-  len = refl;
-  count = omega arith;
-  each = λ w i e d l m k. absurd (omega (arith, m));
-  taken = λ w e l. refl;
-}
-
 module _ {X : Type 0} (total q : ℕ) (hands now : List (Vec X Global)) (things : List X)
     (shares : AreShares (length hands) total hands) (are : AreRowsTaken total q hands now things) where
   pub row_few : length things ≤ total

@@ -8,18 +8,19 @@ use Rattle.cm_resident.specs.declared.start.Place.TheVariants.{Alone, Starts, Wa
 abbrev pub starter_alone : Sight
 starter_alone = record { place = Alone; word = 0 }
 
--- that of the starter, who told this word
+-- the view of the starter, who told this word
 abbrev pub starter : ℕ → Sight
 starter word = record { place = Starts; word = word }
 
--- that of a worker, who saw this word last
+-- the view of the worker, who saw this word last
 abbrev pub waiter : ℕ → Sight
 waiter word = record { place = Waits; word = word }
 
--- the words that a starter tells: to begin, or not to
+-- the word of a starter that tells the worker to begin
 abbrev pub begin : ℕ
 begin = 1
 
+-- the word of a starter that tells the worker not to begin, since a thread of the team was refused
 abbrev pub cancel : ℕ
 cancel = 2
 
@@ -36,14 +37,14 @@ abbrev pub start_state : ℕ → Bool → State ℕ Sight
 start_state word saw =
     record { words = word ∷ []; homes = []; views = starter word ∷ waiter (if saw then word else 0) ∷ [] }
 
--- the rule: it stands so
+-- the rule: the seats are not dealt yet, or the table stands as a word leaves it that was told, seen or not
 abbrev pub StartRule : State ℕ Sight → Type 0
 StartRule s = (s ≡ starting) ⊎ ((word : ℕ) × (saw : Bool) × (word ≤ 2) × (s ≡ start_state word saw))
 
--- one that looks has seen the word that it found
+-- a worker that looks has then seen the word that it found
 abbrev pub looked : Me ℕ Sight → ℕ → Me ℕ Sight → Type 0
 looked old found new = new ≡ (waiter found, old.1)
 
--- one that tells a word has told it
+-- a starter that tells a word has then told it
 abbrev pub has_told : ℕ → Me ℕ Sight → ℕ → Me ℕ Sight → Type 0
 has_told word old found new = new ≡ (starter word, old.1)

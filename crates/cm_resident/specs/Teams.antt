@@ -22,7 +22,7 @@ pub record IsOfTeam (run : Run) (count : ℕ) (worker : Worker) : Type 0 where
   pub rounds_are : worker.rounds.items ≡ rounds_in run
   pub unused : IsUnused run count worker.id worker.blocks.items worker.sends.items worker.gets.items
 
--- of some team
+-- an unused worker of some team for some run
 pub record IsOfSome (worker : Worker) : Type 0 where
   pub run : Run
   pub count : ℕ
@@ -48,14 +48,15 @@ pub record IsBeforeRound (acts : List Act) (k r w : ℕ) (round : Round) (blocks
 abbrev pub IsEnd : Run → (Run → ℕ → ℕ → ℕ) → ℕ → ℕ → Course Parcel → Type 0
 IsEnd run whose j b end = end ≡ course run (whose run b j) j 0
 
--- those of all blocks from one on at a place, and at the first m places
+-- the ends, not yet used, of all blocks from one on at place j
 abbrev pub AreAtPlace : Run → (Run → ℕ → ℕ → ℕ) → ℕ → ℕ → Vec (Course Parcel) Global → Type 0
 AreAtPlace run whose from j ends = AreFrom (IsEnd run whose j) from (2 ^ run.k) ends.items
 
+-- the ends, not yet used, of all blocks from one on, at each of the first m places
 abbrev pub AreByPlace : Run → (Run → ℕ → ℕ → ℕ) → ℕ → ℕ → List (Vec (Course Parcel) Global) → Type 0
 AreByPlace run whose from m places = AreAll (AreAtPlace run whose from) m places
 
--- those of block b, by place
+-- the ends, not yet used, of block b: one for each place
 abbrev pub HasEnds : Run → (Run → ℕ → ℕ → ℕ) → ℕ → List (Course Parcel) → Type 0
 HasEnds run whose b ends = AreAll (λ j. IsEnd run whose j b) (ends_each run.k) ends
 
@@ -65,7 +66,7 @@ pub record IsWorkerParts (run : Run) (b : ℕ) (one : WorkerParts) : Type 0 wher
   pub sends_are : HasEnds run own b one.sends.items
   pub gets_are : HasEnds run givers b one.gets.items
 
--- worker w of so many has those of its blocks
+-- worker w of so many has the parts of each of its blocks
 pub record HasWorkerParts (run : Run) (count w : ℕ) (worker_parts : List WorkerParts) : Type 0 where
   pub share : (i : ℕ) → (i < length worker_parts) ↔ (block_number count w i < 2 ^ run.k)
   pub each : (i : ℕ) (d : WorkerParts) → i < length worker_parts → IsWorkerParts run (block_number count w i) (get_or worker_parts i d)
@@ -81,7 +82,7 @@ abbrev pub HasWorked : Worker → List BlockView → Type 0
 HasWorked worker blocks =
     (run : Run) (count : ℕ) → IsOfTeam run count worker → AreDone run count worker.id (length worker.blocks.items) blocks
 
--- each of a team left some
+-- each worker of a team left blocks that are done
 pub record HaveWorked (team : List Worker) (shares : List (Vec BlockView Global)) : Type 0 where
   pub len : length shares ≡ length team
   pub each : (w : ℕ) (d : Worker) (e : Vec BlockView Global) → w < length team

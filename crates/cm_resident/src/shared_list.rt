@@ -105,6 +105,7 @@ impl<'a> SharedList<'a> {
             → (w : ℕ) → w < self.now.workers → admits (gate.vtable, gate.value) w) }
         ensures err { OnErr result (machine.new.machine ≡ machine.old.machine) }
     {
+        // For the prover alone: a call brings in what holds of every machine.
         let _clock = machine.clock();
         let earlier = machine.set_logs_aside(alloc, self.cycles)?;
         let done = self.share_out(rt, alloc, passage, machine, used);

@@ -6,6 +6,9 @@ ghost use Rattle.cm_session.specs.Answer.{refusal_number};
 use cm_bits::{Addr, Field, FlagNo, Place};
 use cm_model::Tag;
 
+/// The number of the refusal of a petit cycle that the counter has no room for.
+pub const CLOCK: u64 = 7;
+
 /// What a line asks for.
 #[derive(Clone, Copy, Debug, PartialEq, Eq)]
 pub enum Command {

@@ -8,7 +8,7 @@ mod fault;
 mod laws;
 mod whole_laws;
 
-pub use command::{Command, Refusal};
+pub use command::{CLOCK, Command, Refusal};
 pub use fault::SessionFault;
 pub use laws::{
     lines_can_be_parted, sessions_conserve_the_account, sessions_never_go_back,

@@ -15,7 +15,7 @@ use cm_sizes::{AnyMachine, open_image_source};
 use std::alloc::Global;
 
 /// Most bytes of a program's file.
-const PROGRAM_LIMIT: u64 = 16777216;
+pub const PROGRAM_LIMIT: u64 = 16777216;
 
 /// A machine and a program that were taken of files.
 #[derive(Drop)]

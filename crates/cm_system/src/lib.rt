@@ -13,7 +13,7 @@ mod written;
 pub use cm_args::LineFault;
 pub use cm_language::{AsmFault, AsmKind};
 pub use fault::ChipFault;
-pub use input_files::{Taken, take_both};
+pub use input_files::{PROGRAM_LIMIT, Taken, take_both};
 pub use output_files::{abort_files, finish_files, flush_out, make_ready, put_file};
 pub use program_fault::ProgramFault;
 pub use read_all::{TakeFault, take};

@@ -8,7 +8,8 @@ use cm_bits::Source;
 use std::alloc::Global;
 use thiserror::Error;
 
-const PIECE: usize = 16384;
+/// So many bytes are read at once.
+const READ_AT_ONCE: usize = 16384;
 
 /// Why a source was not read to its end.
 #[derive(Clone, Copy, Debug, PartialEq, Eq, Error)]
@@ -39,7 +40,7 @@ pub fn take<I: Source>(alloc: Global, source: &mut I, limit: u64) -> Result<Vec<
         → ConsumesBeyond limit (I.left source.old) (I.left source.new) }
 {
     let mut taken = Vec::new(alloc);
-    let mut piece = [0u8; PIECE];
+    let mut piece = [0u8; READ_AT_ONCE];
     loop {
         let Ok(count) = source.read(&mut piece) else {
             return Err(TakeFault::Read);

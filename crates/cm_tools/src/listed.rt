@@ -8,10 +8,8 @@ ghost use Rattle.cm_tools.specs.Listed.{is_listing_write};
 
 use cm_asm::assemble;
 use cm_bits::{Sink, Source, write_all};
-use cm_system::{ProgramFault, take};
+use cm_system::{PROGRAM_LIMIT, ProgramFault, take};
 use std::alloc::Global;
-
-const PROGRAM_LIMIT: u64 = 16777216;
 
 /// Reads a whole program text, at most 16,777,216 bytes, and writes its listing: the fields that the
 /// text defines, and the acts of its lines. Nothing is written before every line was accepted.

@@ -15,9 +15,11 @@ use cm_bits::{Sink, Source, write_all};
 use cm_weave::World;
 use std::alloc::Global;
 
-const LIMIT: usize = 16777216;
+/// Most bytes of steps.
+const STEPS_LIMIT: usize = 16777216;
 
-const PIECE: usize = 4096;
+/// So many bytes of steps are read at once.
+const READ_AT_ONCE: usize = 4096;
 
 /// Plays the steps that stand in lines, at most 16,777,216 bytes of them, and answers each; then tells whether every
 /// block is through, and gives the machine if so. No bytes are asked for while a line that has ended is not answered.
@@ -87,7 +89,7 @@ fn hear_all<const N: usize, const CAP: usize, I: Source, O: Sink>(
     let mut answers = Vec::new(alloc);
     let mut sent = 0;
     let mut taken = 0;
-    let mut piece = [0u8; PIECE];
+    let mut piece = [0u8; READ_AT_ONCE];
     loop {
         let count = match steps.read(&mut piece) {
             Ok(count) => count,
@@ -96,7 +98,7 @@ fn hear_all<const N: usize, const CAP: usize, I: Source, O: Sink>(
         if count == 0 {
             break;
         }
-        let room = count.min(LIMIT - taken);
+        let room = count.min(STEPS_LIMIT - taken);
         match tell(world, &piece[..room], &mut line, &mut answers, sent, out) {
             Ok(now) => sent = now,
             Err(fault) => return Err(fault),

@@ -3,10 +3,10 @@ use Rattle.std.proofs.Common.{◌≡◌, ◌≢◌, ℕ, ◌+◌, ◌-◌, ◌%�
 use Rattle.std.proofs.Common.{length, get_or, sym, ap, ◌∙◌, refl, subst, arith}
 use Rattle.std.specs.Prelude.{bit_xor}
 use Rattle.std.specs.Int.Bits.{xor_self}
-use Rattle.std.specs.List.{SwappedAt, RotatedLeft, RotatedRight}
+use Rattle.std.specs.List.{SwappedAt, RotatedRight}
 use Rattle.std.proofs.lemmas.Nat.{xor_comm, xor_lt, pow_below, pow_pos}
 use Rattle.std.proofs.lemmas.Bool.{cases_lt}
-use Rattle.std.proofs.Math.Nat.{mod-eq_of_lt, add-mod_right, mod_self}
+use Rattle.std.proofs.Math.Nat.{mod-eq_of_lt, add-mod_right}
 use Rattle.cm_model.proofs.Flips.{xor_twice}
 use Rattle.cm_workers.specs.Posts.{IsBitBelow}
 use Rattle.cm_workers.proofs.Hands.{either_same, less_than}
@@ -94,17 +94,6 @@ one_more_did {X} one b old now down other crossed = record {
 }
 
 -- ---- things that go round
-
-pub from_next : {X : Type 0} (many : ℕ) (old new : List X) → RotatedLeft old new many 1 → (b : ℕ) (d : X) → b < many
-    → get_or new b d ≡ get_or old ((b + 1) % many) d
-from_next many old new turned b d below = ⊎_elim
-    (λ (l : b + 1 < many). turned.0 b d l ∙ ap (λ (x : ℕ). get_or old x d) (sym (mod-eq_of_lt l)))
-    (λ (l : many ≤ b + 1).
-    let last : b + 1 ≡ many = omega (arith, l, below) in
-    turned.1 b d l below
-    ∙ ap (λ (x : ℕ). get_or old x d) (let none : b + 1 - many ≡ 0 = omega (arith, last) in
-    none ∙ sym (ap (λ (x : ℕ). x % many) last ∙ mod_self many)))
-    (cases_lt (b + 1) many)
 
 pub from_before : {X : Type 0} (many : ℕ) (old new : List X) → RotatedRight old new many 1 → (b : ℕ) (d : X) → b < many
     → get_or new b d ≡ get_or old ((b + many - 1) % many) d

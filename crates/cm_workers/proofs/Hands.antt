@@ -6,7 +6,7 @@ use Rattle.std.proofs.lemmas.List.{length-append, length-reverse, get_or_append_
 use Rattle.std.proofs.lemmas.Nat.{div-add-mod', mul-le}
 use Rattle.std.proofs.lemmas.Bool.{cases_lt}
 use Rattle.std.proofs.Math.Nat.{mod-lt}
-use Rattle.cm_workers.specs.Dealing.{hand, AreDealt, AreEmptyHands, AreShares, HasPut}
+use Rattle.cm_workers.specs.Dealing.{hand, AreDealt, AreShares, HasPut}
 
 -- one row more
 rows : (count p q : ℕ) → p < q → p * count + count ≤ q * count
@@ -41,16 +41,6 @@ place count j r q some below at =
     (omega (arith, whole, at, products), same)
 
 -- ---- one more
-
-pub none_dealt : {X : Type 0} (count : ℕ) (hands : List (Vec X Global)) → AreEmptyHands count hands → AreDealt count [] hands
-none_dealt count hands empty = record {
-  len = empty.len;
-  shares = λ r q e below. (
-    (λ (l : q < length (hand hands e r)). absurd (let no = ap length (empty.each r e below) in omega (arith, l, no))),
-    (λ (l : q * count + r < 0). absurd (omega (arith, l))),
-  );
-  each = λ r q e d below l. absurd (omega (arith, l));
-}
 
 -- the hand whose turn it is
 next_hand : {X : Type 0} (count j : ℕ) (hands : List (Vec X Global)) (e : Vec X Global) → 0 < count
@@ -157,16 +147,6 @@ none_taken count many hands len shares = record {
   long = refl;
   back = λ r q e d below l m. absurd (omega (arith, l, m));
 }
-
--- the hand from which the last thing is taken
-pub last_hand : {X : Type 0} (count many i : ℕ) (whole now : List (Vec X Global)) (taken : List X) (e : Vec X Global)
-    → 0 < count → i < many
-    → AreLeft count many i whole now taken → 0 < length (hand now e ((many - 1 - i) % count))
-last_hand count many i whole now taken e some below left =
-    let j = many - 1 - i in
-    let at = div-add-mod' j count in
-    let has = (left.shares (j % count) (j / count) e (mod-lt j some)).1 (omega (arith, at, below)) in
-    omega (arith, has)
 
 module _ {X : Type 0} (count j : ℕ) (thing : X) (old new : List (Vec X Global)) (some : 0 < count)
     (shares : AreShares count (j + 1) old) (put : HasPut (j % count) thing new old) where

@@ -1,9 +1,9 @@
 -- What two lists become, place by place.
-use Rattle.std.proofs.Common.{◌≡◌, ◌≢◌, ℕ, ◌+◌, ◌<◌, ◌≤◌, ⊎_elim, List, length, get_or, slice_set, take}
+use Rattle.std.proofs.Common.{◌≡◌, ◌≢◌, ℕ, ◌+◌, ◌<◌, ⊎_elim, List, length, get_or, slice_set, take}
 use Rattle.std.proofs.Common.{drop, ◌++◌, sym, ◌∙◌, refl, subst, arith}
 use Rattle.std.proofs.lemmas.List.{length-set, get_or-set_same, get_or-set_other, get_or_default}
 use Rattle.std.proofs.lemmas.List.{take-append-le, take_all}
-use Rattle.cm_workers.specs.Each.{AreEach, AreEachBelow}
+use Rattle.cm_workers.specs.Each.{AreEachBelow}
 use Rattle.cm_workers.proofs.Hands.{either_same, less_than}
 
 pub none_yet : {A B : Type 0} (Become : A → B → A → B → Type 0) (olds : List A) (bs : List B)
@@ -44,16 +44,6 @@ one_more {A} {B} Become olds bs xs ys m x y below also were is = record {
       ∙ were.first_rest i a (omega (arith, l));
   second_rest = λ i b l. get_or-set_other ys m i y b (λ (e : i ≡ m). absurd (omega (arith, e, l)))
       ∙ were.second_rest i b (omega (arith, l));
-}
-
--- all places
-pub all_places : {A B : Type 0} (Become : A → B → A → B → Type 0) (olds : List A) (bs : List B)
-    (xs : List A) (ys : List B) (m : ℕ)
-    → length olds ≤ m → AreEachBelow m Become olds bs xs ys → AreEach Become olds bs xs ys
-all_places Become olds bs xs ys m all were = record {
-  first_len = were.first_len;
-  second_len = were.second_len;
-  each = λ i a b l. were.each i a b (omega (arith, l, all));
 }
 
 -- what was so at each place is so at one that is still as it was

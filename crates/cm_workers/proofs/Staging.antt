@@ -50,11 +50,6 @@ lane_of_post n k kind.North parcel = refl
 lane_of_post n k kind.South parcel = refl
 lane_of_post n k (kind.Dim d) parcel = refl
 
--- rounds as callers get them, one by one
-pub some_round : (n k r : ℕ) (acts : List Act) (one : Option Phase) → slice_get (rounds n k acts) r ≡ one
-    → slice_get (rounds_of n k acts) r ≡ option_map round_of one
-some_round n k r acts one is = slice_get-map round_of (rounds n k acts) r ∙ ap (option_map round_of) is
-
 module _ (n k room : ℕ) (machine : Machine) (acts : List Act) (within : k ≤ n - n / 2) (b : ℕ) (below : b < 2 ^ k) where
   -- from the beginning of the run to the first round
   pub first_turn : (s : Part) (post : Post) → s ≡ part_at_turn n k room machine acts 0 b

@@ -8,15 +8,16 @@ use Rattle.cm_workers.specs.declared.out_of.OutOf.TheVariants as want
 use Rattle.cm_array.specs.declared.runner.RunFault.{RunFault}
 use Rattle.cm_array.specs.declared.runner.RunFault.TheVariants as fault
 
--- a machine of n dimensions is not cut into 2 ^ k blocks, which is looked at first, or these have not work for so many
+-- the first fault: a machine of n dimensions cannot be cut into 2 ^ k blocks; there are no workers, or more than blocks
 abbrev pub fork_fault : ℕ → ℕ → ℕ → Option ForkFault
 fork_fault n k workers =
     if ltb (n - n / 2) k then Some Split else if workers == 0 || ltb (2 ^ k) workers then Some Workers else None
 
--- of those k, and of so many workers, what a machine of n dimensions can have
+-- how many blocks there are, as a power of two: 2 ^ k are asked for, and n dimensions allow 2 ^ (n - n / 2) at most
 abbrev pub most_blocks : ℕ → ℕ → ℕ
 most_blocks n k = min k (n - n / 2)
 
+-- how many workers there are, where so many are asked for: no more than blocks
 abbrev pub most_workers : ℕ → ℕ → ℕ → ℕ
 most_workers n k workers = min workers (2 ^ most_blocks n k)
 

@@ -17,18 +17,18 @@ use Rattle.cm_subcube.specs.Rounds.{kind_of}
 use Rattle.cm_workers.specs.declared.post.Post.{Post}
 use Rattle.cm_workers.specs.Posts.{blank_post, post_of}
 
--- what block b has sent is gone from it in a round, if it is one
+-- a part without what it sends in a round, if there is a round
 abbrev pub without_sent : ℕ → Option Phase → Part → Part
 without_sent room None s = s
 without_sent room (Some phase) s = less room phase.step s
 
--- what has come for it
+-- the post with what has come for block b in a round: a blank post, if there is no round
 abbrev pub come_in : ℕ → ℕ → ℕ → Option Phase → ℕ → Machine → Post
 come_in n k room None b machine = blank_post n k
 come_in n k room (Some phase) b machine =
     post_of n k (kind_of phase.step) (due n room phase.step (block n k (sender n k phase.step b) machine))
 
--- there is room for it
+-- a part has room for what comes in a round, if there is a round
 abbrev pub HaveSpaceAt : ℕ → Option Phase → Part → Type 0
 HaveSpaceAt room None s = Unit {0}
 HaveSpaceAt room (Some phase) s = HaveSpaceFor (kind_of phase.step) room s
@@ -40,21 +40,23 @@ part_at_turn n k room machine acts zero b = block n k b machine
 part_at_turn n k room machine acts (suc r) b =
     without_sent room (slice_get (rounds n k acts) r) (block n k b (before_round n room k machine acts r))
 
--- its post: with nothing in it, and then with what its sender sent
+-- the post of block b when turn t begins: blank at the first turn, and later with what its sender sent
 abbrev pub post_at : ℕ → ℕ → ℕ → Machine → List Act → ℕ → ℕ → Post
 post_at n k room machine acts zero b = blank_post n k
 post_at n k room machine acts (suc r) b =
     come_in n k room (slice_get (rounds n k acts) r) b (before_round n room k machine acts r)
 
+-- a part has room for what it takes in when a turn begins; before the first turn nothing has come
 abbrev pub HasSpaceAtTurn : ℕ → ℕ → ℕ → List Act → ℕ → Part → Type 0
 HasSpaceAtTurn n k room acts zero s = Unit {0}
 HasSpaceAtTurn n k room acts (suc r) s = HaveSpaceAt room (slice_get (rounds n k acts) r) s
 
--- the most events of a chip, and the petit cycles, that are still to come
+-- the most events of a chip that are still to come when a turn begins
 abbrev pub events_left : ℕ → ℕ → ℕ → List Act → ℕ → ℕ
 events_left n k room acts zero = cycles_in acts * (4 + room)
 events_left n k room acts (suc r) = events_in room (steps_after_round n k acts r)
 
+-- how many petit cycles are still to end when a turn begins
 abbrev pub cycles_left : ℕ → ℕ → List Act → ℕ → ℕ
 cycles_left n k acts zero = cycles_in acts * 1
 cycles_left n k acts (suc r) = deliveries (steps_after_round n k acts r)
@@ -71,7 +73,7 @@ pub record StandsAt (n k room : ℕ) (machine : Machine) (acts : List Act) (t b 
   pub log_room : HaveLogRoom (events_left n k room acts t) kept.kept.log_rooms
   pub clock : kept.kept.part.clock + cycles_left n k acts t < 2 ^ 63
 
--- all of them
+-- all blocks and their posts when turn t of a run begins
 pub record StandAt (n k room : ℕ) (machine : Machine) (acts : List Act) (t : ℕ) (blocks : List BlockView)
     (posts : List Post) : Type 0 where
   pub block_count : length blocks ≡ 2 ^ k

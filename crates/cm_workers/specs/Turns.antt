@@ -26,32 +26,33 @@ abbrev pub part_taken_in : ℕ → ℕ → Option Round → Post → Part → Pa
 part_taken_in n room None post s = s
 part_taken_in n room (Some round) post s = absorbed n room (step_of round) (lane_in round.kind post) s
 
--- and then went through the steps until the next round
+-- a part after it took in what came, and then went through the steps until the next round
 abbrev pub part_gone_on : ℕ → ℕ → ℕ → List Act → Option Round → Post → Part → Part
 part_gone_on n k room acts before post s =
     part_after_all n room (local_after n k acts before) (part_taken_in n room before post s)
 
--- what is left of it when it has sent what is due in the next, and what it sends
+-- what is left of a part when it has sent what is due in a round, if there is one
 abbrev pub left_in : ℕ → Option Round → Part → Part
 left_in room None s = s
 left_in room (Some round) s = less room (step_of round) s
 
+-- what a part sends in a round: a blank post, if there is no round
 abbrev pub sent_by : ℕ → ℕ → ℕ → Option Round → Part → Post
 sent_by n k room None s = blank_post n k
 sent_by n k room (Some round) s = post_of n k round.kind (due n room (step_of round) s)
 
--- what came for a block is of the round's kind, and there is room for it;
--- before the first round nothing came
+-- what came for a block is of the round's kind, and there is room for it
 pub record HasCome (n k room : ℕ) (round : Round) (s : Part) (post : Post) : Type 0 where
   pub kind : IsOfKind n k round.kind (lane_in round.kind post)
   pub space : HasRoomFor round.kind room s (lane_in round.kind post)
   pub other : post ≡ post_of n k round.kind (lane_in round.kind post)
 
+-- what came for a block in the round at which a turn begins; at the first turn nothing came
 abbrev pub HasComeBefore : ℕ → ℕ → ℕ → Option Round → Part → Post → Type 0
 HasComeBefore n k room None s post = post ≡ blank_post n k
 HasComeBefore n k room (Some round) s post = HasCome n k room round s post
 
--- the round is one of the run, if there is one
+-- a round is one of the run, if there is a round
 abbrev pub IsFollowing : ℕ → ℕ → List Act → Option Round → Type 0
 IsFollowing n k acts one = ForSome one (λ round. IsRoundOf n k acts round)
 
@@ -70,7 +71,7 @@ pub record IsSame (old new : BlockView) : Type 0 where
   pub room : new.kept.room ≡ old.kept.room
   pub blocks : new.k ≡ old.k
 
--- it has taken in what came, and has gone on until the next round
+-- a block has taken in what came, and has gone on until the next round
 pub record HasGoneOn (acts : List Act) (before : Option Round) (old : BlockView) (post : Post) (new : BlockView)
     (blank : Post) : Type 0 where
   pub same : IsSame old new
@@ -79,12 +80,12 @@ pub record HasGoneOn (acts : List Act) (before : Option Round) (old : BlockView)
   pub log_room : LoseAtMost (events_in old.kept.room (local_after old.kept.dims old.k acts before))
       old.kept.log_rooms new.kept.log_rooms
 
--- there is room for what comes in a round, if there is one
+-- a block has room for what comes in a round, if there is a round
 abbrev pub HaveSpaceIn : Option Round → BlockView → Type 0
 HaveSpaceIn None block = Unit {0}
 HaveSpaceIn (Some round) block = HaveSpaceFor round.kind block.kept.room block.kept.part
 
--- it has sent what is due in a round
+-- a block has sent what is due in a round, if there is a round
 pub record HasSentDue (next : Option Round) (old : BlockView) (blank : Post) (new : BlockView) (post : Post) : Type 0 where
   pub same : IsSame old new
   pub part : new.kept.part ≡ left_in old.kept.room next old.kept.part
@@ -92,7 +93,7 @@ pub record HasSentDue (next : Option Round) (old : BlockView) (blank : Post) (ne
   pub log_room : new.kept.log_rooms ≡ old.kept.log_rooms
   pub space : HaveSpaceIn next new
 
--- it has had its turn
+-- a block has had its turn
 pub record HasGone (acts : List Act) (before next : Option Round) (old : BlockView) (came : Post) (new : BlockView)
     (sent : Post) : Type 0 where
   pub same : IsSame old new
@@ -105,19 +106,19 @@ pub record HasGone (acts : List Act) (before next : Option Round) (old : BlockVi
       old.kept.log_rooms new.kept.log_rooms
   pub space : HaveSpaceIn next new
 
--- so of all blocks of a worker, and their posts
+-- all blocks of a worker and their posts are ready for a turn
 pub record CanAllGo (acts : List Act) (before next : Option Round) (blocks : List BlockView)
     (posts : List Post) : Type 0 where
   pub len : length posts ≡ length blocks
   pub each : (i : ℕ) (b : BlockView) (p : Post) → i < length blocks
       → IsReadyForTurn acts before next (get_or blocks i b) (get_or posts i p)
 
--- a block as it was, but that it may be read now
+-- a block as it was, except that it may be read now
 pub record IsShown (old new : BlockView) : Type 0 where
   pub blocks : new.k ≡ old.k
   pub kept : new.kept ≡ record old.kept { gathered = new.kept.gathered }
 
--- all blocks, one by one
+-- all blocks as they were, except that they may be read now
 pub record AreShown (old new : List BlockView) : Type 0 where
   pub len : length new ≡ length old
   pub each : (i : ℕ) (b : BlockView) → i < length old → IsShown (get_or old i b) (get_or new i b)
@@ -132,7 +133,7 @@ pub record IsReadyToSend (next : Option Round) (block : BlockView) (post : Post)
   pub ahead : IsAhead next block
   pub blank : post ≡ blank_post block.kept.dims block.k
 
--- so of all blocks of a worker
+-- all blocks of a worker and their posts are ready to send
 pub record CanAllSend (next : Option Round) (blocks : List BlockView) (posts : List Post) : Type 0 where
   pub len : length posts ≡ length blocks
   pub each : (i : ℕ) (b : BlockView) (p : Post) → i < length blocks

@@ -163,6 +163,7 @@ impl<'a, R: Threads + Wait> Forked<'a, R> {
             → (w : ℕ) → w < sizes.workers → admits gate w) }
         ensures err { OnErr result (machine.new.machine ≡ machine.old.machine) }
     {
+        // For the prover alone: a call brings in what holds of every machine.
         let _clock = machine.clock();
         let rounds = rounds(self.alloc, sizes.dims, acts, sizes.k)?;
         let all = cut_up(self.alloc, machine, sizes, cycles)?;
@@ -222,6 +223,7 @@ fn cut_up<const N: usize, const CAP: usize>(
     ensures value { IfOk result (λ all. (acts : List Act) → cycles_in acts ≡ cycles
         → StandAt N sizes.k CAP machine.now.machine acts 0 all.blocks.items all.posts.items) }
 {
+    // For the prover alone: a call brings in what holds of every machine.
     let _clock = machine.clock();
     let blocks = match split(alloc, machine, sizes.k, cycles) {
         Ok(blocks) => blocks,

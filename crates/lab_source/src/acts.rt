@@ -2,7 +2,7 @@
 
 ghost use Rattle.std.specs.Prelude.{◌≡◌, ◌≤◌, ◌<◌, ◌+◌, ◌++◌, ◌∷◌, [], false, map, OnOk, IfOk, if◌then◌else◌};
 ghost use Rattle.cm_bits.specs.Bit.{bit};
-ghost use Rattle.cm_model.specs.Processor.{ZERO, NEWS, DAISY};
+ghost use Rattle.cm_model.specs.Processor.{ZERO};
 ghost use Rattle.cm_model.specs.Each.{tabulate};
 ghost use Rattle.cm_model.specs.declared.act.Act.TheVariants as act;
 ghost use Rattle.cm_language.specs.Effect.{CARRY};
@@ -16,10 +16,6 @@ use cm_macros::{Tables, address, carry, clear_flag, nano, zero};
 use cm_model::{Act, Nano};
 use lab_phrases::Phrase;
 use std::alloc::{AllocError, Global};
-
-pub(crate) const NEWS_FLAG: u8 = 10;
-
-pub(crate) const DAISY_FLAG: u8 = 11;
 
 /// A and B.
 const AND: u8 = 0xc0;
@@ -64,8 +60,8 @@ pub fn acts_of(alloc: Global, wanted: &Phrase, context: &Context) -> Result<Vec<
 {
     let mut acts = Vec::new(alloc);
     match *wanted {
-        Phrase::News(d, s, dir) => push_fetched(&mut acts, context, news(), dir, d, s)?,
-        Phrase::Chain(d, s) => push_fetched(&mut acts, context, daisy(), Dir::North, d, s)?,
+        Phrase::News(d, s, dir) => push_fetched(&mut acts, context, FlagNo::NEWS, dir, d, s)?,
+        Phrase::Chain(d, s) => push_fetched(&mut acts, context, FlagNo::DAISY, Dir::North, d, s)?,
         Phrase::And(d, s) => push_bits(&mut acts, context, d, s, AND)?,
         Phrase::Or(d, s) => push_bits(&mut acts, context, d, s, OR)?,
         Phrase::Xor(d, s) => push_bits(&mut acts, context, d, s, XOR)?,
@@ -220,18 +216,4 @@ fn keep_bit(context: &Context, d: Field, flag: FlagNo, i: u16) -> Nano
 {
     let tables = if i == 0 { TAKE } else { Tables::NONE };
     nano(context, address(d, i), address(d, i), flag, zero(), tables)
-}
-
-/// The flag that a store sends over the grid.
-fn news() -> FlagNo
-    ensures value { result ≡ NEWS }
-{
-    FlagNo::new(NEWS_FLAG).unwrap()
-}
-
-/// The flag that a store sends along the chip's chain.
-fn daisy() -> FlagNo
-    ensures value { result ≡ DAISY }
-{
-    FlagNo::new(DAISY_FLAG).unwrap()
 }

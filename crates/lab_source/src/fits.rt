@@ -6,14 +6,10 @@ ghost use Rattle.cm_language.specs.Faults.{is_partly, lengths_differ, is_fixed};
 ghost use Rattle.lab_phrases.specs.Faults.{phrase_overlaps, phrase_misfits, phrase_writes, phrase_writes_condition};
 ghost use Rattle.lab_phrases.specs.Faults.{phrase_names_fixed, first_phrase_fault};
 
-use crate::acts::{DAISY_FLAG, NEWS_FLAG};
 use cm_bits::{Field, FlagNo, Meets};
 use cm_language::{Context, MacroFault};
+use cm_macros::carry;
 use lab_phrases::Phrase;
-
-const CARRY_FLAG: u8 = 7;
-
-const ZERO_FLAG: u8 = 8;
 
 /// The first cause to refuse a phrase under a context.
 pub fn fault_of(wanted: &Phrase, context: &Context) -> Option<MacroFault>
@@ -65,10 +61,10 @@ fn writes(wanted: &Phrase, flag: FlagNo) -> bool
     ensures value { result ≡ phrase_writes wanted.now flag }
 {
     match *wanted {
-        Phrase::News(_, _, _) => flag.get() == NEWS_FLAG,
-        Phrase::Chain(_, _) => flag.get() == DAISY_FLAG,
-        Phrase::AddNumber(_, _) => flag.get() == CARRY_FLAG,
-        Phrase::Test(set, _) => flag.get() == set.get(),
+        Phrase::News(_, _, _) => flag == FlagNo::NEWS,
+        Phrase::Chain(_, _) => flag == FlagNo::DAISY,
+        Phrase::AddNumber(_, _) => flag == carry(),
+        Phrase::Test(set, _) => flag == set,
         Phrase::And(_, _) | Phrase::Or(_, _) | Phrase::Xor(_, _) | Phrase::Not(_) => false,
         Phrase::Keep(_, _) => false,
     }
@@ -89,7 +85,7 @@ fn names_fixed(wanted: &Phrase) -> bool
 fn is_fixed(flag: FlagNo) -> bool
     ensures value { result ≡ is_fixed flag }
 {
-    flag.get() == ZERO_FLAG || flag.get() == NEWS_FLAG || flag.get() == DAISY_FLAG
+    flag == FlagNo::ZERO || flag == FlagNo::NEWS || flag == FlagNo::DAISY
 }
 
 fn lengths_differ(a: Field, b: Field) -> bool

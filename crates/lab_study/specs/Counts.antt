@@ -20,10 +20,12 @@ log_lengths n machine = each_chip n (λ c. length (nth_or_nil machine.logs c))
 abbrev pub events_behind : List ℕ → Machine → ℕ → List Event
 events_behind before machine c = drop (slice_index_or before c 0) (nth_or_nil machine.logs c)
 
+-- an event tells that a message was taken in
 abbrev pub is_injection_event : Event → Bool
 is_injection_event (Injected m) = true
 is_injection_event (Delivered c m) = false
 
+-- an event tells that a message was delivered
 abbrev pub is_delivery_event : Event → Bool
 is_delivery_event (Injected m) = false
 is_delivery_event (Delivered c m) = true

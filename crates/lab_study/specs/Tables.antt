@@ -19,6 +19,7 @@ three_columns x y z = number_cell x ++ number_cell y ++ number_cell z
 
 -- ---- petit cycles
 
+-- the names of the columns of the table of petit cycles
 abbrev pub cycles_header : List ℕ
 cycles_header = codes "cycle,taken,delivered,referred,standing,full,asking\n"
 
@@ -30,6 +31,7 @@ cycle_line clock counts =
 
 -- ---- messages
 
+-- the names of the columns of the table of messages
 abbrev pub messages_header : List ℕ
 messages_header = codes "chip,processor,taken,to chip,to processor,delivered,crossed,referred\n"
 

@@ -26,6 +26,7 @@ set_out c m = record {
   referred = 0;
 }
 
+-- what is known of a message, or that it set out, if nothing is known
 abbrev pub or_set_out : ℕ → Message → Option Trace → Trace
 or_set_out c m None = set_out c m
 or_set_out c m (Some trace) = trace
