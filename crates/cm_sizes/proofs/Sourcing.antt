@@ -1,6 +1,6 @@
 -- An image that is read of a source as its bytes come: what came at first, and what comes behind it.
 use Rattle.std.proofs.Common.{◌≡◌, ◌↔◌, Bool, true, IsErrOf, ℕ, ◌+◌, ◌<◌, ◌≤◌, List, [], ◌++◌, Option, Some, None, Result, Ok, Err}
-use Rattle.std.proofs.Common.{IfSome, IfOk, IfErr, length, sym, ap, ◌∙◌, subst, arith, append_assoc}
+use Rattle.std.proofs.Common.{IfSome, IfOk, IfErr, length, refl, sym, ap, ◌∙◌, subst, arith, append_assoc}
 use Rattle.std.proofs.lemmas.List.{length-append}
 use Rattle.std.specs.Io.KnownBytes.{Consumes, Keeps}
 use Rattle.cm_image_format.specs.declared.fault.ImageFault.{ImageFault}
@@ -13,8 +13,9 @@ use Rattle.cm_sizes.specs.declared.opening.OpenFault.{OpenFault}
 use Rattle.cm_sizes.specs.declared.opening.OpenFault.TheVariants.{Image, Room}
 use Rattle.cm_sizes.specs.declared.opening.OpenSourceFault.{OpenSourceFault}
 use Rattle.cm_sizes.specs.declared.opening.OpenSourceFault.TheVariants as unopened
+use Rattle.cm_sizes.specs.Sizes.{sized}
 use Rattle.cm_sizes.specs.Opening.{image_opened, IsUnopened}
-use Rattle.cm_sizes.specs.ImageSources.{IsRefusedAs, of_open}
+use Rattle.cm_sizes.specs.ImageSources.{IsRefusedAs, of_open, opened_of_source}
 
 consumes-more : (a b c : Option (List ℕ)) (xs ys : List ℕ) → Consumes a b xs → Consumes b c ys → Consumes a c (xs ++ ys)
 consumes-more None b c xs ys p q = tt
@@ -143,3 +144,24 @@ pub never_read : (fault : OpenFault) (told : OpenSourceFault) → told ≡ of_op
 never_read (Image own) told is read =
     let wrong : unopened.Source (source.Image own) ≡ unopened.Source source.Read = sym is ∙ read in cc
 never_read Room told is read = let wrong : unopened.Room ≡ unopened.Source source.Read = sym is ∙ read in cc
+
+-- ---- an image that was all taken, and what came of it
+
+pub held_opens : (front bytes : List ℕ) (most : ℕ) (a c : Option (List ℕ)) (r : Result AnyMachine OpenFault)
+    → GivesRest most a c (λ more. bytes ≡ front ++ more) → IfOk r (λ machine. image_opened bytes ≡ Ok (sized machine))
+    → IfOk (opened_of_source r) (λ machine. GivesRest most a c (λ more. image_opened (front ++ more) ≡ Ok (sized machine)))
+held_opens front bytes most a c (Ok machine) given is =
+    rest_so most a c (λ more. bytes ≡ front ++ more) (λ more. image_opened (front ++ more) ≡ Ok (sized machine))
+    (λ more same. subst (λ (b : List ℕ). image_opened b ≡ Ok (sized machine)) same is) given
+held_opens front bytes most a c (Err fault) given is = tt
+
+pub held_refuses : (front bytes : List ℕ) (most : ℕ) (a c : Option (List ℕ)) (r : Result AnyMachine OpenFault)
+    → GivesRest most a c (λ more. bytes ≡ front ++ more) → IfErr r (IsUnopened bytes)
+    → IfErr (opened_of_source r) (IsRefusedAs (λ own more. image_opened (front ++ more) ≡ Err own) most a c)
+held_refuses front bytes most a c (Ok machine) given is = tt
+held_refuses front bytes most a c (Err fault) given is = held_refused front bytes most a c fault given is
+
+pub held_reads : (r : Result AnyMachine OpenFault) → IsErrOf (opened_of_source r) (unopened.Source source.Read) → ⊥
+held_reads (Ok machine) e = absurd (cc)
+held_reads (Err fault) e =
+    never_read fault (of_open fault) refl (let same : of_open fault ≡ unopened.Source source.Read = cc (e) in same)

@@ -1,5 +1,5 @@
 -- The machine of an image that a source has. Ours.
-use Rattle.std.specs.Prelude.{◌≡◌, ℕ, Option, Err, List}
+use Rattle.std.specs.Prelude.{◌≡◌, ℕ, Option, Result, Ok, Err, List}
 use Rattle.cm_image.specs.declared.pieces.SourceFault.TheVariants as source
 use Rattle.cm_image.specs.Pieces.{GivesRest, IsStopped}
 use Rattle.cm_sizes.specs.declared.opening.OpenFault.{OpenFault}
@@ -26,3 +26,8 @@ IsUnopenedSource most old new fault = IsRefusedAs (λ own image. image_opened im
 abbrev pub of_open : OpenFault → OpenSourceFault
 of_open (Image fault) = unopened.Source (source.Image fault)
 of_open Room = unopened.Room
+
+-- what comes of an image that is held, told as of a source
+abbrev pub opened_of_source : {M : Type 0} → Result M OpenFault → Result M OpenSourceFault
+opened_of_source (Ok machine) = Ok machine
+opened_of_source (Err fault) = Err (of_open fault)

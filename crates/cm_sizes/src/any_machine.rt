@@ -89,6 +89,16 @@ impl AnyMachine {
         ensures value { IfOk result (λ image. image.items
             ≡ text_of (sized self.now).n (sized self.now).cap (sized self.now).machine) }
     {
-        on_machine!(self, machine => dump(alloc, machine))
+        on_machine!(self, machine => image_of(alloc, machine))
     }
+}
+
+/// The image of a machine of these sizes.
+fn image_of<const N: usize, const CAP: usize>(
+    alloc: Global,
+    machine: &Machine<N, CAP>,
+) -> Result<Vec<u8>, NoMemory>
+    ensures value { IfOk result (λ image. image.items ≡ text_of N CAP machine.now.machine) }
+{
+    dump(alloc, machine)
 }

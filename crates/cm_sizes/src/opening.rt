@@ -5,7 +5,7 @@ ghost use Rattle.cm_image_format.specs.Whole.{read_shape};
 ghost use Rattle.cm_image.specs.Pieces.{GivesRest};
 ghost use Rattle.cm_sizes.specs.Sizes.{sized, is_own_room};
 ghost use Rattle.cm_sizes.specs.Opening.{image_opened, IsUnopened};
-ghost use Rattle.cm_sizes.specs.ImageSources.{IsRefusedAs, IsUnopenedSource};
+ghost use Rattle.cm_sizes.specs.ImageSources.{IsRefusedAs, IsUnopenedSource, opened_of_source};
 
 use crate::any_machine::AnyMachine;
 use cm_array::Machine;
@@ -194,11 +194,17 @@ fn open_held<I: Source>(
     ensures read { (I.has_failed source.new ≡ true)
         ↔ IsErrOf result (OpenSourceFault.Source SourceFault.Read) }
 {
-    let image = match take_rest(alloc, front, source, most) {
-        Ok(image) => image,
-        Err(fault) => return Err(OpenSourceFault::Source(fault)),
-    };
-    match open_image(alloc, image.as_slice()) {
+    match take_rest(alloc, front, source, most) {
+        Ok(image) => of_source(open_image(alloc, image.as_slice())),
+        Err(fault) => Err(OpenSourceFault::Source(fault)),
+    }
+}
+
+/// What comes of an image that is held, told as of a source.
+fn of_source<M: Drop>(opened: Result<M, OpenFault>) -> Result<M, OpenSourceFault>
+    ensures value { result ≡ opened_of_source opened }
+{
+    match opened {
         Ok(machine) => Ok(machine),
         Err(fault) => Err(OpenSourceFault::from(fault)),
     }
