@@ -1,2 +1,4 @@
 pub mod Crossings
+pub mod Chips
 pub mod Counts
+pub mod Tables

@@ -1,8 +1,12 @@
 //! Laws over the definitions: values that are known from elsewhere, so that a wrong rule is not proved.
 
-ghost use Rattle.std.specs.Prelude.{◌≡◌, ◌%◌, [], ◌∷◌, codes, false, None, Some};
+ghost use Rattle.std.specs.Prelude.{◌≡◌, ◌≤◌, ◌%◌, ℕ, [], ◌∷◌, codes, false, true, None, Some};
+ghost use Rattle.cm_model.specs.Wiring.{Routing};
+ghost use Rattle.lab_counts.specs.Crossings.{in_all};
 ghost use Rattle.lab_load.specs.declared.offers.Pattern.TheVariants as pattern;
+ghost use Rattle.lab_load.specs.declared.offers.Load.{Load};
 ghost use Rattle.lab_load.specs.Offers.{aimed};
+ghost use Rattle.lab_load.specs.Counted.{counts_for, chips_for};
 ghost use Rattle.lab_counts.specs.Counts.{nothing_counted};
 ghost use Rattle.lab_load.specs.Figures.{greatest_latency, mean_of, most_of, throughput_of};
 ghost use Rattle.lab_load.specs.declared.latencies.Latencies.{Latencies};
@@ -73,4 +77,11 @@ pub fn spreads_are_told_so()
       most = record { mean = 950; half = 3176 };
       greatest = record { mean = 1200; half = 3812 };
     }) ≡ codes "4.25,3.866,1.696,2.10,4.12,9.50,31.76,12.00,38.12\n" }
+{}
+
+/// Under every load all chips together and all dimensions together have the same crossings, referrals and refusals.
+pub fn chips_and_dimensions_agree()
+    ensures agree { (cap : ℕ) (load : Load) (routing : Routing) (skip cycles : ℕ) → load.dims ≤ 12
+        → in_all (chips_for cap load routing skip cycles)
+        ≡ in_all (counts_for true cap load routing skip cycles).dims }
 {}

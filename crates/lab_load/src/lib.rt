@@ -16,8 +16,12 @@ mod telling;
 mod trials;
 
 pub use figures::{Figures, Period, measure};
+pub use lab_counts::{ChipCrossings, chip_table};
 pub use latencies::{Latencies, latency_table};
-pub use laws::{latencies_are_told_so, loads_are_told_so, patterns_aim_so, spreads_are_told_so};
+pub use laws::{
+    chips_and_dimensions_agree, latencies_are_told_so, loads_are_told_so, patterns_aim_so,
+    spreads_are_told_so,
+};
 pub use offers::{Load, Pattern};
 pub use spreads::{Column, Spread, Spreads};
 pub use tables::{crossing_table, dimension_table, spread_table, table};
