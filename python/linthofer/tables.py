@@ -178,8 +178,9 @@ def load_curve(dims: int, room: int, rates: Union[float, Iterable[float]], cycle
     drawn, whatever the pattern; messages are offered in the first `until` petit cycles alone, if that is given. Columns:
     rate, offered, taken, delivered, throughput, mean, p95, greatest, deepest; where `table` is "crossings", crossed,
     referred, refused, quiet behind these; where it is "dimensions", rate, dimension, crossed, referred, refused, with a
-    record for each dimension of each rate; where it is "latencies", latency and a column for each rate, as "rate 0.50",
-    with how many messages took so long (docs/LABORATORY.md, "Loads").
+    record for each dimension of each rate; where it is "chips", the same with a record for each chip and chip in place of
+    dimension; where it is "latencies", latency and a column for each rate, as "rate 0.50", with how many messages took so
+    long (docs/LABORATORY.md, "Loads").
     """
     told_rates = ",".join(map(_rate, rates if isinstance(rates, Iterable) else [rates]))
     words: List[object] = [dims, room, told_rates, cycles, "--rule", rule, "--seed", seed]

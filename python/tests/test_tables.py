@@ -88,7 +88,7 @@ def test_rates_have_two_digits(rates, told):
 
 
 SAID = [{"rule": 1}, {"pattern": "reversal"}, {"pattern": "hotspot", "background": 30}, {"until": 20},
-        {"table": "crossings"}, {"table": "dimensions"}, {"table": "latencies"}, {"seed": 2}]
+        {"table": "crossings"}, {"table": "dimensions"}, {"table": "chips"}, {"table": "latencies"}, {"seed": 2}]
 
 
 @pytest.mark.parametrize("given", SAID)

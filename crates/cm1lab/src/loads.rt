@@ -7,8 +7,8 @@ use lab_args::Loads;
 use lab_data::read_numbers;
 use lab_fresh::{FreshFault, WireEnd, cut_wires};
 use lab_load::{
-    Figures, Latencies, LoadFault, LoadTable, Spreads, Trial, crossing_table, dimension_table,
-    latency_table, spread_table, table,
+    ChipCrossings, Figures, Latencies, LoadFault, LoadTable, Spreads, Trial, chip_table,
+    crossing_table, dimension_table, latency_table, spread_table, table,
 };
 use std::alloc::Global;
 use std::rt::{Clock, Files};
@@ -81,6 +81,7 @@ fn tell_each<R: Eprint + Clock>(
                 &measure_each(rt, alloc, loads, targets, cuts)?,
             )
         }
+        LoadTable::Chips => chip_table(alloc, &count_each(rt, alloc, loads, targets, cuts)?),
         LoadTable::Latencies => latency_table(alloc, &time_each(rt, alloc, loads, targets, cuts)?),
     };
     match told {
@@ -110,6 +111,29 @@ fn measure_each<R: Eprint + Clock>(
         tell_progress(rt, began, *rate, measured.len(), loads.rates.len());
     }
     Ok(measured)
+}
+
+/// What the messages of each load did at each chip.
+fn count_each<R: Eprint + Clock>(
+    rt: &R,
+    alloc: Global,
+    loads: &Loads<'_>,
+    targets: &[u64],
+    cuts: &[WireEnd],
+) -> Result<Vec<ChipCrossings>, Fault> {
+    let began = Instant::now(rt).ok();
+    let mut counted = Vec::new(alloc);
+    for rate in &loads.rates {
+        let chips = match loads.trial.chips(alloc, targets, cuts, *rate) {
+            Ok(chips) => chips,
+            Err(fault) => return Err(told(fault)),
+        };
+        if counted.push(chips).is_err() {
+            return Err(Fault::Memory);
+        }
+        tell_progress(rt, began, *rate, counted.len(), loads.rates.len());
+    }
+    Ok(counted)
 }
 
 /// How long the messages of each load took.

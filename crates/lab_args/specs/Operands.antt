@@ -76,7 +76,7 @@ wanted_of operand.Seed = from_to (codes "0") (codes "18446744073709551615")
 wanted_of operand.Depth = from_to (codes "1") (codes "16 for a picture")
 wanted_of operand.Scale = from_to (codes "1") (codes "64")
 wanted_of operand.Palette = codes "heat or viridis"
-wanted_of operand.Table = codes "crossings, dimensions or latencies"
+wanted_of operand.Table = codes "crossings, dimensions, chips or latencies"
 
 -- ---- what they say
 
@@ -145,5 +145,6 @@ abbrev pub table_named : Text → Result LoadTable Refusal
 table_named word =
     if bytes_eq word (codes "crossings") then Ok load_table.Crossings
     else (if bytes_eq word (codes "dimensions") then Ok load_table.Dimensions
+    else (if bytes_eq word (codes "chips") then Ok load_table.Chips
     else (if bytes_eq word (codes "latencies") then Ok load_table.Latencies
-    else Err (Wanted operand.Table word)))
+    else Err (Wanted operand.Table word))))

@@ -80,8 +80,9 @@ cm1lab load N CAP RATE,.. CYCLES [--cut CHIP DIM].. [--cut-random K] [--seed S] 
     told of; with --seeds means of K loads, and half their 95 % intervals; --table crossings
     tells more columns, how often messages crossed a dimension, were referred, were refused,
     and petit cycles behind which nothing was left; --table dimensions a line for each
-    dimension; --table latencies a line for each number of petit cycles, with a column for
-    each RATE: how many messages took so many
+    dimension; --table chips a line for each chip, with the messages that crossed out of it;
+    --table latencies a line for each number of petit cycles, with a column for each RATE:
+    how many messages took so many
 cm1lab plot [--from T] [--to T] [FILE] > PICTURE
     tells a picture, an SVG, of a table that cm1lab study, cm1lab study --messages or cm1lab
     load told, or of what cm1lab route told, which is in FILE or on standard input: lines over

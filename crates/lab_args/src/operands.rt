@@ -98,7 +98,7 @@ impl Operand {
             Operand::Depth => "a decimal number from 1 to 16 for a picture",
             Operand::Scale => "a decimal number from 1 to 64",
             Operand::Palette => "heat or viridis",
-            Operand::Table => "crossings, dimensions or latencies",
+            Operand::Table => "crossings, dimensions, chips or latencies",
         }
     }
 }
@@ -245,6 +245,7 @@ pub(crate) fn table(alloc: Global, word: &str) -> Result<LoadTable, CommandFault
     match word {
         "crossings" => Ok(LoadTable::Crossings),
         "dimensions" => Ok(LoadTable::Dimensions),
+        "chips" => Ok(LoadTable::Chips),
         "latencies" => Ok(LoadTable::Latencies),
         _ => Err(CommandFault::operand(alloc, Operand::Table, word)),
     }

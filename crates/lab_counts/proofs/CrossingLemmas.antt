@@ -1,12 +1,12 @@
 -- Crossings that are counted in a petit cycle, dimension after dimension.
-use Rattle.std.proofs.Common.{◌≡◌, ℕ, zero, suc, ◌+◌, ◌^◌, List, get_or, set, refl, sym, ap, ◌∙◌, arith, add-one}
+use Rattle.std.proofs.Common.{◌≡◌, ℕ, zero, suc, ◌+◌, ◌^◌, List, get_or, set, refl, sym, ap, ◌∙◌, add-one}
 use Rattle.cm_model.specs.declared.message.Message.{Message}
-use Rattle.cm_model.specs.Wiring.{Routing}
 use Rattle.cm_model.specs.Machine.{Machine}
 use Rattle.cm_model.specs.Buffers.{buffers_after_dimension, machine_after_injection, machine_after_dimension}
 use Rattle.cm_model.proofs.Cycles.{after_crossings-more}
 use Rattle.cm_petit.proofs.Cycling.{under_way, crossed_more}
 use Rattle.lab_counts.specs.declared.crossings.Crossings.{Crossings}
+use Rattle.lab_counts.specs.Chips.{chips_to, chips_through}
 use Rattle.lab_counts.specs.Crossings.{crossings_added, no_crossings, crossings_to, machine_before, crossings_through}
 
 pub machine_before-is : (n cap : ℕ) (m : Machine) (d : ℕ) → machine_before n cap m d ≡ under_way n cap m d
@@ -33,3 +33,12 @@ through_more n cap m dims old d entry more buffers was reads counts stand =
     (λ i. set old d (crossings_added (reads i) (counts i)))
     ∙ ((λ i. set (was i) d (crossings_added (get_or (was i) d no_crossings) (crossings_to m.routing cap d (stand i) (2 ^ n))))
     ∙ ap (λ (k : ℕ). crossings_through n cap m dims k) (sym (add-one d)))
+
+pub chips_more : (n cap : ℕ) (m : Machine) (chips old next : List Crossings) (d : ℕ) (buffers : List (List Message))
+    → old ≡ chips_through n cap m chips d → next ≡ chips_to m.routing cap d buffers old (2 ^ n)
+    → buffers ≡ (machine_before n cap m d).buffers → next ≡ chips_through n cap m chips (d + 1)
+unfolding chips_through
+chips_more n cap m chips old next d buffers was counts stand =
+    counts
+    ∙ ((λ i. chips_to m.routing cap d (stand i) (was i) (2 ^ n))
+    ∙ ap (λ (k : ℕ). chips_through n cap m chips k) (sym (add-one d)))

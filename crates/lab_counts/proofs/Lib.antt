@@ -1,1 +1,2 @@
 pub mod CrossingLemmas
+pub mod Together

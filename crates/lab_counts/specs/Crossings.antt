@@ -28,9 +28,9 @@ crossings_added these more = record {
   refused = capped_sum these.refused more.refused;
 }
 
--- those of all dimensions
+-- those of all dimensions, or of all chips
 abbrev pub in_all : List Crossings → Crossings
-in_all dims = fold crossings_added no_crossings dims
+in_all known = fold crossings_added no_crossings known
 
 -- ---- one chip
 
@@ -68,9 +68,9 @@ abbrev pub crossings_in : ℕ → ℕ → Machine → ℕ → Crossings
 crossings_in n cap machine d =
     crossings_to machine.routing cap d (machine_before n cap machine d).buffers (2 ^ n)
 
--- those known by dimension, and more in dimension d
+-- those known by number, as by dimension or by chip, and more of number k
 abbrev pub with_crossings : List Crossings → ℕ → Crossings → List Crossings
-with_crossings dims d more = slice_set dims d (crossings_added (slice_index_or dims d no_crossings) more)
+with_crossings known k more = slice_set known k (crossings_added (slice_index_or known k no_crossings) more)
 
 -- those known by dimension, and those of the first so many dimensions of a petit cycle
 unfoldable pub crossings_through : ℕ → ℕ → Machine → List Crossings → ℕ → List Crossings

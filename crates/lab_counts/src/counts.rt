@@ -6,7 +6,7 @@ ghost use Rattle.cm_model.specs.Buffers.{after_act};
 ghost use Rattle.cm_router.specs.Routes.{routing_of};
 ghost use Rattle.cm_router.specs.Logs.{log_rooms_of, HaveLogRoom};
 ghost use Rattle.cm_petit.specs.Routers.{machine_from_logs, AreRouters};
-ghost use Rattle.lab_counts.specs.Counts.{nothing_counted, with_crossed};
+ghost use Rattle.lab_counts.specs.Counts.{nothing_counted, with_crossed, chips_crossed};
 
 use crate::crossings::{Crossings, counted_cycle};
 use cm_element::Run;
@@ -39,7 +39,7 @@ impl Counts {
     }
 }
 
-/// One petit cycle, of which the crossings are counted if they are asked for.
+/// One petit cycle, of which the crossings are counted if they are asked for: by dimension, and at each of these chips.
 pub fn watched_cycle(
     sizes: Shape,
     routing: &Routing,
@@ -48,6 +48,7 @@ pub fn watched_cycle(
     logs: &mut [Vec<Event>],
     clock: &mut u64,
     counts: &mut Counts,
+    chips: &mut [Crossings],
 )
     requires cube { routing.now.cuts.dims ≡ sizes.dims }
     requires routers { AreRouters (2 ^ sizes.dims) sizes.room run.old crossing.old.buffers logs.old }
@@ -60,10 +61,21 @@ pub fn watched_cycle(
     ensures routers { AreRouters (2 ^ sizes.dims) sizes.room run.new crossing.new.buffers logs.new }
     ensures counts { counts.new ≡ with_crossed sizes.dims sizes.room
         (machine_from_logs (routing_of routing.now) run.old crossing.old.buffers logs.old clock.old) counts.old }
+    ensures chips { chips.new ≡ chips_crossed counts.old.is_on sizes.dims sizes.room
+        (machine_from_logs (routing_of routing.now) run.old crossing.old.buffers logs.old clock.old) chips.old }
 {
     if !counts.is_on {
         cycle(sizes, routing, run, crossing, logs, clock);
         return;
     }
-    counted_cycle(sizes, routing, run, crossing, logs, clock, &mut counts.dims);
+    counted_cycle(
+        sizes,
+        routing,
+        run,
+        crossing,
+        logs,
+        clock,
+        &mut counts.dims,
+        chips,
+    );
 }

@@ -9,7 +9,8 @@ ghost use Rattle.cm_router.specs.Routes.{routing_of};
 ghost use Rattle.cm_router.specs.Logs.{log_rooms_of, HaveLogRoom};
 ghost use Rattle.cm_petit.specs.Routers.{machine_from_logs, AreRouters};
 ghost use Rattle.lab_counts.specs.Crossings.{crossings_added, in_all, was_referred, crossings_at, crossings_to};
-ghost use Rattle.lab_counts.specs.Crossings.{crossings_through};
+ghost use Rattle.lab_counts.specs.Crossings.{crossings_through, with_crossings};
+ghost use Rattle.lab_counts.specs.Chips.{chips_to, chips_through};
 
 use cm_element::Run;
 use cm_message::{Event, Message, Rule};
@@ -48,18 +49,19 @@ impl Crossings {
     }
 }
 
-/// Those of all dimensions.
-pub fn in_all(dims: &[Crossings]) -> Crossings
-    ensures value { result ≡ in_all dims.now }
+/// Those of all dimensions, or of all chips.
+pub fn in_all(known: &[Crossings]) -> Crossings
+    ensures value { result ≡ in_all known.now }
 {
     let mut all = Crossings::NONE;
-    for more in dims {
+    for more in known {
         all = all.added(*more);
     }
     all
 }
 
-/// One petit cycle, as `cycle` of cm_petit is one, of which the crossings are counted.
+/// One petit cycle, as `cycle` of cm_petit is one, of which the crossings are counted by dimension, and at each of the
+/// first chips that `by_chip` has.
 pub(crate) fn counted_cycle(
     sizes: Shape,
     routing: &Routing,
@@ -68,6 +70,7 @@ pub(crate) fn counted_cycle(
     logs: &mut [Vec<Event>],
     clock: &mut u64,
     dims: &mut [Crossings; 12],
+    by_chip: &mut [Crossings],
 )
     requires cube { routing.now.cuts.dims ≡ sizes.dims }
     requires routers { AreRouters (2 ^ sizes.dims) sizes.room run.old crossing.old.buffers logs.old }
@@ -81,11 +84,14 @@ pub(crate) fn counted_cycle(
     ensures crossings { dims.new ≡ crossings_through sizes.dims sizes.room
         (machine_from_logs (routing_of routing.now) run.old crossing.old.buffers logs.old clock.old) dims.old
         sizes.dims }
+    ensures chips { by_chip.new ≡ chips_through sizes.dims sizes.room
+        (machine_from_logs (routing_of routing.now) run.old crossing.old.buffers logs.old clock.old) by_chip.old
+        sizes.dims }
 {
     inject(sizes, 0, run, crossing, logs, *clock);
     *clock += 1;
     for dim in 0..sizes.dims {
-        let more = crossings_over(sizes, routing, crossing, dim);
+        let more = crossings_over(sizes, routing, crossing, dim, by_chip);
         let d = usize::from(dim);
         dims[d] = dims[d].added(more);
         crossing.cross(sizes, sizes.dims, routing, 0, dim);
@@ -93,12 +99,13 @@ pub(crate) fn counted_cycle(
     deliver(sizes, 0, run, crossing, logs);
 }
 
-/// Those of all chips in a dimension, before it is crossed.
+/// Those of all chips in a dimension, before it is crossed, together and by chip.
 fn crossings_over(
     sizes: Shape,
     routing: &Routing,
     crossing: &mut RouterEngine,
     dim: u8,
+    by_chip: &mut [Crossings],
 ) -> Crossings
     requires cube { routing.now.cuts.dims ≡ sizes.dims }
     requires dim { dim < sizes.dims }
@@ -106,17 +113,32 @@ fn crossings_over(
     requires within { All (λ here. length here ≤ sizes.room) crossing.old.buffers }
     ensures value { result
         ≡ crossings_to (routing_of routing.now) sizes.room dim crossing.old.buffers (2 ^ sizes.dims) }
+    ensures chips { by_chip.new
+        ≡ chips_to (routing_of routing.now) sizes.room dim crossing.old.buffers by_chip.old (2 ^ sizes.dims) }
     ensures same { crossing.new.buffers ≡ crossing.old.buffers }
 {
     crossing.gather();
     let chips = crossing.chips() as u16;
     let mut all = Crossings::NONE;
     for chip in 0..chips {
+        let at = usize::from(chip);
         let cut = routing.cuts.has(chip, dim);
-        let here = crossing.buffer(usize::from(chip));
-        all = all.added(crossings_at(sizes.room, cut, routing.rule, here, dim));
+        let here = crossing.buffer(at);
+        let more = crossings_at(sizes.room, cut, routing.rule, here, dim);
+        all = all.added(more);
+        add_at(by_chip, at, more);
     }
     all
+}
+
+/// More of a chip, if it is one that is counted.
+#[tactic(auto, using(std::proofs::lemmas::List::set_past))]
+fn add_at(by_chip: &mut [Crossings], chip: usize, more: Crossings)
+    ensures value { by_chip.new ≡ with_crossings by_chip.old chip more }
+{
+    if chip < by_chip.len() {
+        by_chip[chip] = by_chip[chip].added(more);
+    }
 }
 
 /// Those of a chip, over whose wire messages go so, where these stand.

@@ -6,3 +6,4 @@ pub mod Cycling
 pub mod Counting
 pub mod Histograms
 pub mod Beginning
+pub mod ByChip

@@ -1,6 +1,7 @@
--- What is counted of a load, if it is asked for: crossings by dimension, and petit cycles behind which nothing is left.
--- Ours.
-use Rattle.std.specs.Prelude.{ℕ, suc, zero, ◌+◌, ◌-◌, ◌^◌, ◌==◌, ◌&&◌, not, Bool, List, length, min, if◌then◌else◌}
+-- What is counted of a load, if it is asked for: crossings by dimension and by chip, and petit cycles behind which
+-- nothing is left. Ours.
+use Rattle.std.specs.Prelude.{ℕ, suc, zero, ◌+◌, ◌-◌, ◌^◌, ◌==◌, ◌&&◌, not, Bool, true, List, length, min}
+use Rattle.std.specs.Prelude.{replicate, if◌then◌else◌}
 use Rattle.std.specs.List.{list_all, list_any}
 use Rattle.cm_model.specs.declared.message.Message.{Message}
 use Rattle.cm_model.specs.Processor.{SEND}
@@ -9,7 +10,9 @@ use Rattle.cm_model.specs.Wiring.{Routing}
 use Rattle.cm_model.specs.Machine.{Machine}
 use Rattle.cm_element.specs.Flags.{has_flag}
 use Rattle.lab_counts.specs.declared.counts.Counts.{Counts}
-use Rattle.lab_counts.specs.Counts.{nothing_counted, with_crossed}
+use Rattle.lab_counts.specs.declared.crossings.Crossings.{Crossings}
+use Rattle.lab_counts.specs.Counts.{nothing_counted, with_crossed, chips_crossed}
+use Rattle.lab_counts.specs.Crossings.{no_crossings}
 use Rattle.lab_load.specs.declared.offers.Load.{Load}
 use Rattle.lab_load.specs.declared.sources.Source.{Source}
 use Rattle.lab_load.specs.Loaded.{Loaded, asking_of, machine_asked, after_one, after_cycles, unloaded, untold}
@@ -52,3 +55,27 @@ abbrev pub counts_for : Bool → ℕ → Load → Routing → ℕ → ℕ → Co
 counts_for is_on cap load routing skip cycles =
     counts_after_cycles cap load (untold (after_cycles cap load (unloaded load.dims routing) skip)) (nothing_counted is_on)
     (cycles - skip)
+
+-- ---- crossings by chip
+
+-- those that were known before, and those of one petit cycle, if they are counted
+abbrev pub chips_after_one : Bool → ℕ → Load → Loaded → List Crossings → List Crossings
+chips_after_one is_on cap load loaded chips = chips_crossed is_on load.dims cap (asked_machine load loaded) chips
+
+-- and those of so many, from this on
+unfoldable pub chips_after_cycles : Bool → ℕ → Load → Loaded → List Crossings → ℕ → List Crossings
+chips_after_cycles is_on cap load loaded chips zero = chips
+chips_after_cycles is_on cap load loaded chips (suc cycles) =
+    chips_after_one is_on cap load (after_cycles cap load loaded cycles)
+    (chips_after_cycles is_on cap load loaded chips cycles)
+
+-- of a blank machine after so many petit cycles, those behind the first so many, and those that were known before
+abbrev pub chips_from : List Crossings → Bool → ℕ → Load → Routing → ℕ → ℕ → List Crossings
+chips_from chips is_on cap load routing skip cycles =
+    chips_after_cycles is_on cap load (untold (after_cycles cap load (unloaded load.dims routing) skip)) chips
+    (cycles - skip)
+
+-- those alone
+abbrev pub chips_for : ℕ → Load → Routing → ℕ → ℕ → List Crossings
+chips_for cap load routing skip cycles =
+    chips_from (replicate (2 ^ load.dims) no_crossings) true cap load routing skip cycles

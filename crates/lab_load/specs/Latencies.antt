@@ -4,8 +4,8 @@ use Rattle.std.specs.Prelude.{slice_index}
 use Rattle.std.specs.List.{count_by, flat_map, range_with_len}
 use Rattle.cm_model.specs.Each.{tabulate}
 use Rattle.lab_load.specs.declared.latencies.Latencies.{Latencies}
+use Rattle.lab_counts.specs.Tables.{last_two}
 use Rattle.lab_load.specs.Figures.{greatest_latency}
-use Rattle.lab_load.specs.Tables.{last_two}
 
 -- so many took just so many petit cycles
 abbrev pub took : List ℕ → ℕ → ℕ

@@ -1,25 +1,15 @@
 -- The table of loads, as a text: numbers in columns, with a comma between them. Ours.
-use Rattle.std.specs.Prelude.{ℕ, ◌/◌, ◌%◌, List, [], ◌∷◌, ◌++◌, Option, Some, None, codes, decimal, min, slice_index_or}
-use Rattle.std.specs.List.{flat_map, range_with_len}
+use Rattle.std.specs.Prelude.{ℕ, ◌/◌, List, [], ◌∷◌, ◌++◌, Option, Some, None, codes, decimal, min, take}
+use Rattle.std.specs.List.{flat_map}
 use Rattle.cm_bits.specs.Text.{number_cell, last_number_cell}
 use Rattle.lab_counts.specs.declared.crossings.Crossings.{Crossings}
 use Rattle.lab_load.specs.declared.figures.Figures.{Figures}
 use Rattle.lab_load.specs.declared.spreads.Spread.{Spread}
 use Rattle.lab_load.specs.declared.spreads.Spreads.{Spreads}
-use Rattle.lab_counts.specs.Crossings.{no_crossings, in_all}
+use Rattle.lab_counts.specs.Crossings.{in_all}
+use Rattle.lab_counts.specs.Tables.{last_digit, last_two, hundredths_text, counted_lines}
 
 -- ---- numbers
-
--- the last digits of a number
-abbrev pub last_digit : ℕ → List ℕ
-last_digit x = decimal (x % 10)
-
-abbrev pub last_two : ℕ → List ℕ
-last_two x = last_digit (x / 10) ++ last_digit x
-
--- so many hundredths: whole ones, a point, two digits, and the comma behind them
-abbrev pub hundredths_text : ℕ → List ℕ
-hundredths_text x = decimal (x / 100) ++ 46 ∷ [] ++ last_two x ++ 44 ∷ []
 
 -- so many thousandths: three digits
 abbrev pub thousandths : ℕ → List ℕ
@@ -84,17 +74,9 @@ crossing_table_of loads = crossing_header ++ flat_map crossing_line loads
 abbrev pub dimension_header : List ℕ
 dimension_header = codes "rate,dimension,crossed,referred,refused\n"
 
--- the line of a dimension under a load of this rate
-unfoldable pub dimension_line : ℕ → ℕ → Crossings → List ℕ
-dimension_line rate d crossings =
-    hundredths_text rate ++ number_cell d ++ number_cell crossings.crossed ++ number_cell crossings.referred
-    ++ last_number_cell crossings.refused
-
--- those of a load on a cube of n dimensions, at most twelve
+-- the lines of a load on a cube of n dimensions, at most twelve
 abbrev pub dimension_lines : ℕ → Figures → List ℕ
-dimension_lines n figures =
-    flat_map (λ d. dimension_line figures.rate d (slice_index_or figures.counts.dims d no_crossings))
-    (range_with_len 0 (min n 12))
+dimension_lines n figures = counted_lines figures.rate 0 (take (min n 12) figures.counts.dims)
 
 -- the table: a line of names, and for each load a line for each dimension
 unfoldable pub dimension_table_of : ℕ → List Figures → List ℕ

@@ -4,6 +4,7 @@ use Rattle.std.specs.Prelude.{nat_lt, if◌then◌else◌}
 use Rattle.std.specs.List.{find}
 use Rattle.cm_model.specs.Wiring.{Routing}
 use Rattle.cm_image_format.specs.Cuts.{rule_of}
+use Rattle.lab_counts.specs.declared.chips.ChipCrossings.{ChipCrossings}
 use Rattle.lab_fresh.specs.declared.blanks.WireEnd.{WireEnd}
 use Rattle.lab_fresh.specs.Fresh.{is_stray, fresh_routing}
 use Rattle.lab_load.specs.declared.offers.Load.{Load}
@@ -13,9 +14,9 @@ use Rattle.lab_load.specs.declared.latencies.Latencies.{Latencies as Told}
 use Rattle.lab_load.specs.declared.trials.Trial.{Trial}
 use Rattle.lab_load.specs.declared.trials.LoadFault.{LoadFault}
 use Rattle.lab_load.specs.declared.trials.LoadTable.{LoadTable}
-use Rattle.lab_load.specs.declared.trials.LoadTable.TheVariants.{Plain, Crossings, Dimensions, Latencies}
+use Rattle.lab_load.specs.declared.trials.LoadTable.TheVariants.{Plain, Crossings, Dimensions, Chips, Latencies}
 use Rattle.lab_load.specs.declared.trials.LoadFault.TheVariants.{Dimension, Room, Wire, Rate, Cycles, Skip, Seeds, Rule, Background, Table}
-use Rattle.lab_load.specs.Counted.{counts_for}
+use Rattle.lab_load.specs.Counted.{counts_for, chips_for}
 use Rattle.lab_load.specs.Loaded.{loaded_for}
 use Rattle.lab_load.specs.Figures.{AreFigures}
 use Rattle.lab_load.specs.Latencies.{histogram}
@@ -40,6 +41,7 @@ abbrev pub is_plain : LoadTable → Bool
 is_plain Plain = true
 is_plain Crossings = false
 is_plain Dimensions = false
+is_plain Chips = false
 is_plain Latencies = false
 
 abbrev pub cycles_fault : Trial → Option LoadFault
@@ -91,6 +93,7 @@ abbrev pub is_counted : LoadTable → Bool
 is_counted Plain = false
 is_counted Crossings = true
 is_counted Dimensions = true
+is_counted Chips = true
 is_counted Latencies = false
 
 -- how the machine of a trial routes, of which the wires with these ends are cut
@@ -114,3 +117,11 @@ pub record AreLatenciesOf (trial : Trial) (targets : List ℕ) (cuts : List Wire
   pub rate_is : latencies.rate ≡ rate
   pub are : latencies.counts.items
       ≡ histogram (loaded_for trial.room load (trial_routing trial cuts) trial.skip trial.cycles).latencies
+
+-- what it tells of chips at a rate: what the messages of its load did at each
+pub record AreChipsOf (trial : Trial) (targets : List ℕ) (cuts : List WireEnd) (rate : ℕ) (told : ChipCrossings)
+    : Type 0 where
+  pub load : Load
+  pub is : IsLoadOf trial targets rate load
+  pub rate_is : told.rate ≡ rate
+  pub are : told.chips.items ≡ chips_for trial.room load (trial_routing trial cuts) trial.skip trial.cycles

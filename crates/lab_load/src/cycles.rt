@@ -7,7 +7,7 @@ ghost use Rattle.lab_load.specs.Offers.{places};
 ghost use Rattle.lab_load.specs.Loaded.{after_one, after_cycles};
 ghost use Rattle.lab_load.specs.Kept.{loaded_of};
 ghost use Rattle.lab_counts.specs.Counts.{nothing_counted};
-ghost use Rattle.lab_load.specs.Counted.{counts_after, counts_after_cycles};
+ghost use Rattle.lab_load.specs.Counted.{counts_after, counts_after_cycles, chips_after_one, chips_after_cycles};
 
 use crate::asking::ask_all;
 use crate::logs::{empty_logs, fetch_all};
@@ -20,7 +20,7 @@ use cm_element::Run;
 use cm_message::Event;
 use cm_router::Routing;
 use cm_router_engine::{RouterEngine, Shape};
-use lab_counts::{Counts, watched_cycle};
+use lab_counts::{Counts, Crossings, watched_cycle};
 
 /// What was told so far.
 #[derive(Debug, Drop)]
@@ -32,20 +32,24 @@ pub(crate) struct Told {
     /// Of each message that was delivered, how many petit cycles it took.
     pub(crate) latencies: Vec<u32>,
     pub(crate) counts: Counts,
+    /// Crossings by chip, of each chip that stands here.
+    pub(crate) chips: Vec<Crossings>,
 }
 
 impl Told {
-    /// Nothing was told so far, and from now on is counted, or is not.
-    pub(crate) fn forget(&mut self, counting: bool)
+    /// Nothing was told so far, and from now on is counted, or is not; by chip beside these.
+    pub(crate) fn forget(&mut self, counting: bool, chips: Vec<Crossings>)
         ensures deepest { self.new.deepest ≡ 0 }
         ensures taken { self.new.taken ≡ 0 }
         ensures latencies { self.new.latencies.items ≡ [] }
         ensures counts { self.new.counts ≡ nothing_counted counting }
+        ensures chips { self.new.chips.items ≡ chips.items }
     {
         self.deepest = 0;
         self.taken = 0;
         self.latencies.clear();
         self.counts = Counts::none(counting);
+        self.chips = chips;
     }
 }
 
@@ -76,6 +80,9 @@ pub(crate) fn go_through(
     ensures counts { OnOk result (told.new.counts
         ≡ counts_after_cycles sizes.room load.now (loaded_of (routing_of routing.now) run.old crossing.old.buffers
         logs.old from sources.old told.old) told.old.counts (to - from)) }
+    ensures chips { OnOk result (told.new.chips.items
+        ≡ chips_after_cycles told.old.counts.is_on sizes.room load.now (loaded_of (routing_of routing.now) run.old
+        crossing.old.buffers logs.old from sources.old told.old) told.old.chips.items (to - from)) }
     ensures routers { OnOk result (AreRouters (2 ^ sizes.dims) sizes.room run.new crossing.new.buffers logs.new) }
     ensures sources { length sources.new ≡ length sources.old }
 {
@@ -110,6 +117,9 @@ fn go_on(
     ensures counts { OnOk result (told.new.counts
         ≡ counts_after sizes.room load.now (loaded_of (routing_of routing.now) run.old crossing.old.buffers logs.old t
         sources.old told.old) told.old.counts) }
+    ensures chips { OnOk result (told.new.chips.items
+        ≡ chips_after_one told.old.counts.is_on sizes.room load.now (loaded_of (routing_of routing.now) run.old
+        crossing.old.buffers logs.old t sources.old told.old) told.old.chips.items) }
     ensures routers { OnOk result (AreRouters (2 ^ sizes.dims) sizes.room run.new crossing.new.buffers logs.new) }
     ensures taken { OnOk result (told.new.taken ≤ (t + 1) * 2 ^ 76) }
 {
@@ -124,6 +134,7 @@ fn go_on(
         logs,
         &mut clock,
         &mut told.counts,
+        &mut told.chips,
     );
     told.taken += taken_in(logs);
     push_latencies(&mut told.latencies, t, logs)?;

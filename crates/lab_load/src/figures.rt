@@ -11,7 +11,7 @@ ghost use Rattle.lab_load.specs.Asking.{no_source};
 ghost use Rattle.lab_load.specs.Loaded.{Loaded, offered_by, offered_in, loaded_for};
 ghost use Rattle.lab_load.specs.Kept.{IsToldOf};
 ghost use Rattle.lab_counts.specs.declared.counts.Counts.{Counts as Counted};
-ghost use Rattle.lab_load.specs.Counted.{counts_for};
+ghost use Rattle.lab_load.specs.Counted.{counts_for, chips_from, chips_for};
 ghost use Rattle.lab_load.specs.Latencies.{histogram};
 ghost use Rattle.lab_load.specs.Figures.{throughput_of, mean_of, is_reached, most_of, greatest_latency, AreFigures};
 
@@ -24,7 +24,7 @@ use cm_element::Run;
 use cm_message::Event;
 use cm_router::Routing;
 use cm_router_engine::{RouterEngine, Shape};
-use lab_counts::Counts;
+use lab_counts::{Counts, Crossings, blank_chips};
 use std::alloc::Global;
 
 /// What was offered to a machine, and what became of it.
@@ -182,7 +182,7 @@ pub fn measure(
         (loaded_for room load.now (routing_of routing.now) period.skip period.cycles)
         (counts_for period.counting room load.now (routing_of routing.now) period.skip period.cycles)) }
 {
-    let told = tell(alloc, room, routing, load, period)?;
+    let told = tell(alloc, room, routing, load, period, Vec::new(alloc))?;
     Ok(figures_of(load, period.skip, period.cycles, &told))
 }
 
@@ -201,8 +201,32 @@ pub(crate) fn measure_latencies(
     ensures value { IfOk result (λ counts. counts.items
         ≡ histogram (loaded_for room load.now (routing_of routing.now) period.skip period.cycles).latencies) }
 {
-    let told = tell(alloc, room, routing, load, period)?;
+    let told = tell(alloc, room, routing, load, period, Vec::new(alloc))?;
     histogram(alloc, &told.latencies)
+}
+
+/// What messages did at each chip under a load on such a machine, in the same petit cycles.
+pub(crate) fn measure_chips(
+    alloc: Global,
+    room: u8,
+    routing: &Routing,
+    load: &Load,
+    period: Period,
+) -> Result<Vec<Crossings>, NoMemory>
+    requires sizes { AreSizes load.now.dims room }
+    requires cube { routing.now.cuts.dims ≡ load.now.dims }
+    requires few { period.cycles ≤ 1000000 }
+    requires skip { period.skip ≤ period.cycles }
+    ensures value { IfOk result (λ chips. chips.items
+        ≡ chips_for room load.now (routing_of routing.now) period.skip period.cycles) }
+{
+    let blank = blank_chips(alloc, chip_count(load.dims))?;
+    let counted = Period {
+        counting: true,
+        ..period
+    };
+    let told = tell(alloc, room, routing, load, counted, blank)?;
+    Ok(told.chips)
 }
 
 /// The numbers of a load after so many petit cycles, of which these were told without the first so many.
@@ -230,13 +254,14 @@ fn figures_of(load: &Load, skip: u32, cycles: u32, told: &Told) -> Figures
     }
 }
 
-/// What it tells.
+/// What it tells, with crossings by chip beside these.
 fn tell(
     alloc: Global,
     room: u8,
     routing: &Routing,
     load: &Load,
     period: Period,
+    by_chip: Vec<Crossings>,
 ) -> Result<Told, NoMemory>
     requires sizes { AreSizes load.now.dims room }
     requires cube { routing.now.cuts.dims ≡ load.now.dims }
@@ -245,6 +270,8 @@ fn tell(
     ensures value { IfOk result (IsToldOf
         (loaded_for room load.now (routing_of routing.now) period.skip period.cycles)
         (counts_for period.counting room load.now (routing_of routing.now) period.skip period.cycles)) }
+    ensures chips { IfOk result (λ told. told.chips.items
+        ≡ chips_from by_chip.items period.counting room load.now (routing_of routing.now) period.skip period.cycles) }
 {
     let chips = chip_count(load.dims);
     let mut logs = blank_logs(alloc, usize::from(chips))?;
@@ -256,6 +283,7 @@ fn tell(
         routing,
         load,
         period,
+        by_chip,
         &mut logs,
         &mut sources,
     )
@@ -269,6 +297,7 @@ fn begin(
     routing: &Routing,
     load: &Load,
     period: Period,
+    by_chip: Vec<Crossings>,
     logs: &mut [Vec<Event>],
     sources: &mut [Source],
 ) -> Result<Told, NoMemory>
@@ -283,6 +312,8 @@ fn begin(
     ensures value { IfOk result (IsToldOf
         (loaded_for room load.now (routing_of routing.now) period.skip period.cycles)
         (counts_for period.counting room load.now (routing_of routing.now) period.skip period.cycles)) }
+    ensures chips { IfOk result (λ told. told.chips.items
+        ≡ chips_from by_chip.items period.counting room load.now (routing_of routing.now) period.skip period.cycles) }
 {
     let mut rows = Run::blank(alloc, chips)?;
     let mut crossing = RouterEngine::new(alloc, usize::from(chips))?;
@@ -292,6 +323,7 @@ fn begin(
         taken: 0,
         latencies,
         counts: Counts::none(false),
+        chips: Vec::new(alloc),
     };
     let sizes = Shape {
         dims: load.dims,
@@ -309,7 +341,7 @@ fn begin(
         sources,
         &mut told,
     )?;
-    told.forget(period.counting);
+    told.forget(period.counting, by_chip);
     go_through(
         sizes,
         routing,

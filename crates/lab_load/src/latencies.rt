@@ -8,8 +8,8 @@ ghost use Rattle.lab_load.specs.Latencies.{took, histogram, rate_name, latency_h
 ghost use Rattle.lab_load.specs.Latencies.{table_end, latency_table_of};
 
 use crate::figures::greatest_of;
-use crate::tables::push_last_two;
 use cm_bits::NoMemory;
+use lab_counts::push_last_two;
 use lab_digits::{push_byte, push_piece, push_words};
 use std::alloc::Global;
 

@@ -1,8 +1,12 @@
 //! Laws over the definitions: values that are known from elsewhere, so that a wrong rule is not proved.
 
-ghost use Rattle.std.specs.Prelude.{◌≡◌, ◌%◌, [], ◌∷◌, codes, false, map, None, Some};
+ghost use Rattle.std.specs.Prelude.{◌≡◌, ◌≤◌, ◌%◌, ℕ, [], ◌∷◌, codes, false, true, map, None, Some};
+ghost use Rattle.cm_model.specs.Wiring.{Routing};
+ghost use Rattle.lab_counts.specs.Crossings.{in_all};
 ghost use Rattle.lab_load.specs.declared.offers.Pattern.TheVariants as pattern;
+ghost use Rattle.lab_load.specs.declared.offers.Load.{Load};
 ghost use Rattle.lab_load.specs.Offers.{aimed};
+ghost use Rattle.lab_load.specs.Counted.{counts_for, chips_for};
 ghost use Rattle.lab_counts.specs.Counts.{nothing_counted};
 ghost use Rattle.lab_load.specs.Figures.{greatest_latency, mean_of, most_of, throughput_of};
 ghost use Rattle.lab_load.specs.declared.latencies.Latencies.{Latencies};
@@ -96,4 +100,11 @@ pub fn faults_come_in_order()
         ≡ Some (fault.Background 101) }
     ensures table { trial_fault (trial_with 12 15 10 9 2 1 100 shown.Crossings) [] (1600 ∷ []) ≡ Some (fault.Table 2) }
     ensures none { trial_fault (trial_with 12 15 1000000 9 1000 1 100 shown.Plain) [] (1600 ∷ []) ≡ None }
+{}
+
+/// Under every load all chips together and all dimensions together have the same crossings, referrals and refusals.
+pub fn chips_and_dimensions_agree()
+    ensures agree { (cap : ℕ) (load : Load) (routing : Routing) (skip cycles : ℕ) → load.dims ≤ 12
+        → in_all (chips_for cap load routing skip cycles)
+        ≡ in_all (counts_for true cap load routing skip cycles).dims }
 {}

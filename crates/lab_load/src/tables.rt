@@ -1,20 +1,21 @@
 //! The table of loads, as a text.
 
-ghost use Rattle.std.specs.Prelude.{◌≡◌, ◌++◌, ◌∷◌, [], ◌/◌, ◌%◌, ◌<◌, OnOk, IfOk, decimal, slice_index_or};
-ghost use Rattle.lab_counts.specs.Crossings.{no_crossings};
-ghost use Rattle.lab_load.specs.Tables.{last_digit, last_two, hundredths_text, thousandths, column_if};
+ghost use Rattle.std.specs.Prelude.{◌≡◌, ◌++◌, OnOk, IfOk};
+ghost use Rattle.lab_load.specs.Tables.{thousandths, column_if};
 ghost use Rattle.lab_load.specs.Tables.{loads_header, offer_columns, message_columns, latency_columns, load_line};
 ghost use Rattle.lab_load.specs.Tables.{loads_table};
 ghost use Rattle.lab_load.specs.Tables.{crossing_header, crossing_columns, crossing_line, crossing_table_of};
-ghost use Rattle.lab_load.specs.Tables.{dimension_header, dimension_line, dimension_lines, dimension_table_of};
+ghost use Rattle.lab_load.specs.Tables.{dimension_header, dimension_lines, dimension_table_of};
 ghost use Rattle.lab_load.specs.Tables.{last_hundredths, spread_header, spread_columns, throughput_columns};
 ghost use Rattle.lab_load.specs.Tables.{spread_line, spread_table_of};
 
 use crate::figures::Figures;
 use crate::spreads::{Spread, Spreads};
 use cm_bits::NoMemory;
-use lab_counts::{Crossings, in_all};
-use lab_digits::{push_byte, push_number, push_piece};
+use lab_counts::{
+    Crossings, in_all, push_counted_lines, push_hundredths, push_last_digit, push_last_two,
+};
+use lab_digits::{push_byte, push_number};
 use std::alloc::Global;
 
 /// The table of these loads: a line of names, and a line for each load.
@@ -144,35 +145,11 @@ fn dimension_opening(alloc: Global) -> Result<Vec<u8>, NoMemory>
 fn push_dimensions(text: &mut Vec<u8>, n: u16, figures: &Figures) -> Result<(), NoMemory>
     ensures ok { OnOk result (text.new.items ≡ text.old.items ++ dimension_lines n figures.now) }
 {
-    for d in 0..n.min(12) {
-        push_dimension(text, figures.rate, d, crossings_in(&figures.counts.dims, d))?;
-    }
-    Ok(())
-}
-
-/// What was counted in a dimension.
-fn crossings_in(dims: &[Crossings; 12], d: u16) -> Crossings
-    requires d { d < 12 }
-    ensures value { result ≡ slice_index_or dims.now d no_crossings }
-{
-    dims[usize::from(d)]
-}
-
-/// The line of a dimension.
-#[tactic(auto, unfolding(crate::specs::Tables::dimension_line))]
-fn push_dimension(
-    text: &mut Vec<u8>,
-    rate: u16,
-    d: u16,
-    crossings: Crossings,
-) -> Result<(), NoMemory>
-    ensures ok { OnOk result (text.new.items ≡ text.old.items ++ dimension_line rate d crossings) }
-{
-    push_hundredths(text, u128::from(rate))?;
-    push_number(text, d, b',')?;
-    push_number(text, crossings.crossed, b',')?;
-    push_number(text, crossings.referred, b',')?;
-    push_number(text, crossings.refused, b'\n')
+    push_counted_lines(
+        text,
+        figures.rate,
+        &figures.counts.dims[..usize::from(n.min(12))],
+    )
 }
 
 /// The table of loads of many seeds: a line of names, and a line for each rate.
@@ -245,15 +222,6 @@ fn push_if(text: &mut Vec<u8>, number: Option<u32>) -> Result<(), NoMemory>
     }
 }
 
-/// So many hundredths, and a comma.
-fn push_hundredths(text: &mut Vec<u8>, number: u128) -> Result<(), NoMemory>
-    ensures ok { OnOk result (text.new.items ≡ text.old.items ++ hundredths_text number) }
-{
-    push_number(text, number / 100, b'.')?;
-    push_last_two(text, number)?;
-    push_byte(text, b',')
-}
-
 /// So many thousandths, and a comma.
 fn push_thousandths(text: &mut Vec<u8>, number: u128) -> Result<(), NoMemory>
     ensures ok { OnOk result (text.new.items ≡ text.old.items ++ thousandths number) }
@@ -262,19 +230,4 @@ fn push_thousandths(text: &mut Vec<u8>, number: u128) -> Result<(), NoMemory>
     push_last_digit(text, number / 100)?;
     push_last_two(text, number)?;
     push_byte(text, b',')
-}
-
-/// The last two digits of a number.
-pub(crate) fn push_last_two(text: &mut Vec<u8>, number: u128) -> Result<(), NoMemory>
-    ensures ok { OnOk result (text.new.items ≡ text.old.items ++ last_two number) }
-{
-    push_last_digit(text, number / 10)?;
-    push_last_digit(text, number)
-}
-
-/// The last digit of a number.
-fn push_last_digit(text: &mut Vec<u8>, number: u128) -> Result<(), NoMemory>
-    ensures ok { OnOk result (text.new.items ≡ text.old.items ++ last_digit number) }
-{
-    push_piece(text, b"", number % 10)
 }

@@ -9,14 +9,15 @@ ghost use Rattle.lab_fresh.specs.Fresh.{is_stray};
 ghost use Rattle.lab_load.specs.declared.figures.Figures.{Figures};
 ghost use Rattle.lab_load.specs.Spreads.{seeded, AreSpreadsOf};
 ghost use Rattle.lab_load.specs.Trials.{is_counted, is_plain, trial_fault, trial_routing, IsLoadOf};
-ghost use Rattle.lab_load.specs.Trials.{AreFiguresOf, AreLatenciesOf};
+ghost use Rattle.lab_load.specs.Trials.{AreFiguresOf, AreLatenciesOf, AreChipsOf};
 
-use crate::figures::{Figures, Period, measure, measure_latencies};
+use crate::figures::{Figures, Period, measure, measure_chips, measure_latencies};
 use crate::latencies::Latencies;
 use crate::offers::{Load, Pattern};
 use crate::spreads::{Spreads, spreads_of};
 use cm_bits::NoMemory;
 use cm_router::Routing;
+use lab_counts::ChipCrossings;
 use lab_fresh::{WireEnd, routing_with, rule_of, stray};
 use std::alloc::Global;
 use thiserror::Error;
@@ -54,6 +55,8 @@ pub enum LoadTable {
     Crossings,
     /// A line for each dimension.
     Dimensions,
+    /// A line for each chip.
+    Chips,
     /// A line for each number of petit cycles that a message took.
     Latencies,
 }
@@ -70,7 +73,10 @@ impl LoadTable {
     fn is_counted(self) -> bool
         ensures value { result ≡ is_counted self }
     {
-        matches!(self, LoadTable::Crossings | LoadTable::Dimensions)
+        matches!(
+            self,
+            LoadTable::Crossings | LoadTable::Dimensions | LoadTable::Chips
+        )
     }
 }
 
@@ -211,6 +217,27 @@ impl Trial {
         }
     }
 
+    /// What messages did at each chip under its load at this rate, on such a machine.
+    pub fn chips(
+        &self,
+        alloc: Global,
+        targets: &[u64],
+        cuts: &[WireEnd],
+        rate: u16,
+    ) -> Result<ChipCrossings, LoadFault>
+        ensures value { IfOk result (AreChipsOf self.now targets.now cuts.now rate) }
+        ensures refused { IfErr result (λ fault. fault ≢ LoadFault.Memory
+            → trial_fault self.now cuts.now (rate ∷ []) ≡ Some fault) }
+    {
+        match self.fault(cuts, &[rate]) {
+            Some(fault) => Err(fault),
+            None => match self.measured_chips(alloc, targets, cuts, rate) {
+                Ok(chips) => Ok(chips),
+                Err(_) => Err(LoadFault::Memory),
+            },
+        }
+    }
+
     /// The means and intervals of its loads of all seeds at this rate, on such a machine.
     pub fn spreads(
         &self,
@@ -295,6 +322,26 @@ impl Trial {
         let routing = self.routing(alloc, cuts)?;
         let counts = measure_latencies(alloc, self.room as u8, &routing, &load, self.period())?;
         Ok(Latencies { rate, counts })
+    }
+
+    /// The same of what they did at each chip.
+    fn measured_chips(
+        &self,
+        alloc: Global,
+        targets: &[u64],
+        cuts: &[WireEnd],
+        rate: u16,
+    ) -> Result<ChipCrossings, NoMemory>
+        requires sizes { AreSizes self.now.n self.now.room }
+        requires wires { find (is_stray self.now.n) cuts.now ≡ None }
+        requires few { self.now.cycles ≤ 1000000 }
+        requires skip { self.now.skip ≤ self.now.cycles }
+        ensures value { IfOk result (AreChipsOf self.now targets.now cuts.now rate) }
+    {
+        let load = self.load(alloc, targets, rate)?;
+        let routing = self.routing(alloc, cuts)?;
+        let chips = measure_chips(alloc, self.room as u8, &routing, &load, self.period())?;
+        Ok(ChipCrossings { rate, chips })
     }
 
     /// Its load at a rate, with these targets.

@@ -10,8 +10,8 @@ use lab_data::{
 use lab_fresh::{FreshFault, WireEnd, cut_wires, fresh};
 use lab_front::{FrontFault, ImageFault, SessionFault, front_image};
 use lab_load::{
-    Figures, Latencies, LoadFault, LoadTable, Pattern, Spreads, Trial, latency_table, spread_table,
-    table,
+    ChipCrossings, Figures, Latencies, LoadFault, LoadTable, Pattern, Spreads, Trial, chip_table,
+    latency_table, spread_table, table,
 };
 use lab_source::{AsmKind, SourceKind, expand};
 use std::alloc::Global;
@@ -101,6 +101,8 @@ static TARGETS: [u64; 32] = [
 
 static TOOK: &str = "latency,rate 6.00\n1,16\n2,2\n3,1\n4,2\n5,2\n";
 
+static CROSSED: &str = "rate,chip,crossed,referred,refused\n6.00,0,8,8,0\n6.00,1,8,0,16\n";
+
 /// The bytes before those of the chips of a blank machine of two chips, whose wire is cut.
 static CUT: [u8; 21] = [
     0x43, 0x4d, 0x31, 0x49, 2, 1, 15, 0, 0, 0, 0, 0, 0, 0, 0, 0, 0, 1, 0, 0, 0,
@@ -163,12 +165,13 @@ enum Grown {
     Source,
     Load,
     Latencies,
+    Chips,
     Blank,
     Front,
     ForAll,
 }
 
-static GROWN: [Grown; 14] = [
+static GROWN: [Grown; 15] = [
     Grown::Read,
     Grown::Numbers,
     Grown::Picture,
@@ -180,6 +183,7 @@ static GROWN: [Grown; 14] = [
     Grown::Source,
     Grown::Load,
     Grown::Latencies,
+    Grown::Chips,
     Grown::Blank,
     Grown::Front,
     Grown::ForAll,
@@ -199,6 +203,7 @@ impl Call for Grown {
             Grown::Source => Some(is_expanded(alloc)),
             Grown::Load => is_measured(alloc),
             Grown::Latencies => is_timed(alloc),
+            Grown::Chips => is_counted(alloc),
             Grown::Blank => is_blank(alloc),
             Grown::Front => is_answered(alloc, &LINES),
             Grown::ForAll => is_answered(alloc, &FOR_ALL),
@@ -365,6 +370,20 @@ fn is_timed(alloc: Global) -> Option<bool> {
         Ok(told) => told,
     };
     Some(told.as_slice() == TOOK.as_bytes())
+}
+
+/// Whether the same load has its table by chip.
+fn is_counted(alloc: Global) -> Option<bool> {
+    let chips = match SHUFFLED.chips(alloc, &TARGETS, &[], 600) {
+        Err(LoadFault::Memory) => SHUFFLED.chips(alloc, &TARGETS, &[], 600).ok()?,
+        chips => chips.ok()?,
+    };
+    let loads: [ChipCrossings; 1] = [chips];
+    let told = match chip_table(alloc, &loads) {
+        Err(NoMemory) => chip_table(alloc, &loads).ok()?,
+        Ok(told) => told,
+    };
+    Some(told.as_slice() == CROSSED.as_bytes())
 }
 
 /// Whether a blank machine has its bytes, and 35 zero bytes for each chip.

@@ -4,7 +4,8 @@ use Rattle.lab_load.specs.declared.offers.Load.{Load}
 use Rattle.lab_load.specs.Loaded.{Loaded, after_one, after_cycles}
 use Rattle.lab_load.specs.Kept.{loaded_of}
 use Rattle.lab_counts.specs.declared.counts.Counts.{Counts}
-use Rattle.lab_load.specs.Counted.{counts_after_cycles}
+use Rattle.lab_load.specs.Counted.{counts_after_cycles, chips_after_cycles}
+use Rattle.lab_load.proofs.ByChip.{is_on-after_cycles, no_chips, one_more_by_chip}
 use Rattle.lab_load.proofs.Counting.{none_counted, one_more_counted}
 use Rattle.lab_load.proofs.cycles.go_through.Goals as goal
 
@@ -25,6 +26,7 @@ pub loop-t-init : goal.loop-t-init
 loop-t-init c = record {
   value = none_yet c.args.sizes.room c.args.load.now _ c.args.from;
   counts = none_counted c.args.sizes.room c.args.load.now _ c.args.told.now.counts c.args.from;
+  chips = no_chips c.args.told.now.counts.is_on c.args.sizes.room c.args.load.now _ c.args.told.now.chips.items c.args.from;
   routers = c.requires.routers;
   taken = omega (arith, c.requires.taken);
 }
@@ -35,6 +37,14 @@ loop-t-preserved c = record {
       c.loop-t.invariant.value c.in_ok-go_on.ensures.ok;
   counts = one_more_counted c.args.sizes.room c.args.load.now _ _ c.args.told.now.counts _ _ c.args.from c.loop-t.t
       (omega arith) c.loop-t.invariant.value c.loop-t.invariant.counts c.in_ok-go_on.ensures.counts;
+  chips = one_more_by_chip c.args.told.now.counts.is_on c.loop-t.told.counts.is_on c.args.sizes.room c.args.load.now _ _
+      c.args.told.now.chips.items _ _ c.args.from c.loop-t.t (omega arith)
+      (ap (λ (x : Counts). x.is_on) c.loop-t.invariant.counts
+      ∙ is_on-after_cycles c.args.sizes.room c.args.load.now
+      (loaded_of (routing_of c.args.routing.now) c.args.run.now c.args.crossing.now.buffers c.args.logs.now c.args.from
+      c.args.sources.now c.args.told.now)
+      c.args.told.now.counts (c.loop-t.t - c.args.from))
+      c.loop-t.invariant.value c.loop-t.invariant.chips c.in_ok-go_on.ensures.chips;
   routers = c.in_ok-go_on.ensures.routers;
   taken = c.in_ok-go_on.ensures.taken;
 }
@@ -61,3 +71,12 @@ returns-clause-counts c =
     c.args.from c.args.sources.now c.args.told.now in
     c.loop-t.invariant.counts
     ∙ ap (λ (k : ℕ). counts_after_cycles c.args.sizes.room c.args.load.now first c.args.told.now.counts (k - c.args.from)) all
+
+pub returns-clause-chips : goal.returns-clause-chips
+returns-clause-chips c =
+    let all : c.loop-t.t ≡ c.args.to = omega arith in
+    let first = loaded_of (routing_of c.args.routing.now) c.args.run.now c.args.crossing.now.buffers c.args.logs.now
+    c.args.from c.args.sources.now c.args.told.now in
+    c.loop-t.invariant.chips
+    ∙ ap (λ (k : ℕ). chips_after_cycles c.args.told.now.counts.is_on c.args.sizes.room c.args.load.now first
+    c.args.told.now.chips.items (k - c.args.from)) all

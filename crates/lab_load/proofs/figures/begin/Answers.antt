@@ -5,7 +5,9 @@ use Rattle.cm_router.specs.Routes.{routing_of}
 use Rattle.lab_load.specs.Offers.{places}
 use Rattle.lab_load.specs.Loaded.{Loaded, unloaded, loaded_for}
 use Rattle.lab_load.specs.Kept.{loaded_of}
+use Rattle.lab_counts.specs.declared.counts.Counts.{Counts}
 use Rattle.lab_load.specs.Counted.{counts_for}
+use Rattle.lab_load.proofs.ByChip.{chips_anew}
 use Rattle.lab_load.proofs.Counting.{counted_anew}
 use Rattle.lab_load.proofs.Beginning.{begins, nothing_told, passed, routers}
 use Rattle.lab_load.proofs.figures.begin.Goals as goal
@@ -58,4 +60,13 @@ returns c =
         latencies = ap (λ (l : Loaded). l.latencies) went;
         counts_are = counted;
       };
+      chips = chips_anew c.forget.new.self.counts.is_on c.args.period.counting c.args.room c.args.load.now
+          c.args.period.skip c.args.period.cycles
+          (unloaded c.args.load.now.dims (routing_of c.args.routing.now)) _ _ _ _ _ _
+          begun
+          c.in_ok-go_through.ensures.ok
+          forgotten
+          (ap (λ (x : Counts). x.is_on) c.forget.ensures.counts)
+          c.forget.ensures.chips
+          c.in_ok-go_through-2.ensures.chips;
     }

@@ -1,4 +1,4 @@
-use Rattle.std.proofs.Common.{◌≡◌, ℕ, ◌+◌, ◌<◌, ◌^◌, List, length, set, slice_index, refl, ap, ◌∙◌, arith}
+use Rattle.std.proofs.Common.{ℕ, List, length, set, slice_index, refl, ap, ◌∙◌, arith}
 use Rattle.lab_counts.specs.Crossings.{capped_sum}
 use Rattle.lab_load.proofs.Histograms.{none_took, took_more}
 use Rattle.lab_load.proofs.latencies.count_all.Goals as goal

@@ -1,6 +1,5 @@
-use Rattle.std.proofs.Common.{◌≡◌, ℕ, ◌+◌, ◌-◌, ◌++◌, ap, ◌∙◌, arith}
-use Rattle.std.specs.List.{flat_map, range_with_len}
-use Rattle.lab_load.specs.Latencies.{latency_header, latency_line, latency_table_of, table_end}
+use Rattle.std.proofs.Common.{◌+◌}
+use Rattle.lab_load.specs.Latencies.{latency_header, latency_line}
 use Rattle.lab_load.proofs.Adding.{number_more}
 use Rattle.lab_load.proofs.latencies.latency_table.Goals as goal
 
