@@ -226,6 +226,7 @@ impl Trial {
         rate: u16,
     ) -> Result<ChipCrossings, LoadFault>
         ensures value { IfOk result (AreChipsOf self.now targets.now cuts.now rate) }
+        ensures accepted { IfOk result (λ chips. trial_fault self.now cuts.now (rate ∷ []) ≡ None) }
         ensures refused { IfErr result (λ fault. fault ≢ LoadFault.Memory
             → trial_fault self.now cuts.now (rate ∷ []) ≡ Some fault) }
     {
