@@ -41,7 +41,8 @@ use Rattle.cm_workers.specs.Posts.{giver_of_kind}
 use Rattle.cm_workers.specs.Turns.{IsShown}
 use Rattle.cm_resident.specs.Lanes.{Run, before, rounds_in, place_of_kind, kind_of_index, is_over, passed, parcel_sent, dues, course}
 use Rattle.cm_resident.specs.Standing.{IsRunBlock, StandsBefore}
-use Rattle.cm_resident.specs.Turns.{CanGoOn, HasGoneOn, CanSend, HasSent, CanGet, HasGot}
+use Rattle.cm_turns.specs.Turns.{CanGoOn, HasGoneOn, CanSend, HasSent, CanGet, HasGot}
+use Rattle.cm_turns.proofs.Absorbing.{clock_stands}
 use Rattle.cm_resident.proofs.Picking.{picked, picked_below}
 use Rattle.cm_resident.proofs.Ends.{kind_of_place}
 
@@ -102,15 +103,6 @@ clock_left room Look s = refl
 clock_left room Inject s = refl
 clock_left room (Cross d) s = refl
 clock_left room Deliver s = refl
-
-pub clock_stands : (n room : ℕ) (step : Step) (parcel : Parcel) (s : Part)
-    → (absorbed n room step parcel s).clock ≡ s.clock
-unfolding absorbed part_after
-clock_stands n room (Instruct nano) parcel s = refl
-clock_stands n room Look parcel s = refl
-clock_stands n room Inject parcel s = refl
-clock_stands n room (Cross d) parcel s = refl
-clock_stands n room Deliver parcel s = refl
 
 over_columns : (n k : ℕ) (over : Dir) (row : List Bool) → length row ≡ columns n
     → IsOfKind n k (kind_over over) (Edge row)

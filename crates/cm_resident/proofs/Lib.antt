@@ -1,8 +1,6 @@
-mod Places
 mod Picking
 mod Ends
 mod Going
-mod Absorbing
 mod Working
 mod Numbered
 mod Opening

@@ -21,7 +21,7 @@ use Rattle.cm_board.specs.Courses.{Course}
 use Rattle.cm_workers.specs.Turns.{AreShown}
 use Rattle.cm_resident.specs.Lanes.{Run, before, rounds_in, place_of_kind, ends_each, course, own, givers}
 use Rattle.cm_resident.specs.Standing.{block_number, AreEndsBefore, IsWorkerBefore, IsUnused}
-use Rattle.cm_resident.specs.Turns.{CanGoOn, HasGoneOn, CanSend, HasSent, CanGet, HasGot, AreReady, AreUsed}
+use Rattle.cm_turns.specs.Turns.{CanGoOn, HasGoneOn, CanSend, HasSent, CanGet, HasGot, AreReady, AreUsed}
 use Rattle.cm_workers.specs.Gates.{AreBeforeRound, ComesBy, gate_round_number}
 use Rattle.cm_resident.specs.Teams.{AreDone, HasSeenOf}
 use Rattle.cm_resident.proofs.Ends.{place_in, some_blocks, ends_are, ends_next}

@@ -14,7 +14,6 @@ mod short_lists;
 mod start;
 mod teams;
 mod together;
-mod turn;
 mod worker;
 mod worker_parts;
 

@@ -9,10 +9,10 @@ ghost use Rattle.cm_resident.specs.Standing.{IsWorkerBefore};
 ghost use Rattle.cm_resident.specs.Teams.{HasPassed, HasSeenOf, HasWorked, IsBeforeRound, IsOfSome};
 
 use crate::lanes::ends_each;
-use crate::turn::{EndPlace, begin_all, get_all, send_all};
 use cm_board::{FromEnd, ToEnd};
 use cm_model::Act;
 use cm_subcube::{Block, Kind, Parcel, Round};
+use cm_turns::{EndPlace, begin_all, get_all, send_all};
 use cm_workers::{Gate, Passage};
 use std::sync::Wait;
 
