@@ -1,15 +1,8 @@
-mod Places
-mod Picking
-mod Ends
-mod Going
-mod Absorbing
-mod Working
 mod Numbered
 mod Opening
 mod Fitting
 mod Starts
 mod Rows
-mod Powers
 mod Ending
 mod Fronts
 mod LogsAside

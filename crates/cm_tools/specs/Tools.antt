@@ -9,9 +9,9 @@ use Rattle.cm_image_format.specs.Whole.{text_of}
 use Rattle.cm_system.specs.declared.fault.ChipFault.{ChipFault}
 use Rattle.cm_system.specs.declared.fault.ChipFault.TheVariants as chip
 use Rattle.cm_system.specs.declared.program_fault.ProgramFault.{ProgramFault}
-use Rattle.cm_system.specs.declared.program_fault.ProgramFault.TheVariants.{Read, Memory}
+use Rattle.cm_system.specs.declared.program_fault.ProgramFault.TheVariants.{Read, TooMuch, Memory}
 use Rattle.cm_system.specs.ProgramFault.{of_chip}
-use Rattle.cm_system.specs.ReadAll.{ConsumesAtMost}
+use Rattle.cm_system.specs.ReadAll.{ConsumesAtMost, ConsumesBeyond}
 use Rattle.cm_tools.specs.Session.{CHIP_LIMIT, ChipSessionEnds, EndsForSome, has_read_all as has_heard_all}
 use Rattle.cm_tools.specs.Session.{is_chip_write}
 use Rattle.cm_system.specs.InputFiles.{PROGRAM_LIMIT}
@@ -37,6 +37,7 @@ pub record IsChipTrace {F P : Type 0} (streams : Streams) (result : Result (Unit
   pub read : (streams.read_failed ≡ true) ↔ IsErrOf ended chip.Read
   pub read_within : IsErrOf ended chip.Read → ConsumesAtMost CHIP_LIMIT streams.lines streams.rest
   pub memory_within : IsErrOf ended chip.Memory → ConsumesAtMost CHIP_LIMIT streams.lines streams.rest
+  pub too_much_came : IsErrOf ended chip.TooMuch → ConsumesBeyond CHIP_LIMIT streams.lines streams.rest
   pub write : streams.write_failed ≡ is_chip_write ended
   pub then : Flushes streams.out_after (chip_end ended) result trace
 
@@ -51,6 +52,7 @@ pub record ListsOut {F P : Type 0} (reads : Reads F) (file : F) (out_before out_
   pub read : (reads.has_failed after ≡ true) ↔ IsErrOf ended Read
   pub read_within : IsErrOf ended Read → ConsumesAtMost PROGRAM_LIMIT (reads.left file) (reads.left after)
   pub memory_within : IsErrOf ended Memory → ConsumesAtMost PROGRAM_LIMIT (reads.left file) (reads.left after)
+  pub too_much_came : IsErrOf ended TooMuch → ConsumesBeyond PROGRAM_LIMIT (reads.left file) (reads.left after)
   pub write : failed ≡ is_listing_write ended
   pub then : Flushes out_after ended result trace
 

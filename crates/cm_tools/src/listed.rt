@@ -2,7 +2,7 @@
 
 ghost use Rattle.std.specs.Prelude.{◌≡◌, ◌↔◌, true, false, IfSome, IsErrOf, IsTrue, MatchResult};
 ghost use Rattle.std.specs.Io.KnownBytes.{IsAtEnd};
-ghost use Rattle.cm_system.specs.ReadAll.{ConsumesAtMost};
+ghost use Rattle.cm_system.specs.ReadAll.{ConsumesAtMost, ConsumesBeyond};
 ghost use Rattle.cm_tools.specs.Listed.{EndsListing, EndsListingForSome, IsListingOf, HasNoListing, has_read_all};
 ghost use Rattle.cm_tools.specs.Listed.{is_listing_write};
 
@@ -30,6 +30,8 @@ pub fn list<I: Source, O: Sink>(
         → ConsumesAtMost PROGRAM_LIMIT (I.left source.old) (I.left source.new) }
     ensures memory_within { IsErrOf result ProgramFault.Memory
         → ConsumesAtMost PROGRAM_LIMIT (I.left source.old) (I.left source.new) }
+    ensures too_much_came { IsErrOf result ProgramFault.TooMuch
+        → ConsumesBeyond PROGRAM_LIMIT (I.left source.old) (I.left source.new) }
     ensures write { O.has_failed sink.new ≡ is_listing_write result }
 {
     let text = match take(alloc, source, PROGRAM_LIMIT) {

@@ -2,7 +2,7 @@
 
 ghost use Rattle.std.specs.Prelude.{◌≡◌, ◌<◌, ◌^◌, ◌↔◌, true, false, length, Ok, IfSome, IsErrOf, IsTrue, MatchResult};
 ghost use Rattle.std.specs.Io.KnownBytes.{IsAtEnd};
-ghost use Rattle.cm_system.specs.ReadAll.{ConsumesAtMost};
+ghost use Rattle.cm_system.specs.ReadAll.{ConsumesAtMost, ConsumesBeyond};
 ghost use Rattle.cm_tools.specs.Session.{ChipSessionEnds, EndsForSome, has_read_all, is_chip_write, answer_of};
 ghost use Rattle.cm_tools.specs.Session.{HasNoAnswer};
 
@@ -34,6 +34,8 @@ pub fn chip_session<I: Source, O: Sink>(
         → ConsumesAtMost CHIP_LIMIT (I.left source.old) (I.left source.new) }
     ensures memory_within { IsErrOf result ChipFault.Memory
         → ConsumesAtMost CHIP_LIMIT (I.left source.old) (I.left source.new) }
+    ensures too_much_came { IsErrOf result ChipFault.TooMuch
+        → ConsumesBeyond CHIP_LIMIT (I.left source.old) (I.left source.new) }
     ensures write { O.has_failed sink.new ≡ is_chip_write result }
 {
     let text = match take(alloc, source, CHIP_LIMIT) {

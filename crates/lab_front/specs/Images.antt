@@ -1,8 +1,10 @@
 -- A front end over the machine of an image. Ours.
-use Rattle.std.specs.Prelude.{◌≡◌, ℕ, Option, Result, Ok, Err, List}
+use Rattle.std.specs.Prelude.{◌≡◌, ℕ, Bool, false, Option, Result, Ok, Err, List}
+use Rattle.std.specs.Io.KnownBytes.{IsAtEnd}
 use Rattle.cm_model.specs.Machine.{Machine}
 use Rattle.cm_image_format.specs.Whole.{text_of}
 use Rattle.cm_session.specs.declared.fault.SessionFault.{SessionFault}
+use Rattle.cm_session.specs.Ends.{is_write}
 use Rattle.cm_sizes.specs.declared.opening.OpenFault.{OpenFault}
 use Rattle.cm_sizes.specs.declared.opening.OpenFault.TheVariants as unopened
 use Rattle.cm_sizes.specs.Sizes.{SizedMachine}
@@ -20,6 +22,7 @@ image_refusal unopened.Room = Room
 pub record HasEnded (start : SizedMachine) (before after out_before out_after : Option (List ℕ)) (text : List ℕ) : Type 0 where
   pub machine : Machine
   pub done : Ends start.n start.cap before after start.machine out_before machine out_after (Ok tt)
+  pub end : IsAtEnd after
   pub text_is : text ≡ text_of start.n start.cap machine
 
 -- a front end ended before its lines did
@@ -32,6 +35,15 @@ pub record HasStopped (start : SizedMachine) (before after out_before out_after 
 pub record HasNoImage (start : SizedMachine) (before after out_before out_after : Option (List ℕ)) : Type 0 where
   pub machine : Machine
   pub done : Ends start.n start.cap before after start.machine out_before machine out_after (Ok tt)
+  pub end : IsAtEnd after
+
+-- it ended by a write
+abbrev pub is_front_write : {T : Type 0} → Result T FrontFault → Bool
+is_front_write (Ok text) = false
+is_front_write (Err (Image fault)) = false
+is_front_write (Err Room) = false
+is_front_write (Err (Ended fault)) = is_write (Err fault)
+is_front_write (Err Memory) = false
 
 -- why there is no image of what a front end left: it ended so, or memory was wanting
 abbrev pub HasFailed : SizedMachine → Option (List ℕ) → Option (List ℕ) → Option (List ℕ) → Option (List ℕ)

@@ -1,8 +1,8 @@
 //! A front end over the machine of an image.
 
-ghost use Rattle.std.specs.Prelude.{◌≡◌, false, IfErr, IfOk, IsErrOf};
+ghost use Rattle.std.specs.Prelude.{◌≡◌, ◌↔◌, true, false, IfErr, IfOk, IsErrOf};
 ghost use Rattle.cm_sizes.specs.Sizes.{sized};
-ghost use Rattle.lab_front.specs.Images.{EndsImage, FailsImage, HasEnded, HasFailed};
+ghost use Rattle.lab_front.specs.Images.{EndsImage, FailsImage, HasEnded, HasFailed, is_front_write};
 
 use crate::talk::front;
 use cm_array::{Machine, Plain};
@@ -57,6 +57,8 @@ pub fn front_image<I: Source, O: Sink>(
         (O.contents out.old) (O.contents out.new) text.items) }
     ensures err { IfErr result (FailsImage image.now (I.left commands.old) (I.left commands.new) (O.contents out.old)
         (O.contents out.new)) }
+    ensures read { (I.has_failed commands.new ≡ true) ↔ IsErrOf result (FrontFault.Ended SessionFault.Read) }
+    ensures write { O.has_failed out.new ≡ is_front_write result }
     ensures no_thread { ¬ IsErrOf result (FrontFault.Ended SessionFault.NoThread) }
 {
     match open_image(alloc, image) {
@@ -78,6 +80,8 @@ fn front_any<I: Source, O: Sink>(
         (O.contents out.old) (O.contents out.new) text.items) }
     ensures err { IfErr result (HasFailed (sized machine) (I.left commands.old) (I.left commands.new)
         (O.contents out.old) (O.contents out.new)) }
+    ensures read { (I.has_failed commands.new ≡ true) ↔ IsErrOf result (FrontFault.Ended SessionFault.Read) }
+    ensures write { O.has_failed out.new ≡ is_front_write result }
     ensures no_thread { ¬ IsErrOf result (FrontFault.Ended SessionFault.NoThread) }
 {
     on_machine!(machine, machine => front_sized(alloc, machine, commands, out))
@@ -96,6 +100,8 @@ fn front_sized<const N: usize, const CAP: usize, I: Source, O: Sink>(
         (I.left commands.old) (I.left commands.new) (O.contents out.old) (O.contents out.new) text.items) }
     ensures err { IfErr result (HasFailed (record { n = N; cap = CAP; machine = machine.entry.machine })
         (I.left commands.old) (I.left commands.new) (O.contents out.old) (O.contents out.new)) }
+    ensures read { (I.has_failed commands.new ≡ true) ↔ IsErrOf result (FrontFault.Ended SessionFault.Read) }
+    ensures write { O.has_failed out.new ≡ is_front_write result }
     ensures no_thread { ¬ IsErrOf result (FrontFault.Ended SessionFault.NoThread) }
 {
     front_on(alloc, &mut machine, commands, out)
@@ -114,6 +120,8 @@ fn front_on<const N: usize, const CAP: usize, I: Source, O: Sink>(
         (I.left commands.old) (I.left commands.new) (O.contents out.old) (O.contents out.new) text.items) }
     ensures err { IfErr result (HasFailed (record { n = N; cap = CAP; machine = machine.old.machine })
         (I.left commands.old) (I.left commands.new) (O.contents out.old) (O.contents out.new)) }
+    ensures read { (I.has_failed commands.new ≡ true) ↔ IsErrOf result (FrontFault.Ended SessionFault.Read) }
+    ensures write { O.has_failed out.new ≡ is_front_write result }
     ensures no_thread { ¬ IsErrOf result (FrontFault.Ended SessionFault.NoThread) }
 {
     match front(alloc, machine, commands, out, &mut Plain) {

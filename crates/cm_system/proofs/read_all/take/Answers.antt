@@ -16,6 +16,13 @@ returns-then-count-limit-clause-too_much_came g c = λ _. record {
     c.len.ensures,
     c.in-Ok.ensures.bound,
   );
+  few = omega (
+    arith,
+    length-append c.loop-count.taken.items (take c.in-Ok.count c.read.new.buf),
+    length-take-le c.in-Ok.count c.read.new.buf,
+    c.loop-count.invariant.within,
+    c.in-Ok.ensures.bound,
+  );
   consumed = Consumes-trans _ _ _ _ _ c.loop-count.invariant.consumed c.in-Ok.ensures.bytes.0;
 }
 

@@ -14,6 +14,7 @@ returns-in-Ok g c = record {
       read = c.in-Ok.ensures.read;
       read_within = c.in-Ok.ensures.read_within;
       memory_within = c.in-Ok.ensures.memory_within;
+      too_much_came = c.in-Ok.ensures.too_much_came;
       write = c.in-Ok.ensures.write;
       then = c.flush_out.ensures.so;
     };
@@ -33,6 +34,7 @@ returns-in-Err g c = record {
       read = c.in-Err.ensures.read;
       read_within = c.in-Err.ensures.read_within;
       memory_within = c.in-Err.ensures.memory_within;
+      too_much_came = c.in-Err.ensures.too_much_came;
       write = c.in-Err.ensures.write;
       then = (refl, ap (λ fault. Err fault) c.from.ensures);
     };

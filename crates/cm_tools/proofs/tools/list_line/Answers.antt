@@ -20,6 +20,7 @@ returns-in-Ok-list g c = record {
         read = c.in-Ok-list.ensures.read;
         read_within = c.in-Ok-list.ensures.read_within;
         memory_within = c.in-Ok-list.ensures.memory_within;
+        too_much_came = c.in-Ok-list.ensures.too_much_came;
         write = c.in-Ok-list.ensures.write;
         then = c.flush_out.ensures.so;
       };
@@ -45,6 +46,7 @@ returns-in-Ok g c = record {
         read = c.in-Err-list.ensures.read;
         read_within = c.in-Err-list.ensures.read_within;
         memory_within = c.in-Err-list.ensures.memory_within;
+        too_much_came = c.in-Err-list.ensures.too_much_came;
         write = c.in-Err-list.ensures.write;
         then = (refl, refl);
       };
