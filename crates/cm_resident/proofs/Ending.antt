@@ -23,10 +23,11 @@ use Rattle.cm_subcube.specs.Rounds.{round_of}
 use Rattle.cm_subcube.proofs.Joining.{joined-blocks, AreWhole-blocks}
 use Rattle.cm_workers.specs.Dealing.{hand, AreDealt, AreShares}
 use Rattle.cm_workers.specs.Runs.{AreAfter}
-use Rattle.cm_resident.specs.declared.worker.Worker.{Worker}
+use Rattle.cm_turns.specs.declared.worker.Worker.{Worker}
 use Rattle.cm_resident.specs.declared.running.PendingWorker.{PendingWorker}
-use Rattle.cm_resident.specs.Lanes.{Run, before, rounds_in}
-use Rattle.cm_resident.specs.Teams.{IsOfTeam, IsOfSome, IsTeam, HasWorked, HaveWorked}
+use Rattle.cm_turns.specs.Lanes.{Run, before, rounds_in}
+use Rattle.cm_turns.specs.Workers.{IsOfTeam, IsOfSome, HasWorked}
+use Rattle.cm_resident.specs.Teams.{IsTeam, HaveWorked}
 use Rattle.cm_resident.specs.Laws.{LeaveTheirMachine, TeamsLeaveTheirMachine}
 use Rattle.cm_resident.specs.TeamSetups.{AreLinedUp}
 

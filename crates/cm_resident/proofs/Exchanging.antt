@@ -14,9 +14,9 @@ use Rattle.cm_subcube.specs.declared.round.Round.{Round}
 use Rattle.cm_subcube.specs.Rounds.{kind_over, kind_of, round_of}
 use Rattle.cm_subcube.proofs.Following.{round_is_followed}
 use Rattle.cm_exchange.specs.Lanes as exchange
-use Rattle.cm_resident.specs.Lanes.{Run, before, rounds_in, place_of_kind, picks, is_over, parcel_sent, dues, givers}
+use Rattle.cm_turns.specs.Lanes.{Run, before, rounds_in, place_of_kind, picks, is_over, parcel_sent, dues, givers}
 use Rattle.cm_resident.specs.Laws.{LanesAreOfTheExchange}
-use Rattle.cm_resident.proofs.Going.{found}
+use Rattle.cm_turns.proofs.Going.{found}
 
 -- ---- what is picked is what passes a test of its number
 

@@ -19,8 +19,8 @@ use Rattle.cm_subcube.proofs.Joining.{clock-block}
 use Rattle.cm_board.specs.Courses.{Course}
 use Rattle.cm_workers.specs.Dealing.{hand, AreDealt}
 use Rattle.cm_resident.specs.declared.worker_parts.WorkerParts.{WorkerParts}
-use Rattle.cm_resident.specs.Lanes.{Run, ends_each, course, own, givers}
-use Rattle.cm_resident.specs.Standing.{block_number, IsRunBlock, AreEndsBefore, IsUnused}
+use Rattle.cm_turns.specs.Lanes.{Run, ends_each, course, own, givers}
+use Rattle.cm_turns.specs.Standing.{block_number, IsRunBlock, AreEndsBefore, IsUnused}
 use Rattle.cm_resident.specs.Gathering.{AreAll, AreFrom}
 use Rattle.cm_resident.specs.Teams.{HasEnds, IsWorkerParts, HasWorkerParts}
 use Rattle.cm_turns.proofs.Places.{place_below}

@@ -1,13 +1,8 @@
-mod Picking
-mod Ends
-mod Going
-mod Working
 mod Numbered
 mod Opening
 mod Fitting
 mod Starts
 mod Rows
-mod Powers
 mod Ending
 mod Fronts
 mod LogsAside

@@ -17,7 +17,7 @@ use Rattle.cm_board.specs.Courses.{Course}
 use Rattle.cm_workers.specs.Dealing.{hand}
 use Rattle.cm_workers.specs.Posts.{giver_of_kind, AreHandedOver}
 use Rattle.cm_subcube.specs.Parcels.{CanBeOver}
-use Rattle.cm_resident.specs.Lanes.{Run, kind_of_index, ends_each, course, own, givers}
+use Rattle.cm_turns.specs.Lanes.{Run, kind_of_index, ends_each, course, own, givers}
 use Rattle.cm_resident.specs.Gathering.{AreAll, AreFrom, AreFirsts}
 use Rattle.cm_resident.specs.Teams.{IsEnd, AreByPlace, HasEnds}
 use Rattle.cm_resident.proofs.Numbered.{from_first, rest_are}

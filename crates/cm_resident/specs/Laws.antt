@@ -6,9 +6,9 @@ use Rattle.cm_model.specs.Keeping.{IsMachine}
 use Rattle.cm_array.specs.Cuts.{joined, AreWhole}
 use Rattle.cm_subcube.specs.Blocks.{BlockView}
 use Rattle.cm_workers.specs.Dealing.{AreDealt, AreShares}
-use Rattle.cm_resident.specs.declared.worker.Worker.{Worker}
+use Rattle.cm_turns.specs.declared.worker.Worker.{Worker}
 use Rattle.cm_exchange.specs.Lanes as exchange
-use Rattle.cm_resident.specs.Lanes.{Run, dues, givers}
+use Rattle.cm_turns.specs.Lanes.{Run, dues, givers}
 use Rattle.cm_resident.specs.Teams.{IsTeam, HaveWorked}
 
 -- blocks in their order are a whole machine, that after a run

@@ -1,5 +1,3 @@
-pub mod Lanes
-pub mod Standing
 pub mod Teams
 pub mod Starting
 pub mod Gathering

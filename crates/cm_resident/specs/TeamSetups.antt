@@ -2,9 +2,9 @@
 use Rattle.std.specs.Prelude.{◌≡◌, ℕ, ◌<◌, List, length, get_or}
 use Rattle.cm_model.specs.declared.act.Act.{Act}
 use Rattle.cm_model.specs.Machine.{Machine}
-use Rattle.cm_resident.specs.declared.worker.Worker.{Worker}
+use Rattle.cm_turns.specs.declared.worker.Worker.{Worker}
 use Rattle.cm_resident.specs.declared.running.PendingWorker.{PendingWorker}
-use Rattle.cm_resident.specs.Lanes.{Run}
+use Rattle.cm_turns.specs.Lanes.{Run}
 use Rattle.cm_resident.specs.Teams.{IsTeam}
 
 -- those that wait for their start words are a team of so many for a run, in order of their numbers

@@ -1,12 +1,12 @@
 //! Workers of whom nobody has hold before they are let begin.
 
 ghost use Rattle.std.specs.Prelude.{◌≡◌};
-ghost use Rattle.cm_resident.specs.Teams.{HasWorked, IsOfSome};
+ghost use Rattle.cm_turns.specs.Workers.{HasWorked, IsOfSome};
 
 use crate::admission::Admission;
 use crate::start::Released;
-use crate::worker::Worker;
 use cm_subcube::Block;
+use cm_turns::Worker;
 use cm_workers::Passage;
 use std::marker::Model;
 use std::sync::Wait;
@@ -19,7 +19,7 @@ pub(crate) struct Held {
 }
 
 impl Model for Held {
-    ghost use Rattle.cm_resident.specs.declared.worker.Worker.{Worker};
+    ghost use Rattle.cm_turns.specs.declared.worker.Worker.{Worker};
 
     ghost Value = { Worker };
 

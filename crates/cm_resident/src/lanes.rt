@@ -2,7 +2,7 @@
 
 ghost use Rattle.std.specs.Prelude.{◌≡◌, ℕ, ◌+◌, ◌-◌, ◌/◌, ◌<◌, ◌≤◌, ◌^◌, IfOk, length};
 ghost use Rattle.cm_subcube.specs.Rounds.{rounds_of};
-ghost use Rattle.cm_resident.specs.Lanes.{Run, kind_of_index, ends_each, course, dues, own, givers};
+ghost use Rattle.cm_turns.specs.Lanes.{Run, kind_of_index, ends_each, course, dues, own, givers};
 ghost use Rattle.cm_resident.specs.Teams.{AreAtPlace, AreByPlace};
 
 use cm_array::Machine;
@@ -10,6 +10,7 @@ use cm_bits::NoMemory;
 use cm_board::{FromEnd, Lane, Plan, ToEnd};
 use cm_model::Act;
 use cm_subcube::{Kind, Parcel};
+use cm_turns::ends_each;
 use cm_workers::hand_over;
 use std::alloc::Global;
 
@@ -56,14 +57,6 @@ impl<'a, const N: usize, const CAP: usize> Sent<'a, N, CAP> {
         let blank = Parcel::blank(alloc, self.machine.dims(), self.k, kind)?;
         Lane::open(alloc, blank, self)
     }
-}
-
-/// How many ends of each sort a block has: one block alone exchanges nothing.
-pub(crate) fn ends_each(k: u8) -> usize
-    ensures value { result ≡ ends_each k }
-    ensures within { result ≤ k + 2 }
-{
-    if k == 0 { 0 } else { usize::from(k) + 2 }
 }
 
 /// The kind of rounds that go over the lanes of a place.

@@ -14,12 +14,11 @@ mod short_lists;
 mod start;
 mod teams;
 mod together;
-mod worker;
 mod worker_parts;
 
 pub use chooser::Chooser;
+pub use cm_turns::Worker;
 pub use gathering::in_order;
 pub use laws::{lanes_are_of_the_exchange, teams_leave_their_machine};
 pub use resident::Resident;
 pub use teams::team;
-pub use worker::Worker;

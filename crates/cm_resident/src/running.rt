@@ -5,15 +5,15 @@ ghost use Rattle.std.specs.Prelude.{[], get_or, length, vec_capacity};
 ghost use Rattle.std.specs.List.{All};
 ghost use Rattle.std.specs.Thread.{IsSync};
 ghost use Rattle.cm_resident.specs.Starting.{begin, cancel, start_word_for};
-ghost use Rattle.cm_resident.specs.Teams.{HasWorked, IsOfSome};
+ghost use Rattle.cm_turns.specs.Workers.{HasWorked, IsOfSome};
 ghost use Rattle.cm_resident.specs.Gathering.{AreEmpty, HaveRoom};
 
 use crate::admission::Admission;
 use crate::held::Held;
 use crate::start::{Starter, Waiter, start_word};
-use crate::worker::Worker;
 use cm_bits::NoMemory;
 use cm_subcube::Block;
+use cm_turns::Worker;
 use cm_workers::{NoThread, Passage};
 use std::alloc::Global;
 use std::snapshot::Snapshot;
@@ -29,7 +29,7 @@ pub(crate) struct WillWork {
 
 impl Promise<Option<Vec<Block>>> for WillWork {
     ghost use Rattle.std.specs.Prelude.{IfSome};
-    ghost use Rattle.cm_resident.specs.Teams.{HasWorked};
+    ghost use Rattle.cm_turns.specs.Workers.{HasWorked};
 
     ghost kept_by = { λ p r. IfSome r (λ blocks. HasWorked p.was.value blocks.items) };
 }

@@ -2,17 +2,18 @@
 
 ghost use Rattle.std.specs.Prelude.{◌≡◌, ℕ, ◌-◌, ◌/◌, ◌<◌, ◌≤◌, ◌^◌, IfOk, IsFalse, length, get_or};
 ghost use Rattle.cm_array.specs.Acts.{is_late, is_long};
-ghost use Rattle.cm_resident.specs.Lanes.{Run, rounds_in};
+ghost use Rattle.cm_turns.specs.Lanes.{Run, rounds_in};
 ghost use Rattle.cm_resident.specs.SharedLists.{IsListFor};
-ghost use Rattle.cm_resident.specs.Teams.{HasWorkerParts, IsOfTeam};
+ghost use Rattle.cm_turns.specs.Workers.{IsOfTeam};
+ghost use Rattle.cm_resident.specs.Teams.{HasWorkerParts};
 
 use crate::shared_list::SharedList;
-use crate::worker::Worker;
 use crate::worker_parts::{WorkerParts, worker_parts};
 use cm_array::{Machine, Part, check_stretch};
 use cm_bits::NoMemory;
 use cm_model::Act;
 use cm_subcube::{Round, rounds};
+use cm_turns::Worker;
 use cm_workers::deal;
 use std::alloc::Global;
 

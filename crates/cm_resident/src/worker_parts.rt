@@ -4,8 +4,8 @@ ghost use Rattle.std.specs.Prelude.{◌≡◌, ℕ, ◌+◌, ◌-◌, ◌/◌, �
 ghost use Rattle.cm_model.specs.declared.act.Act.{Act};
 ghost use Rattle.cm_array.specs.Acts.{cycles_in};
 ghost use Rattle.cm_subcube.specs.Rounds.{rounds_of};
-ghost use Rattle.cm_resident.specs.Lanes.{Run};
-ghost use Rattle.cm_resident.specs.Standing.{IsRunBlock};
+ghost use Rattle.cm_turns.specs.Lanes.{Run};
+ghost use Rattle.cm_turns.specs.Standing.{IsRunBlock};
 ghost use Rattle.cm_resident.specs.Gathering.{AreAll, AreFrom};
 ghost use Rattle.cm_resident.specs.Teams.{IsWorkerParts};
 

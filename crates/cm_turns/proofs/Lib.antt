@@ -1,2 +1,7 @@
 pub mod Places
-pub mod Absorbing
+pub mod Picking
+mod Ends
+pub mod Going
+mod Absorbing
+mod Working
+mod Powers

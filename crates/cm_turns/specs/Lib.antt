@@ -1,1 +1,4 @@
+pub mod Lanes
+pub mod Standing
 pub mod Turns
+pub mod Workers

@@ -1,6 +1,7 @@
-//! What the blocks of a worker do in a round: all send over their lanes, and then all get and go on.
+//! A worker of a team: what it does in a round with its blocks and the ends of their lanes, and in a whole run.
 #![tactic(auto)]
 
 mod turn;
+mod worker;
 
-pub use turn::{EndPlace, begin_all, get_all, send_all};
+pub use worker::{Worker, ends_each};

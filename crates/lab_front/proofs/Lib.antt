@@ -6,6 +6,7 @@ pub mod Giving
 pub mod ReadingBack
 pub mod Told
 pub mod Ending
+pub mod Lacking
 pub mod Running
 pub mod Alike
 pub mod Opening

@@ -4,6 +4,7 @@ use Rattle.std.specs.List.{All}
 use Rattle.std.specs.Io.KnownBytes.{Appends, Consumes}
 use Rattle.cm_bits.specs.Text.{lines_of}
 use Rattle.cm_model.specs.Machine.{Machine}
+use Rattle.cm_array.specs.Faults.{one_more_lacked}
 use Rattle.cm_session.specs.declared.fault.SessionFault.{SessionFault}
 use Rattle.cm_session.specs.declared.fault.SessionFault.TheVariants.{Read, Write, TooMuch, Memory, NoThread}
 use Rattle.cm_session.specs.Ends.{ended_lines, open_line}
@@ -69,3 +70,13 @@ pub record Ends (n cap : ℕ) (before after : Option (List ℕ)) (start : Machin
   pub taken : List ℕ
   pub consumed : Consumes before after taken
   pub over : EndsOver n cap taken start out_before machine out_after result
+
+-- how often its runner lacked a thread, before and after: once more where that is the fault; after a failed write, which
+-- may come in place of that fault, once more or as before; else as before
+abbrev pub CountsFrontLacks : ℕ → ℕ → Result (Unit {0}) SessionFault → Type 0
+CountsFrontLacks before after (Ok done) = after ≡ before
+CountsFrontLacks before after (Err Read) = after ≡ before
+CountsFrontLacks before after (Err (Write count)) = (after ≡ before) ⊎ (after ≡ one_more_lacked before)
+CountsFrontLacks before after (Err TooMuch) = after ≡ before
+CountsFrontLacks before after (Err Memory) = after ≡ before
+CountsFrontLacks before after (Err NoThread) = after ≡ one_more_lacked before

@@ -1,13 +1,11 @@
 -- What a line asks of all processors at once, by its words. Ours.
-use Rattle.std.specs.Prelude.{◌≡◌, ℕ, ◌+◌, ◌^◌, ◌==◌, ◌||◌, Bool, false, nat_lt, if◌then◌else◌, Option, Some, None, Result, Ok, Err}
+use Rattle.std.specs.Prelude.{◌≡◌, ℕ, ◌+◌, ◌^◌, ◌==◌, ◌||◌, Bool, false, nat_lt, if◌then◌else◌, Result, Ok, Err}
 use Rattle.std.specs.Prelude.{List, [], ◌∷◌, ◌++◌, length, codes, bytes_eq}
 use Rattle.std.specs.List.{list_all}
 use Rattle.cm_bits.specs.Span.{Span}
 use Rattle.cm_bits.specs.Field.{field_fault}
-use Rattle.cm_bits.specs.declared.field.FieldFault.{FieldFault}
-use Rattle.cm_bits.specs.declared.field.FieldFault.TheVariants as field
 use Rattle.cm_language.specs.declared.fault.AsmKind.{AsmKind}
-use Rattle.cm_language.specs.declared.fault.AsmKind.TheVariants.{Width, Range, Lengths, Word, Operands}
+use Rattle.cm_language.specs.declared.fault.AsmKind.TheVariants.{Range, Lengths, Word, Operands}
 use Rattle.cm_language.specs.Lines.{◌>>=◌, number_operand, field_unless}
 use Rattle.lab_data.specs.Data.{processors}
 use Rattle.lab_front.specs.declared.for_all.Asked.{Asked}

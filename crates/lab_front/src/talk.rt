@@ -3,12 +3,11 @@
 ghost use Rattle.std.specs.Prelude.{◌≡◌, ◌+◌, ◌<◌, ◌≤◌, ◌^◌, ◌↔◌, ◌⊎◌, false, length, true, Err, IfErr, IsErrOf};
 ghost use Rattle.std.specs.Prelude.{IsFalse, IsTrue, OnOk};
 ghost use Rattle.std.specs.Io.KnownBytes.{Appends, IsAtEnd};
-ghost use Rattle.cm_array.specs.Faults.{one_more_lacked};
 ghost use Rattle.cm_session.specs.Ends.{is_session_no_thread, is_write};
 ghost use Rattle.cm_debug.specs.BufferedOutput.{answered_bytes, with_gathered, AbortsBetween};
 ghost use Rattle.cm_debug.specs.Telling.{is_thread};
 ghost use Rattle.lab_front.specs.Front.{front_of, front_after_line};
-ghost use Rattle.lab_front.specs.Ends.{LINE_LIMIT, ALL, Ends};
+ghost use Rattle.lab_front.specs.Ends.{LINE_LIMIT, ALL, Ends, CountsFrontLacks};
 ghost use Rattle.lab_front.specs.Hearing.{LineAborts};
 
 use crate::front_end::FrontEnd;
@@ -43,10 +42,7 @@ pub fn front<const N: usize, const CAP: usize, R: Runner<N, CAP>, I: Source, O: 
     ensures end { OnOk result (IsAtEnd (I.left commands.new)) }
     ensures read { (I.has_failed commands.new ≡ true) ↔ IsErrOf result SessionFault.Read }
     ensures write { O.has_failed out.new ≡ is_write result }
-    ensures thread { OnOk result (R.threads_lacked runner.new ≡ R.threads_lacked runner.old) }
-    ensures no_thread { IsErrOf result SessionFault.NoThread
-        → R.threads_lacked runner.new ≡ one_more_lacked (R.threads_lacked runner.old) }
-    ensures memory { IsErrOf result SessionFault.Memory → R.threads_lacked runner.new ≡ R.threads_lacked runner.old }
+    ensures threads { CountsFrontLacks (R.threads_lacked runner.old) (R.threads_lacked runner.new) result }
 {
     let mut front = FrontEnd::new(alloc);
     let mut answers = BufferedOutput::new(alloc);
@@ -147,10 +143,7 @@ fn tell_line<const N: usize, const CAP: usize, R: Runner<N, CAP>, O: Sink>(
     ensures err { IfErr result (LineAborts N CAP (front_of machine.old.machine front.old) line.now answers.old.sent
         answers.old.bytes.items (O.contents out.old) machine.new.machine (O.contents out.new)) }
     ensures failed { O.has_failed out.new ≡ is_write result }
-    ensures thread { OnOk result (R.threads_lacked runner.new ≡ R.threads_lacked runner.old) }
-    ensures no_thread { IsErrOf result SessionFault.NoThread
-        → R.threads_lacked runner.new ≡ one_more_lacked (R.threads_lacked runner.old) }
-    ensures memory { IsErrOf result SessionFault.Memory → R.threads_lacked runner.new ≡ R.threads_lacked runner.old }
+    ensures threads { CountsFrontLacks (R.threads_lacked runner.old) (R.threads_lacked runner.new) result }
 {
     match front.tell(alloc, machine, runner, line, &mut answers.line) {
         Ok(()) => match answers.add_line(out) {

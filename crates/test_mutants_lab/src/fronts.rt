@@ -2,11 +2,11 @@
 
 ghost use Rattle.std.specs.Prelude.{◌≡◌, ◌↔◌, false, true, IsErrOf, OnErr, OnOk};
 ghost use Rattle.std.specs.Io.KnownBytes.{IsAtEnd};
-ghost use Rattle.cm_array.specs.Faults.{CountsLacks, one_more_lacked};
+ghost use Rattle.cm_array.specs.Faults.{CountsLacks};
 ghost use Rattle.cm_session.specs.Ends.{is_write};
 ghost use Rattle.cm_debug.specs.Telling.{is_thread};
 ghost use Rattle.lab_front.specs.Front.{front_of, front_after_line};
-ghost use Rattle.lab_front.specs.Ends.{Ends};
+ghost use Rattle.lab_front.specs.Ends.{CountsFrontLacks, Ends};
 
 use cm_array::{Machine, Runner};
 use cm_bits::{Sink, Source};
@@ -30,10 +30,7 @@ pub fn front<const N: usize, const CAP: usize, R: Runner<N, CAP>, I: Source, O: 
     ensures end { OnOk result (IsAtEnd (I.left commands.new)) }
     ensures read { (I.has_failed commands.new ≡ true) ↔ IsErrOf result SessionFault.Read }
     ensures write { O.has_failed out.new ≡ is_write result }
-    ensures thread { OnOk result (R.threads_lacked runner.new ≡ R.threads_lacked runner.old) }
-    ensures no_thread { IsErrOf result SessionFault.NoThread
-        → R.threads_lacked runner.new ≡ one_more_lacked (R.threads_lacked runner.old) }
-    ensures memory { IsErrOf result SessionFault.Memory → R.threads_lacked runner.new ≡ R.threads_lacked runner.old }
+    ensures threads { CountsFrontLacks (R.threads_lacked runner.old) (R.threads_lacked runner.new) result }
 {
     lab_front::front(alloc, machine, commands, out, runner)
 }

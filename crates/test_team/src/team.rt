@@ -3,7 +3,7 @@
 ghost use Rattle.std.specs.Prelude.{◌≡◌, ◌-◌, ◌/◌, ◌^◌, ◌<◌, ◌≤◌, IsFalse, OnErr, OnOk};
 ghost use Rattle.cm_model.specs.Machine.{run_of};
 ghost use Rattle.cm_array.specs.Acts.{is_late, is_long};
-ghost use Rattle.cm_resident.specs.Teams.{HasWorked, IsOfSome};
+ghost use Rattle.cm_turns.specs.Workers.{HasWorked, IsOfSome};
 
 use cm_array::Machine;
 use cm_bits::NoMemory;

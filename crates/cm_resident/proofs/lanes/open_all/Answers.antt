@@ -1,5 +1,5 @@
 use Rattle.std.proofs.Common.{rules}
-use Rattle.cm_resident.specs.Lanes.{Run, own, givers}
+use Rattle.cm_turns.specs.Lanes.{Run, own, givers}
 use Rattle.cm_resident.specs.Teams.{AreAtPlace}
 use Rattle.cm_resident.proofs.Numbered.{one_more}
 use Rattle.cm_resident.proofs.lanes.open_all.Goals as goal

@@ -1,5 +1,5 @@
 use Rattle.std.proofs.Common.{◌≤◌, vec_capacity}
-use Rattle.cm_resident.specs.Lanes.{Run, own}
+use Rattle.cm_turns.specs.Lanes.{Run, own}
 use Rattle.cm_resident.specs.Gathering.{AreAll}
 use Rattle.cm_resident.specs.Teams.{IsEnd}
 use Rattle.cm_resident.proofs.lanes.open_place.Given as goal

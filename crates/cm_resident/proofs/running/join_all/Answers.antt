@@ -1,6 +1,6 @@
 use Rattle.std.proofs.Common.{rules, subst}
 use Rattle.std.specs.Prelude.{IfSome}
-use Rattle.cm_resident.specs.Teams.{HasWorked}
+use Rattle.cm_turns.specs.Workers.{HasWorked}
 use Rattle.cm_resident.proofs.Fronts.{first_taken, rest_left, one_beside}
 use Rattle.cm_resident.proofs.running.join_all.Goals as goal
 

@@ -1,6 +1,6 @@
 use Rattle.std.proofs.Common.{◌≡◌, ◌<◌, ◌≤◌, ℕ, drop, length, get_or, vec_capacity}
 use Rattle.std.specs.Prelude.{IfSome}
-use Rattle.cm_resident.specs.Teams.{HasWorked}
+use Rattle.cm_turns.specs.Workers.{HasWorked}
 use Rattle.cm_resident.proofs.running.join_all.Given as goal
 
 abbrev pub invariant-loop-w : goal.invariant-loop-w

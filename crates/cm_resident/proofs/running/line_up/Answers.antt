@@ -1,7 +1,7 @@
 use Rattle.std.proofs.Common.{rules, ◌≡◌, subst, sym, ◌∙◌}
 use Rattle.std.proofs.lemmas.List.Elements.{All-push}
 use Rattle.std.specs.List.{All}
-use Rattle.cm_resident.specs.declared.worker.Worker.{Worker}
+use Rattle.cm_turns.specs.declared.worker.Worker.{Worker}
 use Rattle.cm_resident.specs.declared.running.PendingWorker.{PendingWorker}
 use Rattle.cm_resident.proofs.Fronts.{first_taken, rest_left, one_beside}
 use Rattle.cm_resident.proofs.running.line_up.Goals as goal

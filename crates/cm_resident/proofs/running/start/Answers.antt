@@ -1,7 +1,7 @@
 use Rattle.std.proofs.Common.{subst, sym}
 use Rattle.std.specs.Prelude.{IfSome}
-use Rattle.cm_resident.specs.declared.worker.Worker.{Worker}
-use Rattle.cm_resident.specs.Teams.{HasWorked}
+use Rattle.cm_turns.specs.declared.worker.Worker.{Worker}
+use Rattle.cm_turns.specs.Workers.{HasWorked}
 use Rattle.cm_resident.proofs.running.start.Goals as goal
 
 pub spawn_with-started-requires-clause-keeps : goal.spawn_with-started-requires-clause-keeps

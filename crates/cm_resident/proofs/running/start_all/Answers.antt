@@ -1,6 +1,6 @@
 use Rattle.std.proofs.Common.{rules, ◌≡◌, ap, subst, sym, ◌∙◌}
 use Rattle.cm_resident.specs.declared.running.PendingWorker.{PendingWorker}
-use Rattle.cm_resident.specs.Teams.{IsOfSome}
+use Rattle.cm_turns.specs.Workers.{IsOfSome}
 use Rattle.cm_resident.proofs.Fronts.{first_taken, rest_left, one_beside, one_further}
 use Rattle.cm_resident.proofs.running.start_all.Goals as goal
 

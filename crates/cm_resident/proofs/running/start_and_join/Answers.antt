@@ -1,7 +1,7 @@
 use Rattle.std.proofs.Common.{rules, ◌≡◌, ◌<◌, None, length, get_or, subst, arith}
 use Rattle.std.specs.Prelude.{IfSome}
-use Rattle.cm_resident.specs.declared.worker.Worker.{Worker}
-use Rattle.cm_resident.specs.Teams.{HasWorked}
+use Rattle.cm_turns.specs.declared.worker.Worker.{Worker}
+use Rattle.cm_turns.specs.Workers.{HasWorked}
 use Rattle.cm_resident.proofs.Ending.{first_of}
 use Rattle.cm_resident.proofs.running.start_and_join.Goals as goal
 

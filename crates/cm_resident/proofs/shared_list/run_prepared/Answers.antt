@@ -1,10 +1,10 @@
 use Rattle.std.proofs.Common.{rules, ◌≡◌, ◌<◌, ◌*◌, ◌%◌, ◌^◌, ◌∙◌, ℕ, length, get_or, subst, sym, arith, lit<}
 use Rattle.std.proofs.lemmas.Nat.{one_shl}
 use Rattle.cm_workers.specs.Dealing.{AreShares}
-use Rattle.cm_resident.specs.Lanes.{Run}
+use Rattle.cm_turns.specs.Lanes.{Run}
 use Rattle.cm_resident.specs.Laws.{LeaveTheirMachine}
 use Rattle.cm_resident.specs.declared.running.PendingWorker.{PendingWorker}
-use Rattle.cm_resident.specs.Teams.{IsOfSome}
+use Rattle.cm_turns.specs.Workers.{IsOfSome}
 use Rattle.cm_resident.proofs.Ending.{lined_up_leave, lined_up_of_some}
 use Rattle.cm_resident.proofs.shared_list.run_prepared.Goals as goal
 

@@ -1,9 +1,10 @@
 use Rattle.std.proofs.Common.{rules, ◌≡◌, ℕ, ◌<◌, ◌∙◌, refl, subst, sym, arith, lit<}
 use Rattle.cm_workers.specs.Dealing.{AreDealt}
-use Rattle.cm_resident.specs.declared.worker.Worker.{Worker}
-use Rattle.cm_resident.specs.Lanes.{Run}
+use Rattle.cm_turns.specs.declared.worker.Worker.{Worker}
+use Rattle.cm_turns.specs.Lanes.{Run}
 use Rattle.cm_resident.specs.Gathering.{AreAll}
-use Rattle.cm_resident.specs.Teams.{HasWorkerParts, IsOfTeam}
+use Rattle.cm_turns.specs.Workers.{IsOfTeam}
+use Rattle.cm_resident.specs.Teams.{HasWorkerParts}
 use Rattle.cm_resident.proofs.Fitting.{are_hands}
 use Rattle.cm_resident.proofs.Numbered.{none_yet, one_more, first_is, rest_are}
 use Rattle.cm_resident.proofs.Opening.{few_rounds, in_time}

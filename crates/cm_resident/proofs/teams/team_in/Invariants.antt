@@ -1,7 +1,8 @@
 use Rattle.std.proofs.Common.{◌≡◌, ◌≤◌, vec_capacity}
-use Rattle.cm_resident.specs.Lanes.{Run}
+use Rattle.cm_turns.specs.Lanes.{Run}
 use Rattle.cm_resident.specs.Gathering.{AreAll, AreFrom}
-use Rattle.cm_resident.specs.Teams.{HasWorkerParts, IsOfTeam}
+use Rattle.cm_turns.specs.Workers.{IsOfTeam}
+use Rattle.cm_resident.specs.Teams.{HasWorkerParts}
 use Rattle.cm_resident.proofs.teams.team_in.Given as goal
 
 abbrev pub invariant-loop-w : goal.invariant-loop-w

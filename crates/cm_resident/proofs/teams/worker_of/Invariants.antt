@@ -1,5 +1,5 @@
 use Rattle.std.proofs.Common.{◌≡◌, ◌≤◌, ℕ, drop, length, vec_capacity}
-use Rattle.cm_resident.specs.Lanes.{Run}
+use Rattle.cm_turns.specs.Lanes.{Run}
 use Rattle.cm_resident.specs.Teams.{HasWorkerParts}
 use Rattle.cm_resident.proofs.Fitting.{HasFirst}
 use Rattle.cm_resident.proofs.teams.worker_of.Given as goal

@@ -1,7 +1,7 @@
 use Rattle.std.proofs.Common.{rules, ◌≡◌, ◌<◌, ◌^◌, List, length, refl, subst, sym, arith}
 use Rattle.cm_resident.specs.declared.worker_parts.WorkerParts.{WorkerParts}
-use Rattle.cm_resident.specs.Lanes.{Run, ends_each, own, givers}
-use Rattle.cm_resident.specs.Standing.{IsRunBlock}
+use Rattle.cm_turns.specs.Lanes.{Run, ends_each, own, givers}
+use Rattle.cm_turns.specs.Standing.{IsRunBlock}
 use Rattle.cm_resident.specs.Gathering.{AreAll}
 use Rattle.cm_resident.specs.Teams.{IsWorkerParts}
 use Rattle.cm_resident.proofs.Numbered.{none_yet, one_more, first_is, rest_are}

@@ -1,6 +1,6 @@
 use Rattle.std.proofs.Common.{◌≤◌, ◌^◌, vec_capacity}
-use Rattle.cm_resident.specs.Lanes.{Run, ends_each, own, givers}
-use Rattle.cm_resident.specs.Standing.{IsRunBlock}
+use Rattle.cm_turns.specs.Lanes.{Run, ends_each, own, givers}
+use Rattle.cm_turns.specs.Standing.{IsRunBlock}
 use Rattle.cm_resident.specs.Gathering.{AreAll, AreFrom}
 use Rattle.cm_resident.specs.Teams.{AreByPlace, IsWorkerParts}
 use Rattle.cm_resident.proofs.worker_parts.worker_parts.Given as goal

@@ -1,5 +1,5 @@
 use Rattle.std.proofs.Common.{◌≡◌, ℕ, ◌+◌, ◌-◌, ◌<◌, ◌≤◌, List, [], ◌∷◌, ◌++◌, length, take, drop, refl, ap, ◌∙◌, sym}
-use Rattle.std.proofs.Common.{subst, arith, length-append, length-drop}
+use Rattle.std.proofs.Common.{subst, arith, length-append, length-drop, Err, inl}
 use Rattle.std.proofs.KnownBytes.{Consumes-nil}
 use Rattle.std.specs.Io.KnownBytes.{Consumes}
 use Rattle.cm_session.specs.declared.fault.SessionFault.TheVariants.{Read}
@@ -7,8 +7,9 @@ use Rattle.cm_bits.specs.Text.{IsUnended}
 use Rattle.cm_debug.proofs.Ending.{is_none, has_some}
 use Rattle.lab_front.specs.Front.{Front, front_of}
 use Rattle.std.proofs.lemmas.List.Elements.{All-nil}
-use Rattle.lab_front.specs.Ends.{LINE_LIMIT}
+use Rattle.lab_front.specs.Ends.{LINE_LIMIT, CountsFrontLacks}
 use Rattle.lab_front.specs.Hearing.{LineAborts}
+use Rattle.lab_front.proofs.Lacking.{lacks_unheard}
 use Rattle.lab_front.proofs.Lines.{no_lines, line_more}
 use Rattle.lab_front.proofs.Told.{IsTold, nothing_told, told_line, told_sent}
 use Rattle.lab_front.proofs.Ending.{a_line_on, unended_rest, line_ends, send_ends, hearing_ends, heard_more, heard_len}
@@ -98,7 +99,7 @@ loop-front-preserved-then-len-rest g c =
       sent = omega (arith, ended.few, so.sent, grown);
       reading = so.reading;
       writing = ended.failed;
-      threads = ended.thread ∙ so.threads;
+      threads = ended.threads ∙ so.threads;
     }
 
 pub returns-in-Err-send-clause-ends : goal.returns-in-Err-send-clause-ends
@@ -365,3 +366,24 @@ returns-clause-ends g c =
     (g.O.Sink.contents c.send.new.out) c.loop-front.answers.sent c.send.new.self.sent c.loop-front.answers.bytes.items
     c.send.new.self.bytes.items c.in-Ok-send.ensures.written c.in-Ok-send.ensures.none c.in-Ok-send.ensures.sent so.told)
     ended.front ended.written ended.count)) c.in-Err-send-2.ensures.err
+
+pub returns-in-Err-clause-threads : goal.returns-in-Err-clause-threads
+returns-in-Err-clause-threads g c =
+    subst (λ (k : ℕ). CountsFrontLacks k (g.R.Runner.threads_lacked c.tell_line.new.runner) (Err c.in-Err.fault))
+    c.loop-front.invariant.threads c.in-Err.ensures.threads
+
+pub returns-in-Err-send-clause-threads : goal.returns-in-Err-send-clause-threads
+returns-in-Err-send-clause-threads g c = inl c.loop-front.invariant.threads
+
+pub returns-in-Err-hear-clause-threads : goal.returns-in-Err-hear-clause-threads
+returns-in-Err-hear-clause-threads g c =
+    lacks_unheard _ _ _ _ c.in-Err-hear.fault c.loop-front.invariant.threads c.in-Err-hear.ensures.err
+
+pub returns-in-Err-tell_line-clause-threads : goal.returns-in-Err-tell_line-clause-threads
+returns-in-Err-tell_line-clause-threads g c =
+    subst
+    (λ (k : ℕ). CountsFrontLacks k (g.R.Runner.threads_lacked c.tell_line-2.new.runner) (Err c.in-Err-tell_line.fault))
+    c.loop-front.invariant.threads c.in-Err-tell_line.ensures.threads
+
+pub returns-clause-threads : goal.returns-clause-threads
+returns-clause-threads g c = inl (c.in-Ok-tell_line.ensures.threads ∙ c.loop-front.invariant.threads)

@@ -12,11 +12,5 @@ returns-clause-read g c = search
 pub returns-clause-write : goal.returns-clause-write
 returns-clause-write g c = search
 
-pub returns-clause-thread : goal.returns-clause-thread
-returns-clause-thread g c = search
-
-pub returns-clause-no_thread : goal.returns-clause-no_thread
-returns-clause-no_thread g c = search
-
-pub returns-clause-memory : goal.returns-clause-memory
-returns-clause-memory g c = search
+pub returns-clause-threads : goal.returns-clause-threads
+returns-clause-threads g c = search

@@ -1,10 +1,10 @@
 use Rattle.std.proofs.Common.{rules, ◌≡◌, ℕ, ◌*◌, ◌%◌, ◌^◌, ◌∙◌, length, get_or, subst, sym, arith, lit<}
 use Rattle.std.proofs.lemmas.Nat.{one_shl}
 use Rattle.cm_workers.specs.Dealing.{AreShares}
-use Rattle.cm_resident.specs.declared.worker.Worker.{Worker}
-use Rattle.cm_resident.specs.Lanes.{Run}
+use Rattle.cm_turns.specs.declared.worker.Worker.{Worker}
+use Rattle.cm_turns.specs.Lanes.{Run}
 use Rattle.cm_resident.specs.Laws.{LeaveTheirMachine}
-use Rattle.cm_resident.specs.Teams.{HasWorked}
+use Rattle.cm_turns.specs.Workers.{HasWorked}
 use Rattle.test_team.proofs.team.run_by_team.Goals as goal
 
 pub in_order-requires-clause-shares : goal.in_order-requires-clause-shares

@@ -1,6 +1,6 @@
 use Rattle.std.proofs.Common.{subst}
-use Rattle.cm_resident.specs.declared.worker.Worker.{Worker}
-use Rattle.cm_resident.specs.Teams.{HasWorked}
+use Rattle.cm_turns.specs.declared.worker.Worker.{Worker}
+use Rattle.cm_turns.specs.Workers.{HasWorked}
 use Rattle.cm_resident.proofs.held.Held.work.Goals as goal
 
 pub returns : goal.returns

@@ -1,6 +1,6 @@
 use Rattle.std.proofs.Common.{arith}
-use Rattle.cm_resident.specs.Lanes.{is_over, parcel_sent, rounds_in, Run}
-use Rattle.cm_resident.proofs.Picking.{picks_short}
+use Rattle.cm_turns.specs.Lanes.{is_over, parcel_sent, rounds_in, Run}
+use Rattle.cm_turns.proofs.Picking.{picks_short}
 use Rattle.cm_resident.proofs.lanes.Sent.open_lane.Goals as goal
 
 pub open-requires : goal.open-requires

@@ -1,6 +1,6 @@
 use Rattle.std.proofs.Common.{rules, ◌≡◌, ◌<◌, ◌≤◌, ◌-◌, ◌/◌, ℕ, length, subst, arith, ◌∙◌}
 use Rattle.cm_resident.specs.declared.running.PendingWorker.{PendingWorker}
-use Rattle.cm_resident.specs.Lanes.{Run}
+use Rattle.cm_turns.specs.Lanes.{Run}
 use Rattle.cm_resident.specs.TeamSetups.{AreLinedUpForSome}
 use Rattle.cm_resident.proofs.Ending.{account_after, first_of, lined_up_id}
 use Rattle.cm_resident.proofs.shared_list.SharedList.share_out.Goals as goal

@@ -1,7 +1,7 @@
 use Rattle.std.proofs.Common.{◌≡◌, ◌-◌, ◌^◌, ◌∙◌, arith}
 use Rattle.std.proofs.lemmas.Nat.{pow_pos}
-use Rattle.cm_resident.proofs.Working.{chips_are, leads_out, they_fit, comes_by, send_ready, get_ready, over_fit, has_seen}
-use Rattle.cm_resident.proofs.worker.Duty.exchange.Goals as goal
+use Rattle.cm_turns.proofs.Working.{chips_are, leads_out, they_fit, comes_by, send_ready, get_ready, over_fit, has_seen}
+use Rattle.cm_turns.proofs.worker.Duty.exchange.Goals as goal
 
 pub place_of-place-requires-clause-some : goal.place_of-place-requires-clause-some
 place_of-place-requires-clause-some g c =

@@ -1,8 +1,8 @@
 use Rattle.std.proofs.Common.{ℕ, List, subst, sym}
 use Rattle.cm_subcube.specs.Blocks.{BlockView}
 use Rattle.cm_workers.specs.Gates.{ComesBy, gate_round_number}
-use Rattle.cm_resident.proofs.Working.{still_comes}
-use Rattle.cm_resident.proofs.worker.show.Goals as goal
+use Rattle.cm_turns.proofs.Working.{still_comes}
+use Rattle.cm_turns.proofs.worker.show.Goals as goal
 
 pub come_by-requires-clause-own : goal.come_by-requires-clause-own
 come_by-requires-clause-own g c =

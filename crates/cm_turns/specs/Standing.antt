@@ -9,7 +9,7 @@ use Rattle.cm_router.specs.Logs.{HaveLogRoom}
 use Rattle.cm_subcube.specs.Blocks.{BlockView}
 use Rattle.cm_board.specs.Courses.{Course}
 use Rattle.cm_workers.specs.Gates.{IsShareOf}
-use Rattle.cm_resident.specs.Lanes.{Run, before, ends_each, course, own, givers}
+use Rattle.cm_turns.specs.Lanes.{Run, before, ends_each, course, own, givers}
 
 -- block b of a run as it is cut out, with room for all events of the run
 pub record IsRunBlock (run : Run) (b : ℕ) (one : BlockView) : Type 0 where

@@ -1,7 +1,7 @@
 use Rattle.std.proofs.Common.{◌≡◌, ◌+◌, ◌-◌, suc, sym, ap, ◌∙◌, arith}
-use Rattle.cm_resident.specs.Lanes.{place_of_kind}
-use Rattle.cm_resident.proofs.Powers.{log_of_power, log_below}
-use Rattle.cm_resident.proofs.worker.place_of.Goals as goal
+use Rattle.cm_turns.specs.Lanes.{place_of_kind}
+use Rattle.cm_turns.proofs.Powers.{log_of_power, log_below}
+use Rattle.cm_turns.proofs.worker.place_of.Goals as goal
 
 pub overflow_sub-result : goal.overflow_sub-result
 overflow_sub-result c =

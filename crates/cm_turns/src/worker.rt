@@ -4,15 +4,14 @@ ghost use Rattle.std.specs.Prelude.{◌≡◌, ◌≢◌, ℕ, ◌+◌, ◌*◌,
 ghost use Rattle.std.specs.List.{All};
 ghost use Rattle.cm_workers.specs.Gates.{ComesBy, gate_round_number};
 ghost use Rattle.cm_workers.specs.Turns.{AreShown};
-ghost use Rattle.cm_resident.specs.Lanes.{Run, place_of_kind, rounds_in};
-ghost use Rattle.cm_resident.specs.Standing.{IsWorkerBefore};
-ghost use Rattle.cm_resident.specs.Teams.{HasPassed, HasSeenOf, HasWorked, IsBeforeRound, IsOfSome};
+ghost use Rattle.cm_turns.specs.Lanes.{Run, ends_each, place_of_kind, rounds_in};
+ghost use Rattle.cm_turns.specs.Standing.{IsWorkerBefore};
+ghost use Rattle.cm_turns.specs.Workers.{HasPassed, HasSeenOf, HasWorked, IsBeforeRound, IsOfSome};
 
-use crate::lanes::ends_each;
+use crate::turn::{EndPlace, begin_all, get_all, send_all};
 use cm_board::{FromEnd, ToEnd};
 use cm_model::Act;
 use cm_subcube::{Block, Kind, Parcel, Round};
-use cm_turns::{EndPlace, begin_all, get_all, send_all};
 use cm_workers::{Gate, Passage};
 use std::sync::Wait;
 
@@ -103,6 +102,14 @@ impl<'a, R: Wait> Duty<'a, R> {
         send_all(self.rt, round, blocks, sends, end);
         get_all(self.rt, self.acts, round, blocks, gets, end);
     }
+}
+
+/// How many ends of each sort a block has: one block alone exchanges nothing.
+pub fn ends_each(k: u8) -> usize
+    ensures value { result ≡ ends_each k }
+    ensures within { result ≤ k + 2 }
+{
+    if k == 0 { 0 } else { usize::from(k) + 2 }
 }
 
 /// The place of a kind of round among the ends of a block of so many chips: the first two are for the grid, and the

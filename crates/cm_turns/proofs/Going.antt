@@ -39,12 +39,12 @@ use Rattle.cm_subcube.proofs.Sparing.{cuts_are_spared, room_for}
 use Rattle.cm_board.specs.Courses.{Course, due_now}
 use Rattle.cm_workers.specs.Posts.{giver_of_kind}
 use Rattle.cm_workers.specs.Turns.{IsShown}
-use Rattle.cm_resident.specs.Lanes.{Run, before, rounds_in, place_of_kind, kind_of_index, is_over, passed, parcel_sent, dues, course}
-use Rattle.cm_resident.specs.Standing.{IsRunBlock, StandsBefore}
+use Rattle.cm_turns.specs.Lanes.{Run, before, rounds_in, place_of_kind, kind_of_index, is_over, passed, parcel_sent, dues, course}
+use Rattle.cm_turns.specs.Standing.{IsRunBlock, StandsBefore}
 use Rattle.cm_turns.specs.Turns.{CanGoOn, HasGoneOn, CanSend, HasSent, CanGet, HasGot}
 use Rattle.cm_turns.proofs.Absorbing.{clock_stands}
-use Rattle.cm_resident.proofs.Picking.{picked, picked_below}
-use Rattle.cm_resident.proofs.Ends.{kind_of_place}
+use Rattle.cm_turns.proofs.Picking.{picked, picked_below}
+use Rattle.cm_turns.proofs.Ends.{kind_of_place}
 
 -- ---- a run of the sizes of a block
 
