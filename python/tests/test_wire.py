@@ -55,11 +55,11 @@ def test_a_refusal_tells_what_the_document_tells(four):
     with pytest.raises(Refused) as told:
         four.ask("mul x y z")
     assert (told.value.number, told.value.name) == (18, "Name")
-    assert "put the `field` line first" in str(told.value) and "mul x y z" in str(told.value)
+    assert "put the `field` line before the lines that use the name" in str(told.value) and "mul x y z" in str(told.value)
 
 
 def test_a_refusal_says_what_python_knows_in_place_of_advice():
-    assert "what to do: fields of one length" in str(Refused(11, "add x y"))
+    assert "what to do: define the fields with one length" in str(Refused(11, "add x y"))
     assert str(Refused(11, "add x y", "8 bits beside 9")).splitlines()[0] == "add x y: 8 bits beside 9"
     assert "what to do" not in str(Refused(11, "add x y", "8 bits beside 9"))
 
