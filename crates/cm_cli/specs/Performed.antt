@@ -19,24 +19,24 @@ use Rattle.cm_cli.specs.Lines.{IsLineTrace}
 abbrev pub asked_words : Vec (String Global) Global → List (List ℕ)
 asked_words words = map string_bytes words.items
 
--- no line was made of these words: they are none, or memory ran out
+-- no line was made of these words: they are no command line, or memory ran out
 pub record AreNoLine (words : Vec (String Global) Global) (fault : ProgramFault) : Type 0 where
   pub own : LineFault
   pub told : fault ≡ of_line own
   pub bad : own ≡ BadLine → IsBadLine (asked_words words)
 
--- why there is no line: the words were not to be had, or are none
+-- why there is no line: the words could not be had, or they are no command line
 abbrev pub HasNoLine : Result (Vec (String Global) Global) LineFault → ProgramFault → Type 0
 HasNoLine (Ok words) fault = AreNoLine words fault
 HasNoLine (Err own) fault = fault ≡ of_line own
 
--- the deeds are to ask for the words, which are this line
+-- the program asks for the words, and they are this line
 pub record AsksLine {F P : Type 0} (line : Line) (trace : List (IoEvent F P)) : Type 0 where
   pub words : Vec (String Global) Global
   pub did : trace ≡ Asked (Ok words) ∷ []
   pub asks : AsksFor (asked_words words) line
 
--- the deeds are to ask for the words, and there is no line
+-- the program asks for the words, and they make no line
 pub record AsksNoLine {F P : Type 0} (fault : ProgramFault) (trace : List (IoEvent F P)) : Type 0 where
   pub words : Result (Vec (String Global) Global) LineFault
   pub did : trace ≡ Asked words ∷ []
@@ -50,7 +50,7 @@ pub record IsEmptyTrace {F P : Type 0} (streams : Streams) (result : Result (Uni
   pub asks : AsksNoLine fault trace
   pub untouched : IsUntouched streams
 
--- what the line asks for is done
+-- the words are a line, and the program does what the line asks for
 pub record DoesAsAsked {F P : Type 0} (reads : Reads F) (streams : Streams) (result : Result (Unit {0}) ProgramFault)
     (trace : List (IoEvent F P)) : Type 0 where
   pub first : List (IoEvent F P)
@@ -60,6 +60,7 @@ pub record DoesAsAsked {F P : Type 0} (reads : Reads F) (streams : Streams) (res
   pub asks : AsksLine line first
   pub does : IsLineTrace reads line streams result second
 
+-- what the program does by its words: they make no line, or it does what their line asks for
 abbrev pub IsWordsTrace : {F P : Type 0} → Reads F → Streams → Result (Unit {0}) ProgramFault → List (IoEvent F P) → Type 0
 IsWordsTrace reads streams result trace =
     IsEmptyTrace streams result trace ⊎ DoesAsAsked reads streams result trace

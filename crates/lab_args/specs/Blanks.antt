@@ -12,7 +12,7 @@ wire_named chip dim =
     operand_below (2 ^ 16) operand.Chip chip >>= λ chip'. operand_below (2 ^ 16) operand.Dim dim >>= λ dim'.
     Ok (record { chip = chip'; dim = dim' })
 
--- the machine with this wire cut too
+-- the machine after an option `--cut`, whose wire is added to those that are cut
 abbrev pub blank_with_cut : BlankAsked → Text → Text → Result BlankAsked Refusal
 blank_with_cut machine chip dim =
     wire_named chip dim >>= λ wire. Ok (record machine { cuts = machine.cuts ++ wire ∷ [] })

@@ -42,7 +42,7 @@ with_choice loads option word =
     then Ok (record loads { trial = record loads.trial { pattern = pattern.Own }; places = Some word })
     else with_option loads.trial option word >>= (λ trial. Ok (record loads { trial = trial })))
 
--- the loads of a machine with this wire cut too
+-- the loads after an option `--cut`, whose wire is added to those that are cut
 abbrev pub load_with_cut : LoadsAsked → Text → Text → Result LoadsAsked Refusal
 load_with_cut loads chip dim =
     wire_named chip dim >>= λ wire. Ok (record loads { cuts = loads.cuts ++ wire ∷ [] })

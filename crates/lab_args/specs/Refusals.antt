@@ -39,8 +39,8 @@ reported_refusal fault.Memory = Memory
 abbrev pub Reports : {A : Type 0} → Result A Refusal → CommandFault → Type 0
 Reports reading fault = (reported_refusal fault ≡ Memory) ⊎ (reading ≡ Err (reported_refusal fault))
 
--- what comes after, unless a refusal came before
 infixl 10 ◌>>=◌
+-- what comes after, unless a refusal came before
 abbrev pub ◌>>=◌ : {A B : Type 0} → Result A Refusal → (A → Result B Refusal) → Result B Refusal
 (Ok x) >>= next = next x
 (Err refusal) >>= next = Err refusal

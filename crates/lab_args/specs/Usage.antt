@@ -6,13 +6,15 @@ use Rattle.cm_bits.specs.Text.{has_bytes}
 use Rattle.lab_args.specs.declared.help.TheConstants.{HELP}
 use Rattle.lab_args.specs.Refusals.{Text}
 
+-- a byte is a space, and no other blank
 abbrev pub is_plain_space : ℕ → Bool
 is_plain_space byte = byte == 32
 
--- what stands before the first space of a line, and behind it
+-- what stands before the first space of a line
 abbrev pub first_word : Text → Text
 first_word line = before_first is_plain_space line
 
+-- what stands behind the first space of a line
 abbrev pub behind_word : Text → Text
 behind_word line = after_first is_plain_space line
 

@@ -17,6 +17,7 @@ use Rattle.lab_fresh.specs.declared.blanks.FreshFault.TheVariants.{Dimension, Ro
 abbrev pub is_end : ℕ → WireEnd → Bool
 is_end n end = nat_lt end.chip (2 ^ n) && nat_lt end.dim n
 
+-- a chip and a dimension that a cube of n dimensions has not
 abbrev pub is_stray : ℕ → WireEnd → Bool
 is_stray n end = not (is_end n end)
 
@@ -37,11 +38,12 @@ abbrev pub wire_fault : ℕ → Option WireEnd → Option FreshFault
 wire_fault n None = None
 wire_fault n (Some end) = Some (no_wire n end.chip end.dim)
 
--- the first fault: of the dimension, the room, the ends in their order, the rule
+-- the earlier fault, or the later if there is no earlier one
 abbrev pub or_fresh_fault : Option FreshFault → Option FreshFault → Option FreshFault
 or_fresh_fault None later = later
 or_fresh_fault (Some fault) later = Some fault
 
+-- the first fault: of the dimension, the room, the ends in their order, the rule
 abbrev pub fresh_fault : ℕ → ℕ → List WireEnd → ℕ → Option FreshFault
 fresh_fault n room ends rule =
     if nat_lt 12 n then Some (Dimension n)
@@ -53,7 +55,7 @@ abbrev pub unless_fault : Option FreshFault → List ℕ → Result (List ℕ) F
 unless_fault None text = Ok text
 unless_fault (Some fault) text = Err fault
 
--- the image of such a machine, or the first fault
+-- the image of the blank machine that is asked for, or the first fault
 unfoldable pub fresh_of : ℕ → ℕ → List WireEnd → ℕ → Result (List ℕ) FreshFault
 fresh_of n room ends rule =
     unless_fault (fresh_fault n room ends rule) (text_of n room (fresh_machine n ends (rule_of rule)))

@@ -38,6 +38,7 @@ asking_of load loaded =
     (record { chips = loaded.machine.chips; sources = loaded.sources; deepest = loaded.deepest })
     (places load.dims)
 
+-- the machine with the chips whose processors have asked, and with empty logs
 abbrev pub machine_asked : ℕ → Machine → Chips → Machine
 machine_asked n machine chips = record machine { chips = chips; logs = each_chip n (λ c. []) }
 
@@ -51,6 +52,7 @@ load_after n loaded asking after = record {
   latencies = loaded.latencies ++ latencies_in loaded.machine.clock after.logs;
 }
 
+-- what stands after the petit cycle of processors that have asked, with room for cap messages in each router
 abbrev pub cycled : ℕ → ℕ → Loaded → Asking → Loaded
 cycled n cap loaded asking =
     load_after n loaded asking (after_act n cap (machine_asked n loaded.machine asking.chips) Cycle)

@@ -5,6 +5,7 @@ use Rattle.cm_model.specs.declared.message.Message.{Message}
 use Rattle.cm_model.specs.declared.message.Event.{Event}
 use Rattle.cm_model.specs.declared.message.Event.TheVariants.{Injected, Delivered}
 
+-- an event tells that a message was taken in
 abbrev pub is_injection_event : Event → Bool
 is_injection_event (Injected m) = true
 is_injection_event (Delivered c m) = false

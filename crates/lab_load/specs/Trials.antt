@@ -44,6 +44,7 @@ is_plain Dimensions = false
 is_plain Chips = false
 is_plain Latencies = false
 
+-- the first fault of the petit cycles, those that are left out, the seeds, the rule, the background, the table
 abbrev pub cycles_fault : Trial → Option LoadFault
 cycles_fault trial =
     if trial.cycles == 0 || nat_lt 1000000 trial.cycles then Some (Cycles trial.cycles)

@@ -15,14 +15,15 @@ in_columns first count c = nat_le first c && nat_lt c (first + count)
 abbrev pub higher : ℕ → ℕ → ℕ → Point → ℕ
 higher first count g point = if in_columns first count point.column then max g point.y else g
 
--- the greatest of all, or 0
+-- the greatest number upward of all points of these columns, or 0
 abbrev pub highest : ℕ → ℕ → List Point → ℕ
 highest first count points = fold (higher first count) 0 points
 
--- the least and the greatest number to the right, where this was the one so far
+-- the least x of these points, or the given x if it is less
 abbrev pub leftmost : ℕ → List Point → ℕ
 leftmost x points = fold (λ least point. min least point.x) x points
 
+-- the greatest x of these points, or the given x if it is greater
 abbrev pub rightmost : ℕ → List Point → ℕ
 rightmost x points = fold (λ most point. max most point.x) x points
 
@@ -51,7 +52,7 @@ abbrev pub whole_steps : ℕ → ℕ → ℕ
 whole_steps step range =
     if range % step == 0 && nat_lt 0 range then range else range + step - range % step
 
--- an axis from the tick that is not above the least number to the one that is not below the greatest
+-- an axis from the tick that is not above the least number to the tick that is not below the greatest
 abbrev pub axis_by : ℕ → ℕ → ℕ → Axis
 axis_by step least most = record {
   low = least - least % step;
@@ -59,6 +60,7 @@ axis_by step least most = record {
   span = whole_steps step (most - (least - least % step));
 }
 
+-- the axis from the least number to the greatest, whose ticks are no less than one unit apart
 unfoldable pub axis_of : ℕ → ℕ → ℕ → Axis
 axis_of unit least most = axis_by (tick_step unit (most - least)) least most
 

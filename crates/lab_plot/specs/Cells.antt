@@ -34,6 +34,7 @@ trimmed_or_none (Some bytes) = trimmed bytes
 abbrev pub cell : List ℕ → ℕ → List ℕ
 cell line c = trimmed_or_none (slice_get (slice_split is_comma line) c)
 
+-- a byte is a decimal digit
 abbrev pub is_decimal : ℕ → Bool
 is_decimal byte = nat_lt 47 byte && nat_lt byte 58
 
@@ -87,7 +88,7 @@ escaped_byte byte =
     if byte == 38 then codes "&amp;"
     else (if byte == 60 then codes "&lt;" else (if nat_lt 31 byte && nat_lt byte 127 then byte ∷ [] else 63 ∷ []))
 
--- a name
+-- a name, as XML writes it
 unfoldable pub escaped : List ℕ → List ℕ
 escaped bytes = flat_map escaped_byte bytes
 
@@ -96,5 +97,6 @@ abbrev pub shortened : ℕ → List ℕ → List ℕ
 shortened most bytes =
     if nat_le (length bytes) most then escaped bytes else escaped (take (most - 1) bytes) ++ codes "&#8230;"
 
+-- a byte is a colon
 abbrev pub is_colon : ℕ → Bool
 is_colon byte = byte == 58

@@ -22,10 +22,11 @@ colour k =
 
 -- ---- points
 
--- where a point stands: from the left, and from above
+-- where a point stands, from the left
 abbrev pub place_x : Frame → Point → ℕ
 place_x frame point = place_along frame.across point.x 5600
 
+-- where a point stands, from above
 abbrev pub place_y : Frame → Point → ℕ
 place_y frame point = 2400 - place_along frame.up point.y 2400
 
@@ -37,6 +38,7 @@ is_of c point = point.column == c
 abbrev pub foot : Frame → Point → List ℕ
 foot frame point = if frame.stems then piece (codes " ") (place_x frame point) ++ codes ",2400" else []
 
+-- the corner of a line at a point
 abbrev pub tip : Frame → Point → List ℕ
 tip frame point = piece (codes " ") (place_x frame point) ++ piece (codes ",") (place_y frame point)
 
@@ -44,7 +46,7 @@ tip frame point = piece (codes " ") (place_x frame point) ++ piece (codes ",") (
 abbrev pub column_corner : Frame → ℕ → Point → List ℕ
 column_corner frame c point = if is_of c point then foot frame point ++ tip frame point ++ foot frame point else []
 
--- a dot here
+-- a dot at this place, in this colour
 unfoldable pub circle : ℕ → ℕ → List ℕ → List ℕ
 circle x y paint = piece (codes "<circle r='40' cx='") x ++ piece (codes "' cy='") y ++ codes "' fill='" ++ paint ++ codes "'/>\n"
 
@@ -64,12 +66,12 @@ line_open paint =
 unfoldable pub line_text : Frame → List Point → ℕ → ℕ → List ℕ
 line_text frame points c k = line_open (colour k) ++ flat_map (column_corner frame c) points ++ codes "'/>\n"
 
--- each of its points has a dot, where they are not too many
+-- the dots of a column, one at each of its points, if there are 64 points at most
 unfoldable pub dots_text : Frame → List Point → ℕ → ℕ → List ℕ
 dots_text frame points c k =
     if nat_le (count_by (is_of c) points) 64 then flat_map (dot frame c k) points else []
 
--- a sign of its colour at this height beside the frame, and how the name behind it begins
+-- beside the frame, at this height: a sign in the colour of a line, and how the line's name begins
 unfoldable pub name_open : List ℕ → ℕ → List ℕ
 name_open paint y =
     codes "<path stroke-width='25' stroke='" ++ paint ++ piece (codes "' d='M5750 ") y

@@ -11,19 +11,20 @@ use Rattle.lab_plot.specs.Pieces.{piece}
 use Rattle.lab_plot.specs.Shown.{columns_shown, label_of}
 use Rattle.lab_plot.specs.Ticks.{ticks_text}
 
--- what stands below
+-- what is written below a panel
 unfoldable pub below_text : List ℕ → List ℕ
 below_text across = codes "<text x='2800' y='2850'>" ++ across ++ codes "</text>\n"
 
--- what stands on the left, from below upward, where there is room for 32 letters
+-- what is written on the left of a panel, from below upward; there is room for 32 letters
 unfoldable pub left_text : List ℕ → List ℕ
 left_text label =
     codes "<text transform='translate(-750,1200)rotate(-90)'>" ++ shortened 32 label ++ codes "</text>\n"
 
+-- the frame of a panel, as SVG writes it
 unfoldable pub box_text : List ℕ
 box_text = codes "<rect width='5600' height='2400' fill='none' stroke='black' stroke-width='10'/>\n"
 
--- the sides, and what is written along them
+-- the frame of a panel, and what is written along its sides
 unfoldable pub sides_text : List ℕ → List ℕ → List ℕ
 sides_text across label = box_text ++ below_text across ++ left_text label
 

@@ -21,7 +21,7 @@ use Rattle.lab_plot.specs.Shown.{first_column, columns_shown, unit_of}
 
 -- ---- words
 
--- what stands to the right
+-- what is written along the axis to the right
 abbrev pub across_label : Kind → List ℕ
 across_label Cycles = codes "petit cycle"
 across_label Messages = codes "petit cycles"
@@ -29,7 +29,7 @@ across_label Loads = codes "messages that a chip offers in a petit cycle"
 across_label Latencies = codes "petit cycles"
 across_label Compared = codes "messages that a chip offers in a petit cycle"
 
--- numbers to the right are whole, but for rates
+-- the unit of numbers to the right, in thousandths: rates are not whole, and all other numbers are
 abbrev pub right_unit : Kind → ℕ
 right_unit Cycles = 1000
 right_unit Messages = 1000
@@ -39,7 +39,7 @@ right_unit Compared = 1
 
 -- ---- the picture
 
--- numbers of messages stand on the axis
+-- points are drawn as lines that stand on the axis: numbers of messages are
 abbrev pub has_stems : Kind → Bool
 has_stems Cycles = false
 has_stems Messages = true
@@ -55,11 +55,12 @@ frame_of kind x points panel = record {
   stems = has_stems kind;
 }
 
--- the i-th panel
+-- panel i of a picture, counted from above
 unfoldable pub panel_shown : Kind → List ℕ → ℕ → List Point → Panel → ℕ → List ℕ
 panel_shown kind header x points panel i =
     panel_text (600 + 3300 * i) (across_label kind) (frame_of kind x points panel) header points panel
 
+-- the panels of a picture, from the uppermost down
 abbrev pub panels_text : Kind → List ℕ → ℕ → List Point → List ℕ
 panels_text Cycles header x points = panel_shown Cycles header x points Moved 0 ++ panel_shown Cycles header x points Held 1
 panels_text Messages header x points = panel_shown Messages (codes "petit cycles,messages") x points Bins 0
@@ -67,6 +68,7 @@ panels_text Latencies header x points = panel_shown Latencies header x points (T
 panels_text Compared header x points = panel_shown Compared header x points (Columns (min 9 (width_of header - 1))) 0
 panels_text Loads header x points = panel_shown Loads header x points Latency 0 ++ panel_shown Loads header x points Throughput 1
 
+-- how many panels a picture has
 abbrev pub panel_count : Kind → ℕ
 panel_count Cycles = 2
 panel_count Messages = 1

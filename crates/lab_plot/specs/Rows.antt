@@ -6,8 +6,8 @@ use Rattle.lab_plot.specs.declared.fault.PlotFault.{PlotFault}
 use Rattle.lab_plot.specs.declared.fault.PlotFault.TheVariants.{Cell, Large, Width}
 use Rattle.lab_plot.specs.Cells.{cell, is_cell, is_written, width_of}
 
--- what comes after, unless a fault came before
 infixl 10 ◌>>=◌
+-- what comes after, unless a fault came before
 abbrev pub ◌>>=◌ : {A B : Type 0} → Result A PlotFault → (A → Result B PlotFault) → Result B PlotFault
 (Ok x) >>= f = f x
 (Err fault) >>= f = Err fault

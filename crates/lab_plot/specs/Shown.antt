@@ -6,7 +6,7 @@ use Rattle.lab_plot.specs.declared.panels.Panel.{Panel}
 use Rattle.lab_plot.specs.declared.panels.Panel.TheVariants.{Moved, Held, Latency, Throughput, Bins, Took, Columns}
 use Rattle.lab_plot.specs.Cells.{cell, is_colon}
 
--- its axes go somewhere
+-- both axes of a frame have a length
 pub record CanBeDrawn (frame : Frame) : Type 0 where
   pub across : 0 < frame.across.span
   pub up : 0 < frame.up.span
@@ -21,7 +21,7 @@ label_of Bins header = codes "messages"
 label_of (Took count) header = codes "messages"
 label_of (Columns count) header = after_first is_colon (cell header 0)
 
--- the first column that it shows, and how many
+-- the first column that a panel shows
 abbrev pub first_column : Panel → ℕ
 first_column Moved = 1
 first_column Held = 5
@@ -31,6 +31,7 @@ first_column Bins = 1
 first_column (Took count) = 1
 first_column (Columns count) = 1
 
+-- how many columns a panel shows
 abbrev pub columns_shown : Panel → ℕ
 columns_shown Moved = 4
 columns_shown Held = 2

@@ -36,30 +36,35 @@ segment plan before between leg =
     piece before (route_x plan leg.cycle leg.start) ++ piece (codes ",") (route_y plan.rows leg.from)
     ++ piece between (route_x plan leg.cycle leg.end) ++ piece (codes ",") (route_y plan.rows leg.to)
 
+-- the two ends of a leg, as corners of the line of a way
 abbrev pub leg_corner : Plan → Leg → List ℕ
 leg_corner plan leg = segment plan (codes " ") (codes " ") leg
 
+-- the line of a way, through the ends of all its legs
 unfoldable pub way_line : Plan → List Leg → List ℕ
 way_line plan legs = line_open (colour 0) ++ flat_map (leg_corner plan) legs ++ codes "'/>\n"
 
--- a line in another colour, where the message was referred
+-- what a leg's step adds to the way: a line in another colour, where the message was referred
 abbrev pub referral_by : Plan → Leg → Step → List ℕ
 referral_by plan leg Wanted = []
 referral_by plan leg Referred = line_open (colour 1) ++ segment plan [] (codes " ") leg ++ codes "'/>\n"
 referral_by plan leg Delivered = []
 
+-- the line in another colour of a leg in which the message was referred; nothing of any other leg
 unfoldable pub referral : Plan → Leg → List ℕ
 referral plan leg = referral_by plan leg leg.step
 
--- a dot where it was delivered
+-- what a leg's step adds to the way: a dot, where the message was delivered
 abbrev pub delivery_by : Plan → Leg → Step → List ℕ
 delivery_by plan leg Wanted = []
 delivery_by plan leg Referred = []
 delivery_by plan leg Delivered = circle (route_x plan leg.cycle leg.end) (route_y plan.rows leg.to) (colour 3)
 
+-- the dot of a leg at whose end the message was delivered; nothing of any other leg
 abbrev pub delivery : Plan → Leg → List ℕ
 delivery plan leg = delivery_by plan leg leg.step
 
+-- the line of the way, the lines of its referrals, and the dot of its delivery
 unfoldable pub lines_text : Plan → List Leg → List ℕ
 lines_text plan legs = way_line plan legs ++ flat_map (referral plan) legs ++ flat_map (delivery plan) legs
 
@@ -73,6 +78,7 @@ begin_text plan leg = circle (route_x plan leg.cycle leg.start) (route_y plan.ro
 unfoldable pub names_text : List ℕ → List ℕ
 names_text names = name_text names 0 0 ++ name_text names 1 1 ++ name_text names 2 2 ++ name_text names 3 3
 
+-- the panel of a route: its ticks, a line for each chip, what is written along the sides, the way, the names
 unfoldable pub route_panel_text : Plan → Leg → List Leg → List ℕ
 route_panel_text plan first legs =
     place_text 600 ++ flat_map (cycle_tick plan.across) (range_with_len 0 12)
@@ -86,7 +92,7 @@ route_drawing first legs =
     picture_head (codes "The way of a message") 3900 ++ route_panel_text (plan_of first.cycle legs) first legs
     ++ codes "</g>\n</svg>\n"
 
--- that of the legs of a route, if its lines are such and there are any
+-- the picture of the legs of a route, if its lines have no fault and there is a leg
 abbrev pub of_legs : Result (List Leg) PlotFault → Result (List ℕ) PlotFault
 of_legs (Err fault) = Err fault
 of_legs (Ok []) = Err NoCycle

@@ -24,6 +24,7 @@ option_below limit (Some x) = if nat_lt x limit then Some x else None
 abbrev pub cycle_behind : List ℕ → Option ℕ
 cycle_behind line = option_below (2 ^ 50) (number_of (before_first is_colon (drop 6 line)))
 
+-- the petit cycle that a line is of, if the line begins with the word `cycle`
 abbrev pub cycle_in : List ℕ → Option ℕ
 cycle_in line = if starts_with nat_eq line (codes "cycle ") then cycle_behind line else None
 
@@ -31,6 +32,7 @@ cycle_in line = if starts_with nat_eq line (codes "cycle ") then cycle_behind li
 abbrev pub chip_of_word : List ℕ → Option ℕ
 chip_of_word word = option_below 4096 (number_of word)
 
+-- there is a number, and it is x
 abbrev pub is_number : ℕ → Option ℕ → Bool
 is_number x None = false
 is_number x (Some y) = y == x
@@ -40,13 +42,15 @@ abbrev pub is_referral : ℕ → List ℕ → Bool
 is_referral dim part =
     starts_with nat_eq part (codes " referred in ") && is_number dim (number_of (drop 13 part))
 
+-- a line says that the message was referred in a dimension
 abbrev pub is_referred : List ℕ → ℕ → Bool
 is_referred line dim = list_any (is_referral dim) (slice_split is_comma line)
 
--- a part of a line says that it was delivered
+-- a part of a line says that the message was delivered
 abbrev pub is_delivered_part : List ℕ → Bool
 is_delivered_part part = starts_with nat_eq part (codes " delivered")
 
+-- a line says that the message was delivered
 abbrev pub says_delivered : List ℕ → Bool
 says_delivered line = list_any is_delivered_part (slice_split is_comma line)
 
@@ -68,7 +72,7 @@ leg_to c line (Some before) chip = record {
   step = if is_referred line (dim_between before chip) then Referred else Wanted;
 }
 
--- that to the end of the petit cycle
+-- the leg from the last chip to the end of the petit cycle
 abbrev pub last_leg : ℕ → List ℕ → ℕ → Leg
 last_leg c line chip = record {
   cycle = c + 1;
@@ -106,11 +110,11 @@ cycle_legs cycles line None = []
 cycle_legs cycles line (Some c) =
     if is_among_cycles cycles c then legs_from c line None (words_of (after_first is_colon (cell line 0))) else []
 
--- those of a line; none of one that tells where the message stands at the end
+-- the legs of a line; a line that tells where the message stands at the end has none
 abbrev pub line_legs : Cycles → List ℕ → List Leg
 line_legs cycles line = cycle_legs cycles line (cycle_in line)
 
--- it is a line of a route
+-- a line is one of a route
 abbrev pub is_route_line : List ℕ → Bool
 is_route_line line = is_some (cycle_in line) || starts_with nat_eq line (codes "stands at ")
 
@@ -119,7 +123,7 @@ abbrev pub legs_told : Cycles → ℕ → List Leg → List ℕ → Result (List
 legs_told cycles number legs line =
     if is_route_line line then Ok (legs ++ line_legs cycles line) else Err (Route number)
 
--- the same, whatever blanks stand around it; a blank line has no legs
+-- the legs so far and those of a line, whatever blanks stand around the line; a blank line has no legs
 abbrev pub legs_with : Cycles → ℕ → List Leg → List ℕ → Result (List Leg) PlotFault
 legs_with cycles number legs line = if has_words line then legs_told cycles number legs (trimmed line) else Ok legs
 

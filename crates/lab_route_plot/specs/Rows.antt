@@ -12,7 +12,7 @@ use Rattle.lab_route_plot.specs.declared.rows.Grid.{Grid}
 abbrev pub rows_with : List ℕ → ℕ → List ℕ
 rows_with rows chip = if list_any (λ row. row == chip) rows then rows else rows ++ chip ∷ []
 
--- downward, in the order in which the message comes there
+-- the chips of all rows, downward in the order in which the message comes there
 abbrev pub route_rows : List Leg → List ℕ
 route_rows legs = fold (λ rows leg. rows_with rows leg.to) [] legs
 
@@ -20,9 +20,11 @@ route_rows legs = fold (λ rows leg. rows_with rows leg.to) [] legs
 abbrev pub most_dims : List Leg → ℕ
 most_dims legs = fold (λ most leg. max most leg.end) 1 legs
 
+-- the last petit cycle of these legs
 abbrev pub last_cycle : List Leg → ℕ
 last_cycle legs = fold (λ last leg. max last leg.cycle) 0 legs
 
+-- a petit cycle in thousandths, as axes count; at most the greatest number of 64 bits
 abbrev pub in_thousandths : ℕ → ℕ
 in_thousandths c = min (1000 * c) (2 ^ 64 - 1)
 
@@ -30,16 +32,17 @@ in_thousandths c = min (1000 * c) (2 ^ 64 - 1)
 abbrev pub across_axis : ℕ → List Leg → Axis
 across_axis first legs = axis_of 1000 (in_thousandths first) (in_thousandths (last_cycle legs))
 
--- what a grid is to a reader: the chips of its rows, its dimensions and its axis
+-- the plan of a picture: the chips of its rows, its dimensions and its axis
 pub record Plan : Type 0 where
   pub rows : List ℕ
   pub dims : ℕ
   pub across : Axis
 
+-- the plan that a grid has
 abbrev pub plan_seen : Grid → Plan
 plan_seen grid = record { rows = grid.rows.items; dims = grid.dims; across = grid.across }
 
--- that of a way that begins in this petit cycle
+-- the plan of a way that begins in this petit cycle
 abbrev pub plan_of : ℕ → List Leg → Plan
 plan_of first legs = record { rows = route_rows legs; dims = most_dims legs; across = across_axis first legs }
 
@@ -49,6 +52,7 @@ plan_of first legs = record { rows = route_rows legs; dims = most_dims legs; acr
 abbrev pub route_x : Plan → ℕ → ℕ → ℕ
 route_x plan c dims = place_along plan.across (1000 * c + 1000 * dims / max plan.dims 1) 5600
 
+-- a row that was found, or the first row
 abbrev pub or_first : Option ℕ → ℕ
 or_first None = 0
 or_first (Some row) = row
