@@ -11,7 +11,7 @@ use Rattle.std.proofs.lemmas.Option.{slice_get-map, slice_get-get_or, slice_get_
 use Rattle.cm_slots.specs.declared.tile.Tile.{Tile}
 use Rattle.cm_slots.specs.Slots.{is_taken, AreSlots}
 use Rattle.cm_slots.specs.Tiles.{slots_of, numbers_standing_at, IsShaped, IsQuiet, IsTile, IsPut, HasChanged}
-use Rattle.cm_slots.specs.Runs.{no_tile, tile_at, numbers_at, tickets_of, IsChanged}
+use Rattle.cm_slots.specs.Runs.{no_tile, tile_at, tickets_of}
 use Rattle.cm_slots.specs.declared.ticket.Ticket.{Ticket}
 use Rattle.cm_slots.specs.Tickets.{ticket_of, ticket_in}
 use Rattle.cm_slots.proofs.Standing.{standing_is, stands, ends_at}
@@ -84,6 +84,12 @@ taken_out place slot later old now new inside whole there order none put closing
     (put.here ∙ sym (closing.ahead later (omega arith) ∙ none)) put.same closing))
     (λ i j e. put.others i j e ∙ others i j e)
 
+-- these tickets stand at one chip now, and at the others those that stood there
+pub record IsChanged (chip : ℕ) (tickets : List Ticket) (old new : List Tile) : Type 0 where
+  pub whole : All IsTile new
+  pub here : tickets_of new chip ≡ tickets
+  pub others : (c : ℕ) → c / 64 < length old → c ≢ chip → tickets_of new c ≡ tickets_of old c
+
 -- what is told of a tile's chip is told of the chip
 pub chip_changed : (chip : ℕ) (numbers : List ℕ) (tickets : List Ticket) (old : List Tile) (tile : Tile)
     → chip / 64 < length old → All IsTile old → HasChanged (chip % 64) numbers (tile_at old (chip / 64)) tile
@@ -106,21 +112,10 @@ chip_changed chip numbers tickets old tile inside whole step told =
 pub taken_in : (slots : ℕ → ℕ) (xs : List ℕ) → AreSlots slots xs → (j : ℕ) → slots j ≢ 0 → is_taken (slots j) ≡ true
 taken_in slots xs are j some = grind (arith, are.taken j, get_or_past)
 
-ticket_of_slot : (slots : ℕ → ℕ) (xs : List ℕ) → AreSlots slots xs → (j : ℕ)
+pub ticket_of_slot : (slots : ℕ → ℕ) (xs : List ℕ) → AreSlots slots xs → (j : ℕ)
     → ticket_in (slots j) ≡ slice_get (map ticket_of xs) j
 ticket_of_slot slots xs are j =
     grind (arith, are.taken j, slice_get-map, slice_get-get_or, slice_get_past, get_or_past)
-
-module _ (tiles : List Tile) (c : ℕ) (inside : c / 64 < length tiles) (whole : All IsTile tiles) where
-  are : AreSlots (slots_of (tile_at tiles (c / 64)) (c % 64)) (numbers_at tiles c)
-  are = (whole (c / 64) no_tile inside).queues (c % 64) (omega arith)
-
-  pub taken_at : (j : ℕ) → slots_of (tile_at tiles (c / 64)) (c % 64) j ≢ 0
-      → is_taken (slots_of (tile_at tiles (c / 64)) (c % 64) j) ≡ true
-  taken_at j some = taken_in (slots_of (tile_at tiles (c / 64)) (c % 64)) (numbers_at tiles c) are j some
-
-  pub ticket_at : (j : ℕ) → ticket_in (slots_of (tile_at tiles (c / 64)) (c % 64) j) ≡ slice_get (tickets_of tiles c) j
-  ticket_at j = ticket_of_slot (slots_of (tile_at tiles (c / 64)) (c % 64)) (numbers_at tiles c) are j
 
 -- ---- where nobody stands
 

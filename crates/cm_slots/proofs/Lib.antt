@@ -7,3 +7,4 @@ pub mod Arriving
 pub mod Runs
 pub mod Views
 pub mod Moves
+pub mod Queues

@@ -10,8 +10,6 @@ use Rattle.std.proofs.lemmas.Bool.{cases_eq, cases_lt, cases_Bool, ne_eqb}
 use Rattle.std.proofs.lemmas.List.Elements.{All-from_get_or}
 use Rattle.std.proofs.lemmas.List.{length-map, map-id, get_or_past}
 use Rattle.std.proofs.lemmas.Simd.{map-map}
-use Rattle.std.proofs.lemmas.Option.{slice_get-map}
-use Rattle.std.specs.Option.{option_map}
 use Rattle.std.proofs.lemmas.Nat.{xor_shr, xor_mod, xor_lt, xor_comm, shl-shr}
 use Rattle.cm_model.specs.Each.{tabulate}
 use Rattle.cm_model.specs.Array.{each_chip, nth_or_nil}
@@ -59,8 +57,6 @@ nth_or_nil-over dims c q h =
 pub queues_over-none : (q : List (List Ticket)) → queues_over 0 q ≡ q
 queues_over-none q = sym (is_each [] (length q) (λ c. map (ticket_over 0) (nth_or_nil q (bit_xor c 0))) q refl
     (λ c h. sym (over_none (nth_or_nil q (bit_xor c 0)) ∙ ap (nth_or_nil q) (xor_zero_r c))))
-
-pub ruleset seen = (length-over, nth_or_nil-over, queues_over-none)
 
 -- over some dimensions, and then over others
 pub queues_over-both : (x y : ℕ) (q : List (List Ticket)) → ((c : ℕ) → c < length q → bit_xor c y < length q)
@@ -316,18 +312,6 @@ module _ (dims : ℕ) (tiles : List (List Ticket)) {q : List (List Ticket)} (vie
     pub queue_at : map (ticket_over dims) (nth_or_nil tiles (bit_xor c dims)) ≡ nth_or_nil q c
     queue_at = sym (nth_or_nil-over dims c tiles (omega (arith, as_long)))
         ∙ ap (λ (r : List (List Ticket)). nth_or_nil r c) view
-
-    pub length_at : length (nth_or_nil tiles (bit_xor c dims)) ≡ length (nth_or_nil q c)
-    length_at = sym (length-map (nth_or_nil tiles (bit_xor c dims)) (ticket_over dims)) ∙ ap length queue_at
-
-    pub none_at : ((k : ℕ) → k < length tiles → list_any has_come (map (ticket_over dims) (nth_or_nil tiles k)) ≡ false)
-        → bit_xor c dims < length tiles → list_any has_come (nth_or_nil q c) ≡ false
-    none_at none there = rw (← queue_at) (none (bit_xor c dims) there)
-
-    pub place_at : (place : ℕ)
-        → option_map (ticket_over dims) (slice_get (nth_or_nil tiles (bit_xor c dims)) place) ≡ slice_get (nth_or_nil q c) place
-    place_at place = sym (slice_get-map (ticket_over dims) (nth_or_nil tiles (bit_xor c dims)) place)
-        ∙ ap (λ (ts : List Ticket). slice_get ts place) queue_at
 
   pub within_is : (room : ℕ) → ((c : ℕ) → c < length tiles → bit_xor c dims < length tiles)
       → All (λ ts. length ts ≤ room) tiles ↔ All (λ ts. length ts ≤ room) q

@@ -1,4 +1,4 @@
--- What a contract sees of tiles, at which nobody stands, before and after they change.
+-- The tickets of each chip in the tiles: where nobody stands, and before and after they change.
 use Rattle.std.proofs.Common.{◌≡◌, ℕ, zero, suc, ◌+◌, ◌/◌, ◌%◌, ◌<◌, ◌≤◌, List, [], length, map, replicate, false}
 use Rattle.std.proofs.Common.{refl, ap, ⊎_elim, arith, ◌-◌, ◌*◌, ◌^◌, Option, None, Bool, slice_set, set, sym, ◌∙◌}
 use Rattle.std.specs.List.{All}
@@ -19,14 +19,14 @@ use Rattle.cm_slots.specs.declared.order.Order.{Order}
 use Rattle.cm_slots.specs.Tickets.{ticket_of}
 use Rattle.cm_slots.specs.Choice.{exchanged_by}
 use Rattle.cm_slots.specs.Tiles.{slots_of, IsTile, IsQuiet}
-use Rattle.cm_slots.specs.Runs.{no_tile, tile_at, tickets_of, queues_in, AreEmptyTiles, tile_across, numbers_at, AreTiles}
-use Rattle.cm_slots.specs.Runs.{IsChanged, AreWithin}
+use Rattle.cm_slots.specs.Runs.{no_tile, tile_at, tickets_of, queues_in, AreEmptyTiles, tile_across, numbers_at}
+use Rattle.cm_slots.specs.Runs.{AreTiles, AreWithin}
 use Rattle.cm_slots.specs.declared.ticket.Ticket.{Ticket}
 use Rattle.cm_slots.specs.Queues.{place_of_leaver}
 use Rattle.cm_slots.proofs.Standing.{get_or-zeros, stands}
 use Rattle.cm_slots.proofs.Choosing.{place_by-nobody}
 use Rattle.cm_slots.proofs.Runs.{tiles_of_cube, across_in}
-use Rattle.cm_slots.proofs.Changing.{quiet_tickets, nobody_past, tile_there}
+use Rattle.cm_slots.proofs.Changing.{IsChanged, quiet_tickets, nobody_past, tile_there}
 
 -- a new tile
 abbrev pub blank_row : List ℕ
@@ -89,9 +89,6 @@ tiles_made chips tiles leaving few empty rows = record {
   past = λ c h l. quiet_tickets c tiles (empty_quiet empty (c / 64) (omega (arith, empty.long)));
 }
 
--- what is read of a list that a function makes
-pub ruleset seen = (length-tabulate, get_or-each_below, with_items_is)
-
 -- what was lent as a slice has what was written to the slice
 pub items-lent : {X : Type 0} (row : Vec X) (now : List X) → length now ≡ length row.items
     → (with_items row now).items ≡ now
@@ -110,10 +107,6 @@ module _ {chips : ℕ} {tiles : List Tile} {leaving : List (Option (List ℕ))} 
   pub ticket_list : (c : ℕ) → c < chips → tickets_of tiles c ≡ nth_or_nil q c
   ticket_list c h =
       sym (get_or-each_below chips (tickets_of tiles) c [] h) ∙ ap (λ (r : List (List Ticket)). nth_or_nil r c) view
-
-  -- where there are tiles there is one for each chip
-  pub made_for : 0 < length tiles → (c : ℕ) → c < length q → c / 64 < length tiles
-  made_for some c h = omega (arith, are.count some, as_many, h)
 
   -- nobody stands at any chip as long as there are no tiles; where somebody stands there is one
   pub nobody_yet : length tiles ≡ 0 → (c : ℕ) → c < chips → nth_or_nil q c ≡ []
@@ -237,23 +230,3 @@ within_view chips tiles room few k d h =
     omega (arith, read, few (k / 64) (k % 64) l (omega arith), length-map (numbers_at tiles k) ticket_of))
     (λ (l : length tiles ≤ k / 64). omega (arith, read, ap length (nobody_past tiles k l)))
     (cases_lt (k / 64) (length tiles))
-
--- ---- tiles that were lent
-
-module _ {chips chip : ℕ} {leaving : List (Option (List ℕ))} {q : List (List Ticket)} {lent : List Tile} (v : Vec Tile)
-    (are : AreTiles chips v.items leaving) (view : queues_in chips v.items ≡ q) (is : lent ≡ v.items)
-    (inside : chip < length q) where
-  pub lent_changed : (now : List Tile) (f : List Ticket → List Ticket) → chip / 64 < length v.items
-      → length now ≡ length lent
-      → IsChanged chip (f (tickets_of lent chip)) lent now → AreTiles chips (with_items v now).items leaving
-      × (queues_in chips (with_items v now).items ≡ slice_set q chip (f (nth_or_nil q chip)))
-  lent_changed now f there long step =
-      let many : length now ≡ length v.items = long ∙ ap length is in
-      let low : chip < chips = omega (arith, as_many are view) in
-      let changed : IsChanged chip (f (nth_or_nil q chip)) v.items now =
-      rw (← ticket_list are view chip low) (rw is at step) in
-      rw (items-lent v now many) (
-        tiles_kept are view now many refl changed.whole
-            (λ c past h. changed.others c h (λ e. absurd (omega (arith, e))) ∙ are.past c past h),
-        changed_queues are view now many chip (f (nth_or_nil q chip)) low there changed,
-      )

@@ -72,7 +72,7 @@ pub record AreLeavers (leaving : List (Option (List ℕ))) : Type 0 where
   pub taken : (c : ℕ) → c / 64 < length leaving → number_leaving leaving c ≢ 0
       → is_taken (number_leaving leaving c) ≡ true
 
--- what contracts see of tiles: the tickets of each of so many chips
+-- the tickets of each of so many chips, where they stand in the tiles
 abbrev pub queues_in : ℕ → List Tile → List (List Ticket)
 queues_in chips tiles = tabulate 0 chips (tickets_of tiles)
 
@@ -90,12 +90,6 @@ pub record AreKept (chips : ℕ) (tiles : Vec Tile) (leaving : Vec (Option (List
   pub are : AreTiles chips tiles.items leaving.items
   pub space : (chips + 63) / 64 ≤ vec_capacity tiles
   pub rows_space : (chips + 63) / 64 ≤ vec_capacity leaving
-
--- these tickets stand at one chip now, and at the others those that stood there
-pub record IsChanged (chip : ℕ) (tickets : List Ticket) (old new : List Tile) : Type 0 where
-  pub whole : All IsTile new
-  pub here : tickets_of new chip ≡ tickets
-  pub others : (c : ℕ) → c / 64 < length old → c ≢ chip → tickets_of new c ≡ tickets_of old c
 
 -- so many tiles, all of whose slots are 0
 pub record AreEmptyTiles (count : ℕ) (tiles : List Tile) : Type 0 where

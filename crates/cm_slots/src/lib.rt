@@ -2,7 +2,6 @@
 #![tactic(auto)]
 
 mod across;
-mod chips;
 mod choice;
 mod departing;
 pub mod laws;

@@ -5,15 +5,28 @@ ghost use Rattle.std.specs.List.{All, list_any};
 ghost use Rattle.cm_slots.specs.Tickets.{has_come};
 ghost use Rattle.cm_slots.specs.Tiles.{IsTile};
 ghost use Rattle.cm_slots.specs.Runs.{tile_at, leavers_at, tickets_of, AreWithin};
-ghost use Rattle.cm_slots.specs.Moves.{ticket_over, AreFirst, HasMoved};
+ghost use Rattle.cm_slots.specs.Moves.{ticket_over, AreFirst, HasMoved, AreQueues, AreSettled};
 
 use crate::rows::{Row, WIDTH};
 use crate::tile::Tile;
 
+/// Moves all tickets of a run of chips over the dimensions that were noted, and notes none.
+pub(crate) fn settle(tiles: &mut Vec<Tile>, leaving: &mut Vec<Option<Row>>, noted: &mut u16)
+    requires queues { (chips : ℕ) × AreQueues noted.old chips tiles.old leaving.old }
+    ensures value { (chips : ℕ) → AreQueues noted.old chips tiles.old leaving.old
+        → AreSettled noted.old chips tiles.old tiles.new leaving.new }
+    ensures none { noted.new ≡ 0 }
+{
+    if *noted != 0 {
+        move_over(tiles, leaving, *noted);
+        *noted = 0;
+    }
+}
+
 /// All tickets move over the dimensions d of which bit d is set. Who stands at each tile is put down here meanwhile. It
 /// stands apart so that one look tells where no dimension was noted.
 #[inline(never)]
-pub(crate) fn move_over(tiles: &mut [Tile], firsts: &mut [Option<Row>], dims: u16)
+fn move_over(tiles: &mut [Tile], firsts: &mut [Option<Row>], dims: u16)
     requires rows { length firsts.old ≡ length tiles.old }
     requires across { (t : ℕ) → t < length tiles.old → bit_xor t (dims / 64) < length tiles.old }
     requires whole { All IsTile tiles.old }

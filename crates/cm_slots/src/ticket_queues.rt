@@ -8,22 +8,37 @@ ghost use Rattle.cm_model.specs.Each.{tabulate};
 ghost use Rattle.cm_model.specs.Array.{each_chip, nth_or_nil};
 ghost use Rattle.cm_slots.specs.Queues.{stayers_of};
 ghost use Rattle.cm_slots.specs.Tickets.{has_to_go, has_come, ticket_going, queue_exchanged};
-ghost use Rattle.cm_slots.specs.Choice.{exchanged_by_number};
-ghost use Rattle.cm_slots.specs.Moves.{ticket_over, queues_over, AreMovable};
+ghost use Rattle.cm_slots.specs.Choice.{exchanged_by, exchanged_by_number};
+ghost use Rattle.cm_slots.specs.Moves.{ticket_over, queues_over};
 
+use crate::departing::{take_out, write_down};
+use crate::moving::{have_arrival_over, settle};
+use crate::order::Order;
+use crate::passes::cross;
+use crate::rows::{Row, WIDTH};
 use crate::shape::Shape;
-use crate::ticket::Ticket;
-use crate::tiles::Tiles;
+use crate::ticket::{Ticket, slot_with};
+use crate::tile::Tile;
+use crate::tiles::{copied_tiles, empty_all, make_tiles, next_arrived, no_leavers, tiles_for};
 use cm_bits::NoMemory;
 use std::alloc::Global;
 use std::marker::Model;
 
-/// The tickets of a run of chips. Where there is room for one at each chip, whoever stands there leaves it in every
-/// dimension: such dimensions are noted, and the tickets move over all of them at once when one is to be changed.
+/// The tickets of a run of chips, slot by slot: 64 chips that stand side by side make a tile, in which a
+/// step does the same at each of them. Behind the last chip the last tile may have places that are never
+/// read as chips. The tiles are made when the first ticket arrives, in memory that is reserved from the first on.
+///
+/// Where there is room for one at each chip, whoever stands there leaves it in every dimension: such dimensions
+/// are noted, and the tickets move over all of them at once when one is to be changed.
 #[derive(Debug, Drop)]
 pub struct TicketQueues {
-    /// The tickets, each where it stood before it crossed what is noted.
-    tiles: Tiles,
+    /// How many chips there are.
+    chips: usize,
+    /// Chip c stands at place c % 64 of tile c / 64. There are none as long as nobody has stood anywhere. Each ticket
+    /// stands where it stood before it crossed what is noted.
+    tiles: Vec<Tile>,
+    /// Between the two passes of a dimension, who leaves each tile that is made; else anything.
+    leaving: Vec<Option<Row>>,
     /// Bit d is set where all have crossed dimension d and have not been moved.
     noted: u16,
 }
@@ -31,33 +46,45 @@ pub struct TicketQueues {
 impl Model for TicketQueues {
     ghost use Rattle.std.specs.Prelude.{List};
     ghost use Rattle.cm_slots.specs.declared.ticket.Ticket.{Ticket};
-    ghost use Rattle.cm_slots.specs.Moves.{queues_over, AreMovable};
+    ghost use Rattle.cm_slots.specs.Runs.{queues_in};
+    ghost use Rattle.cm_slots.specs.Moves.{queues_over, AreQueues};
 
     ghost Value = { List (List Ticket) };
 
-    ghost view = { λ slots. queues_over slots.noted slots.tiles };
+    ghost view = { λ slots. queues_over slots.noted (queues_in slots.chips slots.tiles.items) };
 
-    ghost invariant = { λ slots. AreMovable slots.noted slots.tiles };
+    ghost invariant = { λ slots. AreQueues slots.noted slots.chips slots.tiles slots.leaving };
 }
 
-#[tactic(auto, using(crate::proofs::Moves::seen))]
+#[tactic(auto, using(crate::proofs::Queues::seen))]
 impl TicketQueues {
     /// Slots for so many chips, at which no ticket stands.
     pub fn new(alloc: Global, chips: usize) -> Result<TicketQueues, NoMemory>
         requires few { chips ≤ 4096 }
         ensures value { IfOk result (λ slots. slots ≡ tabulate 0 chips (λ c. [])) }
     {
-        let tiles = Tiles::new(alloc, chips)?;
-        Ok(TicketQueues { tiles, noted: 0 })
+        let count = tiles_for(chips);
+        let tiles = Vec::with_capacity(alloc, count)?;
+        let leaving = Vec::with_capacity(alloc, count)?;
+        Ok(TicketQueues {
+            chips,
+            tiles,
+            leaving,
+            noted: 0,
+        })
     }
 
     /// A second one, with the tickets of this one.
     pub fn copy(&self, alloc: Global) -> Result<TicketQueues, NoMemory>
         ensures value { IfOk result (λ slots. slots ≡ self.now) }
     {
-        let tiles = self.tiles.copy(alloc)?;
+        let count = tiles_for(self.chips);
+        let tiles = copied_tiles(alloc, &self.tiles, count)?;
+        let leaving = no_leavers(alloc, self.tiles.len(), count)?;
         Ok(TicketQueues {
+            chips: self.chips,
             tiles,
+            leaving,
             noted: self.noted,
         })
     }
@@ -67,7 +94,7 @@ impl TicketQueues {
         ensures value { result ≡ length self.now }
         ensures few { result ≤ 4096 }
     {
-        self.tiles.chips()
+        self.chips
     }
 
     /// How many tickets stand at a chip.
@@ -76,7 +103,11 @@ impl TicketQueues {
         ensures value { result ≡ length (nth_or_nil self.now chip) }
         ensures most { result ≤ 15 }
     {
-        self.tiles.len(chip ^ usize::from(self.noted))
+        if self.tiles.is_empty() {
+            return 0;
+        }
+        let stood_at = chip ^ usize::from(self.noted);
+        self.tiles[stood_at / WIDTH].len(stood_at % WIDTH)
     }
 
     /// The ticket at a place of a chip, if one stands there; at place 0 the first that came.
@@ -85,7 +116,11 @@ impl TicketQueues {
         ensures value { result ≡ slice_get (nth_or_nil self.now chip) place }
         ensures most { IfSome result (λ t. place < 15) }
     {
-        match self.tiles.ticket(chip ^ usize::from(self.noted), place) {
+        if self.tiles.is_empty() {
+            return None;
+        }
+        let stood_at = chip ^ usize::from(self.noted);
+        match self.tiles[stood_at / WIDTH].ticket(stood_at % WIDTH, place) {
             Some(ticket) => Some(over(ticket, self.noted)),
             None => None,
         }
@@ -97,7 +132,11 @@ impl TicketQueues {
         requires place { place < 15 }
         ensures taken { IsTrue result ↔ place < length (nth_or_nil self.now chip) }
     {
-        self.tiles.is_taken(chip ^ usize::from(self.noted), place)
+        if self.tiles.is_empty() {
+            return false;
+        }
+        let stood_at = chip ^ usize::from(self.noted);
+        self.tiles[stood_at / WIDTH].is_taken(stood_at % WIDTH, place)
     }
 
     /// Takes in a ticket at a chip, where it stands last.
@@ -107,8 +146,9 @@ impl TicketQueues {
         requires room { length (nth_or_nil self.old chip) < 15 }
         ensures value { self.new ≡ slice_set self.old chip (nth_or_nil self.old chip ++ ticket ∷ []) }
     {
-        settle(&mut self.tiles, &mut self.noted);
-        self.tiles.arrive(chip, ticket);
+        settle(&mut self.tiles, &mut self.leaving, &mut self.noted);
+        make_tiles(&mut self.tiles, &mut self.leaving, self.chips);
+        self.tiles[chip / WIDTH].arrive(chip % WIDTH, slot_with(ticket));
     }
 
     /// Puts a ticket in the place of one of a chip.
@@ -118,8 +158,8 @@ impl TicketQueues {
         requires place { place < length (nth_or_nil self.old chip) }
         ensures value { self.new ≡ slice_set self.old chip (slice_set (nth_or_nil self.old chip) place ticket) }
     {
-        settle(&mut self.tiles, &mut self.noted);
-        self.tiles.replace(chip, place, ticket);
+        settle(&mut self.tiles, &mut self.leaving, &mut self.noted);
+        self.tiles[chip / WIDTH].replace(chip % WIDTH, place, slot_with(ticket));
     }
 
     /// Takes out the ticket at a place of a chip; the later ones stand one place nearer the front.
@@ -128,8 +168,8 @@ impl TicketQueues {
         requires place { place < length (nth_or_nil self.old chip) }
         ensures value { self.new ≡ slice_set self.old chip (remove (nth_or_nil self.old chip) place) }
     {
-        settle(&mut self.tiles, &mut self.noted);
-        self.tiles.remove(chip, place);
+        settle(&mut self.tiles, &mut self.leaving, &mut self.noted);
+        self.tiles[chip / WIDTH].remove(chip % WIDTH, place);
     }
 
     /// The first chip from this one on at which a ticket stands whose message has arrived; as many as there are, if
@@ -142,12 +182,12 @@ impl TicketQueues {
         ensures most { result ≤ length self.now }
         ensures arrived { result < length self.now → list_any has_come (nth_or_nil self.now result) ≡ true }
     {
-        if self.noted == 0 {
-            self.tiles.next_arrived(from, sizes)
-        } else if self.tiles.has_arrival_over(self.noted) {
+        if self.noted != 0 {
             self.next_that_moved(from)
+        } else if self.tiles.is_empty() {
+            self.chips
         } else {
-            self.chips()
+            self.chips.min(next_arrived(&self.tiles, from, sizes))
         }
     }
 
@@ -160,13 +200,15 @@ impl TicketQueues {
         ensures most { result ≤ length self.now }
         ensures arrived { result < length self.now → list_any has_come (nth_or_nil self.now result) ≡ true }
     {
-        let chips = self.chips();
-        for chip in from..chips {
+        if !have_arrival_over(&self.tiles, self.noted) {
+            return self.chips;
+        }
+        for chip in from..self.chips {
             if self.has_arrival(chip) {
                 return chip;
             }
         }
-        chips
+        self.chips
     }
 
     /// Whether the ticket of a chip, of which it has one at most, is that of a message that has arrived.
@@ -185,7 +227,7 @@ impl TicketQueues {
     pub fn clear(&mut self)
         ensures value { self.new ≡ tabulate 0 (length self.old) (λ c. []) }
     {
-        self.tiles.clear();
+        empty_all(&mut self.tiles);
         self.noted = 0;
     }
 
@@ -193,7 +235,12 @@ impl TicketQueues {
     pub fn is_within(&self, room: usize) -> bool
         ensures within { IsTrue result ↔ All (λ ts. length ts ≤ room) self.now }
     {
-        self.tiles.is_within(room)
+        for tile in &self.tiles {
+            if !tile.is_within(room) {
+                return false;
+            }
+        }
+        true
     }
 
     /// The tickets of chips that span so many dimensions, with room for so many at each, cross one of them: all
@@ -207,12 +254,7 @@ impl TicketQueues {
             (λ c. queue_exchanged sizes.room dim (nth_or_nil self.old c) (nth_or_nil self.old (bit_xor c (2 ^ dim)))) }
         ensures within { All (λ ts. length ts ≤ sizes.room) self.new }
     {
-        if sizes.room == 1 {
-            self.note(span, dim);
-        } else {
-            settle(&mut self.tiles, &mut self.noted);
-            self.tiles.cross(span, sizes, dim);
-        }
+        self.cross_in(span, sizes, dim, Order::Arrival);
     }
 
     /// The same, where of those that have to cross the lowest number goes first: at each chip it leaves, or where none
@@ -226,11 +268,25 @@ impl TicketQueues {
             (nth_or_nil self.old c) (nth_or_nil self.old (bit_xor c (2 ^ dim)))) }
         ensures within { All (λ ts. length ts ≤ sizes.room) self.new }
     {
+        self.cross_in(span, sizes, dim, Order::Number);
+    }
+
+    /// The same in the order of arrival or by number.
+    #[inline(always)]
+    fn cross_in(&mut self, span: u8, sizes: Shape, dim: u8, order: Order)
+        requires dimension { span ≤ 12 }
+        requires dim { dim < span }
+        requires count { length self.old ≡ 2 ^ span }
+        requires within { All (λ ts. length ts ≤ sizes.room) self.old }
+        ensures value { self.new ≡ each_chip span (λ c. exchanged_by order sizes.room dim
+            (nth_or_nil self.old c) (nth_or_nil self.old (bit_xor c (2 ^ dim)))) }
+        ensures within { All (λ ts. length ts ≤ sizes.room) self.new }
+    {
         if sizes.room == 1 {
             self.note(span, dim);
         } else {
-            settle(&mut self.tiles, &mut self.noted);
-            self.tiles.cross_by_number(span, sizes, dim);
+            settle(&mut self.tiles, &mut self.leaving, &mut self.noted);
+            cross(&mut self.tiles, &mut self.leaving, sizes, dim, order);
         }
     }
 
@@ -255,20 +311,9 @@ impl TicketQueues {
         ensures going { leavers.new ≡ map (λ ts. ticket_going sizes.room dim ts) self.old }
         ensures space { All (λ ts. length ts < sizes.room) self.new }
     {
-        settle(&mut self.tiles, &mut self.noted);
-        self.tiles.leave(sizes, dim, leavers);
-    }
-}
-
-/// Moves all tickets over the dimensions that were noted, and notes none.
-fn settle(tiles: &mut Tiles, noted: &mut u16)
-    requires movable { AreMovable noted.old tiles.old }
-    ensures value { tiles.new ≡ queues_over noted.old tiles.old }
-    ensures none { noted.new ≡ 0 }
-{
-    if *noted != 0 {
-        tiles.move_over(*noted);
-        *noted = 0;
+        settle(&mut self.tiles, &mut self.leaving, &mut self.noted);
+        take_out(&mut self.tiles, &mut self.leaving, sizes, dim);
+        write_down(&self.leaving, leavers);
     }
 }
 

@@ -2,7 +2,9 @@
 
 ghost use Rattle.std.specs.Prelude.{◌≡◌, ◌↔◌, ◌≢◌, ℕ, ◌<◌, ◌≤◌, ◌++◌, [], ◌∷◌, IsFalse, IsTrue, true, length, remove};
 ghost use Rattle.std.specs.Prelude.{List, slice_index, slice_set, None, false, IfSome};
-ghost use Rattle.std.specs.List.{list_any};
+ghost use Rattle.std.specs.Prelude.{map};
+ghost use Rattle.std.specs.List.{list_any, slice_get};
+ghost use Rattle.cm_slots.specs.Tickets.{ticket_of};
 ghost use Rattle.cm_slots.specs.declared.order.Order.TheVariants.{Arrival, Number};
 ghost use Rattle.cm_slots.specs.Slots.{is_taken, is_arrival, leaver_at, slot_behind, AreSlots, IsBlank, AreTaken};
 ghost use Rattle.cm_slots.specs.Tiles.{slots_of, numbers_standing_at, IsShaped, IsQuiet, IsTile, HasLeft, HasTakenIn};
@@ -16,6 +18,7 @@ use crate::choice::{leave_from, places};
 use crate::order::Order;
 use crate::rows::{ROOM, Row, WIDTH, has_arrival, is_blank, leave, take_in};
 use crate::shape::Shape;
+use crate::ticket::{Ticket, ticket_in};
 
 /// 64 chips that stand side by side, and their tickets slot by slot: the one that came first in slot 0.
 #[derive(Debug, Drop)]
@@ -284,6 +287,19 @@ impl Tile {
             len += 1;
         }
         len
+    }
+
+    /// The ticket in a slot of a chip, if one stands there.
+    pub fn ticket(&self, place: usize, slot: usize) -> Option<Ticket>
+        requires place { place < 64 }
+        requires whole { IsTile self.now }
+        ensures value { result ≡ slice_get (map ticket_of (numbers_standing_at self.now place)) slot }
+        ensures most { IfSome result (λ t. slot < 15) }
+    {
+        if slot >= ROOM {
+            return None;
+        }
+        ticket_in(self.slot(place, slot))
     }
 
     /// Whether a ticket stands in a slot of a chip.
