@@ -1,6 +1,7 @@
 -- What a contract sees of the queues of a run of chips: where the tickets of a chip stand, and what becomes of them.
-use Rattle.std.proofs.Common.{◌≡◌, ℕ, ◌/◌, ◌%◌, ◌<◌, ◌≤◌, ◌==◌, Bool, true, false, List, [], ◌∷◌, ◌++◌, length, map}
-use Rattle.std.proofs.Common.{get_or, set, remove, Option, Some, refl, sym, ◌∙◌, ap, arith, slice_set, vec_len, ⊎_elim}
+use Rattle.std.proofs.Common.{◌≡◌, ℕ, ◌+◌, ◌/◌, ◌%◌, ◌<◌, ◌≤◌, ◌==◌, Bool, true, false, List, [], ◌∷◌, ◌++◌, length}
+use Rattle.std.proofs.Common.{map, get_or, set, remove, Option, Some, refl, sym, ◌∙◌, ap, arith, slice_set, vec_len}
+use Rattle.std.proofs.Common.{⊎_elim}
 use Rattle.std.specs.List.{All, list_any, slice_get}
 use Rattle.std.specs.Option.{option_map}
 use Rattle.std.proofs.lemmas.Bool.{cases_lt}
@@ -17,7 +18,7 @@ use Rattle.cm_slots.specs.declared.tile.Tile.{Tile}
 use Rattle.cm_slots.specs.Tickets.{ticket_of, has_come}
 use Rattle.cm_slots.specs.Tiles.{numbers_standing_at, IsTile, HasChanged}
 use Rattle.cm_slots.specs.Runs.{no_tile, tile_at, tickets_of, queues_in, AreTiles, AreKept, AreWithin}
-use Rattle.cm_slots.specs.Moves.{ticket_over, queues_over, AreQueues}
+use Rattle.cm_slots.specs.Moves.{ticket_over, queues_over, AreQueues, AreSettled}
 use Rattle.cm_slots.proofs.Changing.{IsChanged, chip_changed, nobody_past}
 use Rattle.cm_slots.proofs.Views.{as_many, ticket_list, nobody_yet, tiles_kept, changed_queues, within_view}
 use Rattle.cm_slots.proofs.Views.{within_everywhere}
@@ -47,6 +48,26 @@ none_noted none kept = record {
 pub over_none_noted : {noted : ℕ} (queues : List (List Ticket)) {q : List (List Ticket)} → noted ≡ 0 → queues ≡ q
     → queues_over noted queues ≡ q
 over_none_noted queues none view = rw none (queues_over-none queues ∙ view)
+
+-- each ticket of these queues stands at its chip
+pub record AreStanding (chips : ℕ) (q : List (List Ticket)) (tiles : Vec Tile) (leaving : Vec (Option (List ℕ)))
+    : Type 0 where
+  pub kept : AreKept chips tiles leaving
+  pub view : queues_in chips tiles.items ≡ q
+
+pub settled_stand : {noted chips : ℕ} {old new : Vec Tile} {leaving : Vec (Option (List ℕ))} {q : List (List Ticket)}
+    → AreSettled noted chips old new leaving → queues_over noted (queues_in chips old.items) ≡ q
+    → AreStanding chips q new leaving
+settled_stand settled view = record { kept = settled.kept; view = settled.value ∙ view }
+
+module _ {chips : ℕ} {tiles : Vec Tile} {leaving : Vec (Option (List ℕ))} {q : List (List Ticket)}
+    (stand : AreStanding chips q tiles leaving) where
+  pub made_stand : {made : Vec Tile} {left : Vec (Option (List ℕ))} → AreKept chips made left
+      → queues_in chips made.items ≡ queues_in chips tiles.items → AreStanding chips q made left
+  made_stand kept same = record { kept = kept; view = same ∙ stand.view }
+
+  pub made_there : length tiles.items ≡ (chips + 63) / 64 → (c : ℕ) → c < length q → c / 64 < length tiles.items
+  made_there count c h = omega (arith, count, h, as_many stand.kept.are stand.view)
 
 -- ---- a chip that is read
 
@@ -125,20 +146,20 @@ module _ {noted chips : ℕ} {tiles : Vec Tile} {leaving : Vec (Option (List ℕ
 -- ---- a chip that changes, where nothing is noted
 
 module _ {chips chip : ℕ} {tiles : Vec Tile} {leaving : Vec (Option (List ℕ))} {q : List (List Ticket)}
-    (kept : AreKept chips tiles leaving) (view : queues_in chips tiles.items ≡ q) (h : chip < length q)
+    (stand : AreStanding chips q tiles leaving) (h : chip < length q)
     (there : chip / 64 < length tiles.items) (tile : Tile) (read : tile ≡ get_or tiles.items (chip / 64) tile) where
   read_is : tile ≡ tile_at tiles.items (chip / 64)
   read_is = get_or_read tiles.items (chip / 64) tile there read no_tile
 
   low : chip < chips
-  low = omega (arith, as_many kept.are view)
+  low = omega (arith, as_many stand.kept.are stand.view)
 
   pub whole_here : IsTile tile
-  whole_here = rw read_is (kept.are.whole (chip / 64) no_tile there)
+  whole_here = rw read_is (stand.kept.are.whole (chip / 64) no_tile there)
 
   tickets_here : map ticket_of (numbers_standing_at tile (chip % 64)) ≡ nth_or_nil q chip
   tickets_here = ap (λ (here : Tile). map ticket_of (numbers_standing_at here (chip % 64))) read_is
-      ∙ ticket_list kept.are view chip low
+      ∙ ticket_list stand.kept.are stand.view chip low
 
   abbrev stand_here : List ℕ
   stand_here = numbers_standing_at tile (chip % 64)
@@ -158,10 +179,10 @@ module _ {chips chip : ℕ} {tiles : Vec Tile} {leaving : Vec (Option (List ℕ)
         × (queues_in chips new ≡ slice_set q chip tickets)
     put numbers tickets step told =
         let changed : IsChanged chip tickets tiles.items new =
-        chip_changed chip numbers tickets tiles.items now there kept.are.whole (rw read_is at step) told in (
-          tiles_kept kept.are view new long refl changed.whole
-              (λ c past l. changed.others c l (λ e. absurd (omega (arith, e, low))) ∙ kept.are.past c past l),
-          changed_queues kept.are view new long chip tickets low there changed,
+        chip_changed chip numbers tickets tiles.items now there stand.kept.are.whole (rw read_is at step) told in (
+          tiles_kept stand.kept.are stand.view new long refl changed.whole
+              (λ c past l. changed.others c l (λ e. absurd (omega (arith, e, low))) ∙ stand.kept.are.past c past l),
+          changed_queues stand.kept.are stand.view new long chip tickets low there changed,
         )
 
     module _ (slot : ℕ) (ticket : Ticket) (is : ticket_of slot ≡ ticket) where

@@ -1,6 +1,6 @@
-use Rattle.std.proofs.Common.{◌∙◌, arith}
+use Rattle.std.proofs.Common.{arith}
 use Rattle.cm_slots.proofs.Views.{stands_there}
-use Rattle.cm_slots.proofs.Queues.{none_noted, over_none_noted, whole_here, length_here, after_removal}
+use Rattle.cm_slots.proofs.Queues.{settled_stand, none_noted, over_none_noted, whole_here, length_here, after_removal}
 use Rattle.cm_slots.proofs.ticket_queues.TicketQueues.remove.Goals as goal
 
 pub settle-requires : goal.settle-requires
@@ -8,36 +8,32 @@ settle-requires c = record { queues = (c.self.inside.chips, c.self.invariant) }
 
 pub index_mut-requires : goal.index_mut-requires
 index_mut-requires c =
-    let settled = c.settle.ensures.value c.self.inside.chips c.self.invariant in
-    let view = settled.value ∙ c.self.view_is in
+    let settled = settled_stand (c.settle.ensures.value c.self.inside.chips c.self.invariant) c.self.view_is in
     omega (
       arith,
       c.settle.new.tiles.ok.0,
-      stands_there settled.kept.are view c.args.chip c.args.place c.requires.chip c.requires.place,
+      stands_there settled.kept.are settled.view c.args.chip c.args.place c.requires.chip c.requires.place,
     )
 
 pub remove-requires-clause-whole : goal.remove-requires-clause-whole
 remove-requires-clause-whole c =
-    let settled = c.settle.ensures.value c.self.inside.chips c.self.invariant in
-    let view = settled.value ∙ c.self.view_is in
-    let there = stands_there settled.kept.are view c.args.chip c.args.place c.requires.chip c.requires.place in
-    whole_here settled.kept view c.requires.chip there c.index_mut.result.now c.index_mut.ensures.value
+    let settled = settled_stand (c.settle.ensures.value c.self.inside.chips c.self.invariant) c.self.view_is in
+    let there = stands_there settled.kept.are settled.view c.args.chip c.args.place c.requires.chip c.requires.place in
+    whole_here settled c.requires.chip there c.index_mut.result.now c.index_mut.ensures.value
 
 pub remove-requires-clause-there : goal.remove-requires-clause-there
 remove-requires-clause-there c =
-    let settled = c.settle.ensures.value c.self.inside.chips c.self.invariant in
-    let view = settled.value ∙ c.self.view_is in
-    let there = stands_there settled.kept.are view c.args.chip c.args.place c.requires.chip c.requires.place in
-    let many = length_here settled.kept view c.requires.chip there c.index_mut.result.now c.index_mut.ensures.value in
+    let settled = settled_stand (c.settle.ensures.value c.self.inside.chips c.self.invariant) c.self.view_is in
+    let there = stands_there settled.kept.are settled.view c.args.chip c.args.place c.requires.chip c.requires.place in
+    let many = length_here settled c.requires.chip there c.index_mut.result.now c.index_mut.ensures.value in
     omega (arith, c.requires.place)
 
 pub invariant_of-self : goal.invariant_of-self
 invariant_of-self c =
-    let settled = c.settle.ensures.value c.self.inside.chips c.self.invariant in
-    let view = settled.value ∙ c.self.view_is in
-    let there = stands_there settled.kept.are view c.args.chip c.args.place c.requires.chip c.requires.place in
+    let settled = settled_stand (c.settle.ensures.value c.self.inside.chips c.self.invariant) c.self.view_is in
+    let there = stands_there settled.kept.are settled.view c.args.chip c.args.place c.requires.chip c.requires.place in
     none_noted c.settle.ensures.none (record {
-      are = (after_removal settled.kept view c.requires.chip there c.index_mut.result.now c.index_mut.ensures.value
+      are = (after_removal settled c.requires.chip there c.index_mut.result.now c.index_mut.ensures.value
           c.remove.new.self c.args.place c.remove.ensures.value).0;
       space = settled.kept.space;
       rows_space = settled.kept.rows_space;
@@ -45,11 +41,10 @@ invariant_of-self c =
 
 pub returns : goal.returns
 returns c =
-    let settled = c.settle.ensures.value c.self.inside.chips c.self.invariant in
-    let view = settled.value ∙ c.self.view_is in
-    let there = stands_there settled.kept.are view c.args.chip c.args.place c.requires.chip c.requires.place in
+    let settled = settled_stand (c.settle.ensures.value c.self.inside.chips c.self.invariant) c.self.view_is in
+    let there = stands_there settled.kept.are settled.view c.args.chip c.args.place c.requires.chip c.requires.place in
     record {
       value = over_none_noted _ c.settle.ensures.none
-          (after_removal settled.kept view c.requires.chip there c.index_mut.result.now c.index_mut.ensures.value
+          (after_removal settled c.requires.chip there c.index_mut.result.now c.index_mut.ensures.value
           c.remove.new.self c.args.place c.remove.ensures.value).1;
     }
