@@ -17,7 +17,7 @@ use cm_bits::{NoMemory, Plane};
 use cm_element::Run;
 use cm_message::Event;
 use cm_model::Act;
-use cm_petit::{cycle_into_row, is_at_rest};
+use cm_petit::{cycle, is_at_rest};
 use cm_router::Routing;
 use cm_router_engine::{RouterEngine, Shape};
 use std::alloc::Global;
@@ -77,7 +77,7 @@ fn run_one(sizes: Shape, parts: &mut ChipState, act: &Act)
             &mut parts.incoming,
         ),
         Act::Sense => {}
-        Act::Cycle => cycle_into_row(
+        Act::Cycle => cycle(
             sizes,
             &parts.routing,
             &mut parts.run,

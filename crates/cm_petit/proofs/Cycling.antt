@@ -1,5 +1,5 @@
 -- A petit cycle of the whole machine, step after step.
-use Rattle.std.proofs.Common.{◌≡◌, ℕ, zero, suc, ◌+◌, ◌-◌, ◌<◌, ◌≤◌, ◌^◌, List, [], length, sym, ap}
+use Rattle.std.proofs.Common.{◌≡◌, ℕ, zero, suc, ◌+◌, ◌-◌, ◌<◌, ◌≤◌, ◌^◌, List, [], length, refl, sym, ap}
 use Rattle.std.proofs.Common.{◌∙◌, arith, add-one, subst}
 use Rattle.std.specs.Prelude.{bit_xor}
 use Rattle.std.proofs.lemmas.Bool.Decides.{nat_tests}
@@ -11,7 +11,7 @@ use Rattle.cm_model.specs.Buffers.{leaving_place, outgoing, buffer_after_dimensi
 use Rattle.cm_model.specs.Buffers.{machine_after_injection, machine_after_dimension, machine_after_delivery}
 use Rattle.cm_model.specs.Machine.{Machine}
 use Rattle.cm_model.specs.Steps.{Inject, Deliver}
-use Rattle.cm_model.proofs.Cycles.{after_crossings, after_crossings-more, routing_in_cycle, after_cycle-is}
+use Rattle.cm_model.proofs.Cycles.{after_crossings, after_crossings-more, after_cycle-is}
 use Rattle.cm_model.proofs.Each.{is_each}
 use Rattle.cm_model.proofs.Flips.{across_below}
 use Rattle.cm_model.proofs.Wires.{way_of-across}
@@ -54,20 +54,21 @@ crossed_by_one_way routing n room d old =
 abbrev pub under_way : ℕ → ℕ → Machine → ℕ → Machine
 under_way n room m d = after_crossings n room (machine_after_injection n room m) d
 
+-- one dimension more
 pub crossed_more : (n room : ℕ) (m : Machine) (d : ℕ) {now : Machine} {next : List (List Message)}
-    → now ≡ under_way n room m d → next ≡ buffers_after_dimension m.routing n room d now.buffers
-    → record now { buffers = next } ≡ under_way n room m (d + 1)
+    → now ≡ after_crossings n room m d → next ≡ buffers_after_dimension now.routing n room d now.buffers
+    → record now { buffers = next } ≡ after_crossings n room m (d + 1)
 unfolding machine_after_dimension
 crossed_more n room m d {now} {next} was is =
-    let routing : now.routing ≡ m.routing = ap (λ (s : Machine). s.routing) was ∙ routing_in_cycle n room m d in
-    let same : next ≡ buffers_after_dimension now.routing n room d now.buffers =
-    is ∙ ap (λ (r : Routing). buffers_after_dimension r n room d now.buffers) (sym routing) in
-    (λ k. record now { buffers = same k }) ∙ ap (machine_after_dimension n room d) was
-    ∙ sym (after_crossings-more n room (machine_after_injection n room m) d)
+    (λ k. record now { buffers = is k }) ∙ ap (machine_after_dimension n room d) was
+    ∙ sym (after_crossings-more n room m d)
 
-pub cycle_is : (n room : ℕ) (m : Machine) {now after : Machine} → now ≡ under_way n room m n
-    → after ≡ machine_after_delivery n now → after ≡ after_act n room m act.Cycle
-cycle_is n room m was is = is ∙ ap (machine_after_delivery n) was ∙ sym (after_cycle-is n room m)
+-- the three phases are a petit cycle
+pub cycle_is : (n room : ℕ) (m : Machine) {begun now after : Machine} → begun ≡ machine_after_injection n room m
+    → now ≡ after_crossings n room begun n → after ≡ machine_after_delivery n now → after ≡ after_act n room m act.Cycle
+cycle_is n room m injected crossed delivered =
+    delivered ∙ ap (machine_after_delivery n) (crossed ∙ ap (λ (s : Machine). after_crossings n room s n) injected)
+    ∙ sym (after_cycle-is n room m)
 
 -- ---- where no message stands
 
@@ -77,13 +78,12 @@ unfolding buffer_after_dimension leaving_place
 stays_empty here there room d some = grind (arith, nat_tests)
 
 -- nothing crosses
-pub nothing_crosses : (n room : ℕ) (m now : Machine) → 0 < room → length now.buffers ≡ 2 ^ n
-    → ((c : ℕ) → c < 2 ^ n → nth_or_nil now.buffers c ≡ []) → now ≡ machine_after_injection n room m
-    → (d : ℕ) → d ≤ n → now ≡ under_way n room m d
-nothing_crosses n room m now some long empty begun zero few = begun
-nothing_crosses n room m now some long empty begun (suc d) few =
-    subst (λ (k : ℕ). now ≡ under_way n room m k) (add-one d)
-    (crossed_more n room m d (nothing_crosses n room m now some long empty begun d (omega arith))
-    (is_each [] (2 ^ n) _ now.buffers long (λ c l.
+pub nothing_crosses : (n room : ℕ) (m : Machine) → 0 < room → length m.buffers ≡ 2 ^ n
+    → ((c : ℕ) → c < 2 ^ n → nth_or_nil m.buffers c ≡ []) → (d : ℕ) → d ≤ n → m ≡ after_crossings n room m d
+nothing_crosses n room m some long empty zero few = refl
+nothing_crosses n room m some long empty (suc d) few =
+    subst (λ (k : ℕ). m ≡ after_crossings n room m k) (add-one d)
+    (crossed_more n room m d (nothing_crosses n room m some long empty d (omega arith))
+    (is_each [] (2 ^ n) _ m.buffers long (λ c l.
     rw (empty c l, empty (bit_xor c (2 ^ d)) (across_below n d c (omega arith) l))
     (sym (stays_empty (way_of m.routing c d) (way_of m.routing (bit_xor c (2 ^ d)) d) room d some)))))

@@ -49,7 +49,7 @@ module _ (routing : Routing) (n room : ℕ) (chips : Chips) (buffers : List (Lis
   resting clock idle same =
       let part : Part = part_from routing 0 (2 ^ n) chips buffers logs clock in
       let machine : Machine = machine_from routing chips buffers logs clock in
-      cycle_is n room machine (nothing_crosses n room machine machine some
-      are.buffer_count (λ k l. empty k [] (omega (arith, l, are.buffer_count)))
-      (injected_whole n room part refl refl (nothing_injected clock idle)) n (omega arith))
+      cycle_is n room machine (injected_whole n room part refl refl (nothing_injected clock idle))
+      (nothing_crosses n room machine some are.buffer_count (λ k l. empty k [] (omega (arith, l, are.buffer_count))) n
+      (omega arith))
       (delivered_whole n room part refl refl (nothing_delivered clock same))

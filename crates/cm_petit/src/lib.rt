@@ -1,12 +1,12 @@
-//! One petit cycle of the router, on all chips of a cube at once.
+//! One petit cycle of the router, on all chips of a cube at once, and its phases.
 #![tactic(auto)]
 
-mod into_row;
+mod machine;
 mod nodes;
 mod phases;
 mod ready;
 
-pub use into_row::cycle_into_row;
+pub use machine::cycle;
 pub use nodes::cycle_of_nodes;
-pub use phases::{cycle, deliver, inject};
+pub use phases::{cross_all, deliver, inject};
 pub use ready::{are_nodes, are_routers, has_log_room, has_space, is_at_rest};

@@ -1,54 +1,23 @@
-//! The parts of a petit cycle, each on all chips before the next begins.
+//! The phases of a petit cycle where each chip has a log: for parts of a machine, and for the laboratory. Each phase
+//! goes through all chips before the next begins.
 
-ghost use Rattle.std.specs.Prelude.{◌≡◌, ℕ, ◌+◌, ◌^◌, ◌<◌, ◌≤◌, length};
-ghost use Rattle.cm_model.specs.declared.act.Act.TheVariants as act;
-ghost use Rattle.cm_model.specs.Steps.{Inject, Deliver};
-ghost use Rattle.cm_model.specs.Buffers.{after_act};
+ghost use Rattle.std.specs.Prelude.{◌≡◌, ℕ, ◌+◌, ◌^◌, ◌≤◌, List, length, map};
+ghost use Rattle.std.specs.List.{All, range_with_len};
+ghost use Rattle.cm_model.specs.declared.message.Event.{Event as Told};
+ghost use Rattle.cm_model.specs.Array.{Chips};
+ghost use Rattle.cm_model.specs.Steps.{Inject, Cross, Deliver};
+ghost use Rattle.cm_model.specs.Buffers.{after_steps};
 ghost use Rattle.cm_model.specs.Wiring.{Routing as Routes};
 ghost use Rattle.cm_blocks.specs.Parcels.{Blank};
 ghost use Rattle.cm_blocks.specs.Steps.{part_after};
 ghost use Rattle.cm_router.specs.Routes.{routing_of};
 ghost use Rattle.cm_router.specs.Logs.{log_rooms_of, HaveLogRoom, LoseAtMost};
-ghost use Rattle.cm_petit.specs.Routers.{machine_from_logs, part_from_logs, AreRouters};
+ghost use Rattle.cm_petit.specs.Routers.{machine_from, part_from_logs, AreRouters};
 
 use cm_element::Run;
 use cm_message::Event;
 use cm_router::{Deliveries, Routing, is_idle, pass_over};
 use cm_router_engine::{RouterEngine, Shape};
-
-/// One petit cycle: every router takes messages in, they cross each dimension, from the lowest on,
-/// and those that have arrived go to their processors (a dimension at a time: Hillis 1985; the order:
-/// ours). The counter is one more then.
-pub fn cycle(
-    sizes: Shape,
-    routing: &Routing,
-    run: &mut Run,
-    crossing: &mut RouterEngine,
-    logs: &mut [Vec<Event>],
-    clock: &mut u64,
-)
-    requires cube { routing.now.cuts.dims ≡ sizes.dims }
-    requires routers { AreRouters (2 ^ sizes.dims) sizes.room run.old crossing.old.buffers logs.old }
-    requires log_room { HaveLogRoom (4 + sizes.room) (log_rooms_of logs.old) }
-    requires counter { clock.old < 2 ^ 63 }
-    ensures value { machine_from_logs (routing_of routing.now) run.new crossing.new.buffers logs.new clock.new
-        ≡ after_act sizes.dims sizes.room
-        (machine_from_logs (routing_of routing.now) run.old crossing.old.buffers logs.old clock.old) act.Cycle }
-    ensures counter { clock.new ≡ clock.old + 1 }
-    ensures routers { AreRouters (2 ^ sizes.dims) sizes.room run.new crossing.new.buffers logs.new }
-    ensures log_room { LoseAtMost (4 + sizes.room) (log_rooms_of logs.old) (log_rooms_of logs.new) }
-{
-    inject(sizes, 0, run, crossing, logs, *clock);
-    *clock += 1;
-    if crossing.is_empty() {
-        pass_over(run);
-        return;
-    }
-    for dim in 0..sizes.dims {
-        crossing.cross(sizes, sizes.dims, routing, 0, dim);
-    }
-    deliver(sizes, 0, run, crossing, logs);
-}
 
 /// Every router of a run of chips takes in messages of its chip's processors. The run begins at chip `first` of
 /// the machine. A chip that this leaves as it is is passed over.
@@ -78,6 +47,27 @@ pub fn inject(
         let chip = c as u16;
         crossing.inject(sizes, run, chip, first + chip, clock, &mut logs[c]);
         c = crossing.next_injecting(sizes, run, c + 1);
+    }
+}
+
+/// Messages of a whole machine cross each dimension, from the lowest on. Where no message stands nothing is done.
+pub fn cross_all(sizes: Shape, routing: &Routing, crossing: &mut RouterEngine)
+    requires cube { routing.now.cuts.dims ≡ sizes.dims }
+    requires count { length crossing.old.buffers ≡ 2 ^ sizes.dims }
+    requires within { All (λ ms. length ms ≤ sizes.room) crossing.old.buffers }
+    ensures value { (chips : Chips) (logs : List (List Told)) (clock : ℕ)
+        → machine_from (routing_of routing.now) chips crossing.new.buffers logs clock
+        ≡ after_steps sizes.dims sizes.room
+        (machine_from (routing_of routing.now) chips crossing.old.buffers logs clock)
+        (map Cross (range_with_len 0 sizes.dims)) }
+    ensures count { length crossing.new.buffers ≡ 2 ^ sizes.dims }
+    ensures within { All (λ ms. length ms ≤ sizes.room) crossing.new.buffers }
+{
+    if crossing.is_empty() {
+        return;
+    }
+    for dim in 0..sizes.dims {
+        crossing.cross(sizes, sizes.dims, routing, 0, dim);
     }
 }
 

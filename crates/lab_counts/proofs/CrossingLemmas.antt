@@ -1,10 +1,14 @@
 -- Crossings that are counted in a petit cycle, dimension after dimension.
 use Rattle.std.proofs.Common.{◌≡◌, ℕ, zero, suc, ◌+◌, ◌^◌, List, get_or, set, refl, sym, ap, ◌∙◌, add-one}
 use Rattle.cm_model.specs.declared.message.Message.{Message}
+use Rattle.cm_model.specs.declared.message.Event.{Event}
+use Rattle.cm_model.specs.Array.{Chips}
+use Rattle.cm_model.specs.Wiring.{Routing}
 use Rattle.cm_model.specs.Machine.{Machine}
-use Rattle.cm_model.specs.Buffers.{buffers_after_dimension, machine_after_injection, machine_after_dimension}
-use Rattle.cm_model.proofs.Cycles.{after_crossings-more}
-use Rattle.cm_petit.proofs.Cycling.{under_way, crossed_more}
+use Rattle.cm_model.specs.Buffers.{machine_after_injection, machine_after_dimension}
+use Rattle.cm_model.proofs.Cycles.{after_crossings, after_crossings-more, routing_in_cycle}
+use Rattle.cm_petit.specs.Routers.{machine_from}
+use Rattle.cm_petit.proofs.Cycling.{under_way}
 use Rattle.lab_counts.specs.declared.crossings.Crossings.{Crossings}
 use Rattle.lab_counts.specs.Chips.{chips_to, chips_through}
 use Rattle.lab_counts.specs.Crossings.{crossings_added, no_crossings, crossings_to, machine_before, crossings_through}
@@ -17,12 +21,18 @@ machine_before-is n cap m (suc d) =
     ∙ (sym (after_crossings-more n cap (machine_after_injection n cap m) d)
     ∙ ap (under_way n cap m) (add-one d))
 
--- one dimension more
-pub before_more : (n cap : ℕ) (m : Machine) (d : ℕ) {now : Machine} {next : List (List Message)}
-    → now ≡ machine_before n cap m d → next ≡ buffers_after_dimension m.routing n cap d now.buffers
-    → record now { buffers = next } ≡ machine_before n cap m (d + 1)
-before_more n cap m d was is =
-    crossed_more n cap m d (was ∙ machine_before-is n cap m d) is ∙ sym (machine_before-is n cap m (d + 1))
+-- the buffers that a petit cycle comes to, if they are those of any chips, events and count after so many dimensions
+pub stand_before : (n cap : ℕ) (m : Machine) (routing : Routing) (old now : List (List Message)) (d : ℕ)
+    → routing ≡ m.routing → old ≡ (machine_after_injection n cap m).buffers
+    → ((chips : Chips) (logs : List (List Event)) (clock : ℕ) → machine_from routing chips now logs clock
+    ≡ after_crossings n cap (machine_from routing chips old logs clock) d) → now ≡ (machine_before n cap m d).buffers
+stand_before n cap m routing old now d routes stand crossed =
+    let begun : Machine = machine_after_injection n cap m in
+    let routes_then : routing ≡ begun.routing = routes ∙ sym (routing_in_cycle n cap m 0) in
+    let same : machine_from routing begun.chips old begun.logs begun.clock ≡ begun =
+    λ i. machine_from (routes_then i) begun.chips (stand i) begun.logs begun.clock in
+    ap (λ (s : Machine). s.buffers) (crossed begun.chips begun.logs begun.clock
+    ∙ (ap (λ (s : Machine). after_crossings n cap s d) same ∙ sym (machine_before-is n cap m d)))
 
 pub through_more : (n cap : ℕ) (m : Machine) (dims old : List Crossings) (d : ℕ) (entry more : Crossings)
     (buffers : List (List Message)) → old ≡ crossings_through n cap m dims d → entry ≡ get_or old d no_crossings

@@ -8,10 +8,10 @@ ghost use Rattle.cm_router.specs.Logs.{log_rooms_of, HaveLogRoom};
 ghost use Rattle.cm_petit.specs.Routers.{machine_from_logs, AreRouters};
 ghost use Rattle.lab_counts.specs.Counts.{nothing_counted, with_crossed, chips_crossed};
 
-use crate::crossings::{Crossings, counted_cycle};
+use crate::crossings::{Crossings, cross_and_count};
 use cm_element::Run;
 use cm_message::Event;
-use cm_petit::cycle;
+use cm_petit::{cross_all, deliver, inject};
 use cm_router::Routing;
 use cm_router_engine::{RouterEngine, Shape};
 
@@ -64,18 +64,12 @@ pub fn watched_cycle(
     ensures chips { chips.new ≡ chips_crossed counts.old.is_on sizes.dims sizes.room
         (machine_from_logs (routing_of routing.now) run.old crossing.old.buffers logs.old clock.old) chips.old }
 {
-    if !counts.is_on {
-        cycle(sizes, routing, run, crossing, logs, clock);
-        return;
+    inject(sizes, 0, run, crossing, logs, *clock);
+    *clock += 1;
+    if counts.is_on {
+        cross_and_count(sizes, routing, crossing, &mut counts.dims, chips);
+    } else {
+        cross_all(sizes, routing, crossing);
     }
-    counted_cycle(
-        sizes,
-        routing,
-        run,
-        crossing,
-        logs,
-        clock,
-        &mut counts.dims,
-        chips,
-    );
+    deliver(sizes, 0, run, crossing, logs);
 }

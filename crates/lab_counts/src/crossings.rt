@@ -1,20 +1,20 @@
 //! What a petit cycle does in each dimension.
 
-ghost use Rattle.std.specs.Prelude.{◌≡◌, ◌+◌, ◌^◌, ◌<◌, ◌≤◌, length};
-ghost use Rattle.std.specs.List.{All, count_by};
-ghost use Rattle.cm_model.specs.declared.act.Act.TheVariants as act;
+ghost use Rattle.std.specs.Prelude.{◌≡◌, ℕ, ◌^◌, ◌<◌, ◌≤◌, List, length, map};
+ghost use Rattle.std.specs.List.{All, count_by, range_with_len};
+ghost use Rattle.cm_model.specs.declared.message.Event.{Event as Told};
+ghost use Rattle.cm_model.specs.Array.{Chips};
 ghost use Rattle.cm_model.specs.Router.{has_to_cross};
-ghost use Rattle.cm_model.specs.Buffers.{after_act};
+ghost use Rattle.cm_model.specs.Steps.{Cross};
+ghost use Rattle.cm_model.specs.Machine.{Machine};
+ghost use Rattle.cm_model.specs.Buffers.{machine_after_injection, after_steps};
 ghost use Rattle.cm_router.specs.Routes.{routing_of};
-ghost use Rattle.cm_router.specs.Logs.{log_rooms_of, HaveLogRoom};
-ghost use Rattle.cm_petit.specs.Routers.{machine_from_logs, AreRouters};
+ghost use Rattle.cm_petit.specs.Routers.{machine_from};
 ghost use Rattle.lab_counts.specs.Crossings.{crossings_added, in_all, was_referred, crossings_at, crossings_to};
 ghost use Rattle.lab_counts.specs.Crossings.{crossings_through, with_crossings};
 ghost use Rattle.lab_counts.specs.Chips.{chips_to, chips_through};
 
-use cm_element::Run;
-use cm_message::{Event, Message, Rule};
-use cm_petit::{deliver, inject};
+use cm_message::{Message, Rule};
 use cm_router::{Node, Routing};
 use cm_router_engine::{RouterEngine, Shape};
 
@@ -60,43 +60,38 @@ pub fn in_all(known: &[Crossings]) -> Crossings
     all
 }
 
-/// One petit cycle, as `cycle` of cm_petit is one, of which the crossings are counted by dimension, and at each of the
-/// first chips that `by_chip` has.
-pub(crate) fn counted_cycle(
+/// Messages of a whole machine cross each dimension, from the lowest on. The crossings are counted by dimension, and at
+/// each of the first chips that `by_chip` has.
+pub(crate) fn cross_and_count(
     sizes: Shape,
     routing: &Routing,
-    run: &mut Run,
     crossing: &mut RouterEngine,
-    logs: &mut [Vec<Event>],
-    clock: &mut u64,
     dims: &mut [Crossings; 12],
     by_chip: &mut [Crossings],
 )
     requires cube { routing.now.cuts.dims ≡ sizes.dims }
-    requires routers { AreRouters (2 ^ sizes.dims) sizes.room run.old crossing.old.buffers logs.old }
-    requires log_room { HaveLogRoom (4 + sizes.room) (log_rooms_of logs.old) }
-    requires counter { clock.old < 2 ^ 63 }
-    ensures value { machine_from_logs (routing_of routing.now) run.new crossing.new.buffers logs.new clock.new
-        ≡ after_act sizes.dims sizes.room
-        (machine_from_logs (routing_of routing.now) run.old crossing.old.buffers logs.old clock.old) act.Cycle }
-    ensures counter { clock.new ≡ clock.old + 1 }
-    ensures routers { AreRouters (2 ^ sizes.dims) sizes.room run.new crossing.new.buffers logs.new }
-    ensures crossings { dims.new ≡ crossings_through sizes.dims sizes.room
-        (machine_from_logs (routing_of routing.now) run.old crossing.old.buffers logs.old clock.old) dims.old
-        sizes.dims }
-    ensures chips { by_chip.new ≡ chips_through sizes.dims sizes.room
-        (machine_from_logs (routing_of routing.now) run.old crossing.old.buffers logs.old clock.old) by_chip.old
-        sizes.dims }
+    requires count { length crossing.old.buffers ≡ 2 ^ sizes.dims }
+    requires within { All (λ ms. length ms ≤ sizes.room) crossing.old.buffers }
+    ensures value { (chips : Chips) (logs : List (List Told)) (clock : ℕ)
+        → machine_from (routing_of routing.now) chips crossing.new.buffers logs clock
+        ≡ after_steps sizes.dims sizes.room
+        (machine_from (routing_of routing.now) chips crossing.old.buffers logs clock)
+        (map Cross (range_with_len 0 sizes.dims)) }
+    ensures count { length crossing.new.buffers ≡ 2 ^ sizes.dims }
+    ensures within { All (λ ms. length ms ≤ sizes.room) crossing.new.buffers }
+    ensures crossings { (m : Machine) → routing_of routing.now ≡ m.routing
+        → crossing.old.buffers ≡ (machine_after_injection sizes.dims sizes.room m).buffers
+        → dims.new ≡ crossings_through sizes.dims sizes.room m dims.old sizes.dims }
+    ensures chips { (m : Machine) → routing_of routing.now ≡ m.routing
+        → crossing.old.buffers ≡ (machine_after_injection sizes.dims sizes.room m).buffers
+        → by_chip.new ≡ chips_through sizes.dims sizes.room m by_chip.old sizes.dims }
 {
-    inject(sizes, 0, run, crossing, logs, *clock);
-    *clock += 1;
     for dim in 0..sizes.dims {
         let more = crossings_over(sizes, routing, crossing, dim, by_chip);
         let d = usize::from(dim);
         dims[d] = dims[d].added(more);
         crossing.cross(sizes, sizes.dims, routing, 0, dim);
     }
-    deliver(sizes, 0, run, crossing, logs);
 }
 
 /// Those of all chips in a dimension, before it is crossed, together and by chip.

@@ -16,7 +16,7 @@ use cm_bits::{NoMemory, Plane};
 use cm_element::{ChipView, Run};
 use cm_message::{Event, Message, Rule};
 use cm_model::{Act, Nano};
-use cm_petit::{cycle, deliver, inject};
+use cm_petit::{cross_all, deliver, inject};
 use cm_router::Routing;
 use cm_router_engine::{RouterEngine, Shape};
 use std::alloc::Global;
@@ -263,14 +263,23 @@ impl LabMachine {
             &mut self.logs,
             EVENTS_OF_INJECTION + usize::from(self.shape.room),
         )?;
-        cycle(
+        inject(
             self.shape,
-            &self.routing,
+            0,
             &mut self.run,
             &mut self.engine,
             &mut self.logs,
-            &mut self.clock,
+            self.clock,
         );
+        cross_all(self.shape, &self.routing, &mut self.engine);
+        deliver(
+            self.shape,
+            0,
+            &mut self.run,
+            &mut self.engine,
+            &mut self.logs,
+        );
+        self.clock += 1;
         self.engine.gather();
         Ok(())
     }

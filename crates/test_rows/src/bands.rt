@@ -9,7 +9,7 @@ use cm_bits::{Addr, Dir, Field, FlagNo, Proc};
 use cm_element::Run;
 use cm_message::{Event, Message, Tag};
 use cm_model::Nano;
-use cm_petit::{are_routers, cycle, deliver, has_log_room, has_space, inject};
+use cm_petit::{are_routers, deliver, has_log_room, has_space, inject};
 use cm_router::{Routing, Rule};
 use cm_router_engine::{RouterEngine, Shape};
 use std::alloc::Global;
@@ -160,24 +160,7 @@ impl Band {
 
     // A petit cycle of a whole machine.
     pub(crate) fn cycle(&mut self) -> bool {
-        let sizes = self.sizes;
-        if self.run.chips() != 1 << sizes.dims
-            || !is_of_cube(&self.routing, sizes)
-            || self.clock >= 1 << 62
-            || !are_routers(sizes, &self.run, &self.crossing, &self.logs)
-            || !has_log_room(&self.logs, 4 + usize::from(sizes.room))
-        {
-            return false;
-        }
-        cycle(
-            sizes,
-            &self.routing,
-            &mut self.run,
-            &mut self.crossing,
-            &mut self.logs,
-            &mut self.clock,
-        );
-        true
+        self.inject() && self.cross_own() && self.deliver()
     }
 
     fn inject(&mut self) -> bool {

@@ -4,7 +4,7 @@ use crate::bands::{Band, ask, has_same_planes, next, sizes};
 use crate::routes::{Routes, is_of_cube, routed};
 use cm_element::Run;
 use cm_message::Event;
-use cm_petit::cycle_into_row;
+use cm_petit::cycle;
 use cm_router::{Routing, Rule};
 use cm_router_engine::{RouterEngine, Shape};
 use std::alloc::Global;
@@ -96,7 +96,7 @@ impl Rowed {
         {
             return false;
         }
-        cycle_into_row(
+        cycle(
             sizes,
             &self.routing,
             &mut self.run,

@@ -21,8 +21,8 @@ returns-in-Nano-clause-parts c =
     (ap length (items-lent before.sent now.sent sent) ∙ sent)
     (ap length (items-lent before.incoming now.incoming incoming) ∙ incoming)
 
-pub cycle_into_row-requires-clause-buffers : goal.cycle_into_row-requires-clause-buffers
-cycle_into_row-requires-clause-buffers c =
+pub cycle-requires-clause-buffers : goal.cycle-requires-clause-buffers
+cycle-requires-clause-buffers c =
     HaveBuffers-parts c.args.sizes.dims c.args.sizes.room c.args.parts.now c.requires.parts
 
 pub returns-in-Cycle-clause-parts : goal.returns-in-Cycle-clause-parts
@@ -31,13 +31,13 @@ returns-in-Cycle-clause-parts c =
     let counted : before.clock + cycles_in (Cycle ∷ []) < 2 ^ 63 =
     subst (λ (a : Act). before.clock + cycles_in (a ∷ []) < 2 ^ 63) c.in-Cycle.is c.requires.clock in
     AreUnderWay-after_act c.args.sizes.dims c.args.sizes.room Cycle before _ c.requires.parts
-    (c.cycle_into_row.ensures.value (events_of before.logs.items)
+    (c.cycle.ensures.value (events_of before.logs.items)
     (length-events c.args.sizes.dims c.args.sizes.room before c.requires.parts))
-    refl refl refl (omega (arith, counted, c.cycle_into_row.ensures.counter))
+    refl refl refl (omega (arith, counted, c.cycle.ensures.counter))
 
 pub returns-in-Cycle-clause-value : goal.returns-in-Cycle-clause-value
 returns-in-Cycle-clause-value c =
     let before = c.args.parts.now in
-    c.cycle_into_row.ensures.value (events_of before.logs.items)
+    c.cycle.ensures.value (events_of before.logs.items)
     (length-events c.args.sizes.dims c.args.sizes.room before c.requires.parts)
     ∙ ap (after_act c.args.sizes.dims c.args.sizes.room (machine_of before)) (sym c.in-Cycle.is)

@@ -19,5 +19,5 @@ loop-dim-preserved c = record {
 pub returns-clause-value : goal.returns-clause-value
 returns-clause-value c =
     let all : c.loop-dim.dim ≡ c.args.sizes.dims = omega arith in
-    cycle_is c.args.sizes.dims c.args.sizes.room _ (rw all at c.loop-dim.invariant.crossed)
+    cycle_is c.args.sizes.dims c.args.sizes.room _ refl (rw all at c.loop-dim.invariant.crossed)
     (delivered_whole _ _ _ refl refl (c.deliver_from_nodes.ensures.value (routing_of c.args.routing.now) c.args.clock))

@@ -3,7 +3,7 @@ use Rattle.std.specs.List.{All}
 use Rattle.cm_router.specs.Deliveries.{run_after, AreBefore}
 use Rattle.cm_petit.proofs.Making.{delivering}
 use Rattle.cm_petit.proofs.IntoRow.{AreTold}
-use Rattle.cm_petit.proofs.into_row.deliver_into_row.Given as goal
+use Rattle.cm_petit.proofs.machine.deliver.Given as goal
 
 abbrev pub invariant-loop-c : goal.invariant-loop-c
 invariant-loop-c l = record {

@@ -2,7 +2,7 @@ use Rattle.std.proofs.Common.{◌-◌, ◌≤◌, ◌^◌, length}
 use Rattle.std.specs.List.{All}
 use Rattle.cm_petit.proofs.Making.{injecting}
 use Rattle.cm_petit.proofs.IntoRow.{AreTold}
-use Rattle.cm_petit.proofs.into_row.inject_into_row.Given as goal
+use Rattle.cm_petit.proofs.machine.inject.Given as goal
 
 abbrev pub invariant-loop-c : goal.invariant-loop-c
 invariant-loop-c l = record {

@@ -1,4 +1,4 @@
-//! A petit cycle whose events are told into one row, one behind the other.
+//! The petit cycle of a whole machine: all its events go into one row, one behind the other.
 
 ghost use Rattle.std.specs.Prelude.{◌≡◌, ℕ, ◌+◌, ◌*◌, ◌^◌, ◌<◌, ◌≤◌, List, length, vec_len, vec_capacity};
 ghost use Rattle.cm_model.specs.declared.act.Act.TheVariants as act;
@@ -13,14 +13,16 @@ ghost use Rattle.cm_router.specs.Logs.{log_room};
 ghost use Rattle.cm_router.specs.Rows.{with_row};
 ghost use Rattle.cm_petit.specs.Routers.{machine_from, part_from, HaveBuffers};
 
+use crate::phases::cross_all;
 use cm_element::Run;
 use cm_message::Event;
 use cm_router::{Deliveries, Routing, is_idle, pass_over};
 use cm_router_engine::{RouterEngine, Shape};
 
-/// One petit cycle, as `cycle` is one, whose events all go into one row. Behind logs by chip the row stands for more
-/// events of each.
-pub fn cycle_into_row(
+/// One petit cycle of a whole machine: every router takes messages in, they cross each dimension, from the lowest on,
+/// and those that have arrived go to their processors (a dimension at a time: Hillis 1985; the order: ours). The
+/// counter is one more then. All events go into one row: behind logs by chip the row stands for more events of each.
+pub fn cycle(
     sizes: Shape,
     routing: &Routing,
     run: &mut Run,
@@ -42,20 +44,18 @@ pub fn cycle_into_row(
     ensures len { vec_len row.new ≤ vec_len row.old + 2 ^ sizes.dims * (4 + sizes.room) }
     ensures capacity { vec_capacity row.old ≤ vec_capacity row.new }
 {
-    inject_into_row(sizes, run, crossing, row, *clock);
+    inject(sizes, run, crossing, row, *clock);
     *clock += 1;
     if crossing.is_empty() {
         pass_over(run);
         return;
     }
-    for dim in 0..sizes.dims {
-        crossing.cross(sizes, sizes.dims, routing, 0, dim);
-    }
-    deliver_into_row(sizes, run, crossing, row);
+    cross_all(sizes, routing, crossing);
+    deliver(sizes, run, crossing, row);
 }
 
 /// Every router takes in messages of its chip's processors. A chip that this leaves as it is is passed over.
-fn inject_into_row(
+fn inject(
     sizes: Shape,
     run: &mut Run,
     crossing: &mut RouterEngine,
@@ -85,7 +85,7 @@ fn inject_into_row(
 }
 
 /// Messages that have arrived go to their processors. A chip at which none has arrived is passed over.
-fn deliver_into_row(sizes: Shape, run: &mut Run, crossing: &mut RouterEngine, row: &mut Vec<Event>)
+fn deliver(sizes: Shape, run: &mut Run, crossing: &mut RouterEngine, row: &mut Vec<Event>)
     requires buffers { HaveBuffers (2 ^ sizes.dims) sizes.room run.old crossing.old.buffers }
     requires log_room { 2 ^ sizes.dims * sizes.room ≤ log_room row.old }
     ensures value { (routing : Routes) (logs : List (List Told)) (clock : ℕ) → length logs ≡ 2 ^ sizes.dims

@@ -3,7 +3,7 @@ use Rattle.cm_blocks.specs.Steps.{part_after}
 use Rattle.cm_router.proofs.Telling.{told_of_delivered}
 use Rattle.cm_petit.proofs.Making.{done_all, delivering_nothing}
 use Rattle.cm_petit.proofs.IntoRow.{told_none, told_past, told_one, row_takes, row_taken}
-use Rattle.cm_petit.proofs.into_row.deliver_into_row.Goals as goal
+use Rattle.cm_petit.proofs.machine.deliver.Goals as goal
 
 pub loop-c-init : goal.loop-c-init
 loop-c-init c =

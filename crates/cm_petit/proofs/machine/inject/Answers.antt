@@ -3,7 +3,7 @@ use Rattle.cm_blocks.specs.Steps.{part_after}
 use Rattle.cm_router.proofs.Telling.{length-with_row, told_of_sent}
 use Rattle.cm_petit.proofs.Making.{injecting, done_none, done_past, done_all, injecting_nothing, injecting_passed}
 use Rattle.cm_petit.proofs.IntoRow.{told_none, told_past, told_one, row_takes, row_taken}
-use Rattle.cm_petit.proofs.into_row.inject_into_row.Goals as goal
+use Rattle.cm_petit.proofs.machine.inject.Goals as goal
 
 pub returns-then-is_idle-clause-value : goal.returns-then-is_idle-clause-value
 unfolding part_after

@@ -1,0 +1,18 @@
+use Rattle.std.proofs.Common.{◌≡◌, ℕ, ◌≤◌, ◌^◌, List, length}
+use Rattle.std.specs.List.{All}
+use Rattle.cm_model.specs.declared.message.Event.{Event}
+use Rattle.cm_model.specs.Array.{Chips}
+use Rattle.cm_model.proofs.Cycles.{after_crossings}
+use Rattle.cm_router.specs.Routes.{routing_of}
+use Rattle.cm_petit.specs.Routers.{machine_from}
+use Rattle.cm_petit.proofs.phases.cross_all.Given as goal
+
+abbrev pub invariant-loop-dim : goal.invariant-loop-dim
+invariant-loop-dim l = record {
+  crossed : (chips : Chips) (logs : List (List Event)) (clock : ℕ)
+      → machine_from (routing_of l.routing) chips l.crossing.buffers logs clock
+      ≡ after_crossings l.sizes.dims l.sizes.room
+      (machine_from (routing_of l.routing) chips l.fn.crossing.buffers logs clock) l.dim;
+  count : length l.crossing.buffers ≡ 2 ^ l.sizes.dims;
+  within : All (λ ms. length ms ≤ l.sizes.room) l.crossing.buffers;
+}
