@@ -12,7 +12,6 @@ mod machine;
 mod part;
 mod poke_laws;
 mod put;
-mod room;
 mod routing;
 mod row;
 mod runner;
