@@ -15,7 +15,6 @@ use Rattle.cm_model.specs.declared.message.Message.{Message}
 use Rattle.cm_model.specs.declared.message.Event.{Event}
 use Rattle.cm_model.specs.Processor.{Processor}
 use Rattle.cm_model.specs.Whole.{IsChip}
-use Rattle.cm_model.specs.Wiring.{plain_routing}
 use Rattle.cm_model.specs.Array.{Chips, chip_at, after_nano}
 use Rattle.cm_model.specs.Each.{tabulate}
 use Rattle.cm_model.specs.Chip.{blank_chip, with_flag}
@@ -35,6 +34,7 @@ use Rattle.cm_router.proofs.Telling.{length-with_row, with_row-nil}
 use Rattle.cm_petit.specs.Routers.{events_of, HaveBuffers}
 use Rattle.cm_array.specs.declared.chip_state.ChipState.{ChipState}
 use Rattle.cm_array.specs.Acts.{cycles_in, is_instruction}
+use Rattle.cm_array.specs.Fresh.{IsBlankState, IsCopy}
 use Rattle.cm_array.specs.Parts.{machine_of, AreSized, AreParts, AreUnderWay}
 use Rattle.cm_array.proofs.Lists.{each_after_set}
 use Rattle.cm_array.proofs.Rooms.{cycles_in-append}
@@ -67,6 +67,22 @@ AreUnderWay-parts n cap parts h = record {
   machine = h.machine;
 }
 
+-- a fact of two sizes is one of two that are equal to them
+pub at_sizes : (P : ℕ → ℕ → Type 0) (n cap d r : ℕ) → d ≡ n → r ≡ cap → P n cap → P d r
+at_sizes P n cap d r dims room h =
+    subst (λ (k : ℕ). P d k) (sym room) (subst (λ (k : ℕ). P k cap) (sym dims) h)
+
+-- so parts are of the sizes of their own shape
+pub AreParts-at_shape : (n cap : ℕ) (parts : ChipState) → AreParts n cap parts
+    → AreParts parts.shape.dims parts.shape.room parts
+AreParts-at_shape n cap parts h =
+    at_sizes (λ d r. AreParts d r parts) n cap parts.shape.dims parts.shape.room h.sized.dims h.sized.room h
+
+pub AreUnderWay-at_shape : (n cap : ℕ) (parts : ChipState) → AreUnderWay n cap parts
+    → AreUnderWay parts.shape.dims parts.shape.room parts
+AreUnderWay-at_shape n cap parts h =
+    at_sizes (λ d r. AreUnderWay d r parts) n cap parts.shape.dims parts.shape.room h.sized.dims h.sized.room h
+
 -- and once the messages are gathered they are the parts of a machine between two lists
 pub machine_of-gathered : (parts : ChipState) (crossing : InFlight) → crossing.buffers ≡ parts.crossing.buffers
     → machine_of (record parts { crossing = crossing }) ≡ machine_of parts
@@ -88,12 +104,34 @@ AreParts-gathered n cap parts crossing same gathered h = record {
   machine = subst (λ (m : Machine). IsMachine n cap m) (sym (machine_of-gathered parts crossing same)) h.machine;
 }
 
--- with rows as long, another count, and wires of the same cube, they are sized still
-pub AreSized-again : (n cap count : ℕ) (old new : ChipState) → AreSized n cap count old
+-- with more room in the row they are what they were
+pub machine_of-with_row : (parts : ChipState) (row : Vec Event) → row.items ≡ parts.row.items
+    → machine_of (record parts { row = row }) ≡ machine_of parts
+machine_of-with_row parts row same =
+    λ i. record {
+      chips = parts.run;
+      buffers = parts.crossing.buffers;
+      logs = with_row (events_of parts.logs.items) (same i);
+      clock = parts.clock;
+      routing = routing_of parts.routing;
+    }
+
+pub AreParts-with_row : (n cap : ℕ) (parts : ChipState) (row : Vec Event) → row.items ≡ parts.row.items → AreParts n cap parts
+    → AreParts n cap (record parts { row = row })
+AreParts-with_row n cap parts row same h = record {
+  sized = h.sized;
+  gathered = h.gathered;
+  machine = subst (λ (m : Machine). IsMachine n cap m) (sym (machine_of-with_row parts row same)) h.machine;
+}
+
+-- with the same shape, rows as long, another count, and wires of the same cube, they are sized still
+pub AreSized-again : (n cap count : ℕ) (old new : ChipState) → AreSized n cap count old → new.shape ≡ old.shape
     → length new.sent.items ≡ length old.sent.items → length new.incoming.items ≡ length old.incoming.items
     → new.clock < 2 ^ 63 → new.routing.cuts.dims ≡ old.routing.cuts.dims → AreSized n cap count new
-AreSized-again n cap count old new h sent incoming clock cube = record {
+AreSized-again n cap count old new h shape sent incoming clock cube = record {
   sizes = h.sizes;
+  dims = (λ i. (shape i).dims) ∙ h.dims;
+  room = (λ i. (shape i).room) ∙ h.room;
   sent_count = sent ∙ h.sent_count;
   incoming_count = incoming ∙ h.incoming_count;
   clock = clock;
@@ -102,11 +140,11 @@ AreSized-again n cap count old new h sent incoming clock cube = record {
 
 -- after an act the parts are the parts of a machine, if sizes are as before
 pub AreUnderWay-after_act : (n cap : ℕ) (a : Act) (before after : ChipState) → AreUnderWay n cap before
-    → machine_of after ≡ after_act n cap (machine_of before) a
+    → machine_of after ≡ after_act n cap (machine_of before) a → after.shape ≡ before.shape
     → length after.sent.items ≡ length before.sent.items → length after.incoming.items ≡ length before.incoming.items
     → after.routing ≡ before.routing → after.clock < 2 ^ 63 → AreUnderWay n cap after
-AreUnderWay-after_act n cap a before after h is same_sent same_incoming routing clock = record {
-  sized = AreSized-again n cap (2 ^ n) before after h.sized same_sent same_incoming clock
+AreUnderWay-after_act n cap a before after h is shape same_sent same_incoming routing clock = record {
+  sized = AreSized-again n cap (2 ^ n) before after h.sized shape same_sent same_incoming clock
       (ap (λ (r : Routing). r.cuts.dims) routing);
   machine = subst (λ (m : Machine). IsMachine n cap m) (sym is)
       (IsMachine-after_act n cap (machine_of before) a h.machine);
@@ -120,14 +158,14 @@ pub AreUnderWay-instructed : (n cap : ℕ) (nano : Nano) (before : ChipState) (r
 AreUnderWay-instructed n cap nano before run sent incoming h is same_sent same_incoming =
     AreUnderWay-after_act n cap (act.Nano nano) before
     (record before { run = run; sent = sent; incoming = incoming }) h
-    (λ i. record (machine_of before) { chips = is i }) same_sent same_incoming refl h.sized.clock
+    (λ i. record (machine_of before) { chips = is i }) refl same_sent same_incoming refl h.sized.clock
 
 -- where the counter alone is another after acts, they are the parts of a machine still
 pub AreParts-counted : (n cap : ℕ) (acts : List Act) (parts : ChipState) (clock : ℕ) → AreParts n cap parts
     → machine_of (record parts { clock = clock }) ≡ run_of n cap (machine_of parts) acts → clock < 2 ^ 63
     → AreParts n cap (record parts { clock = clock })
 AreParts-counted n cap acts parts clock h is few = record {
-  sized = AreSized-again n cap (2 ^ n) parts (record parts { clock = clock }) h.sized refl refl few refl;
+  sized = AreSized-again n cap (2 ^ n) parts (record parts { clock = clock }) h.sized refl refl refl few refl;
   gathered = h.gathered;
   machine = subst (λ (m : Machine). IsMachine n cap m) (sym is)
       (IsMachine-run_of n cap (machine_of parts) acts h.machine);
@@ -208,44 +246,42 @@ AreOf-parts n cap parts machine h view = record {
 -- ---- blank parts
 
 -- blank parts are the blank machine, at whatever count of petit cycles
-pub machine_of-blank : (n count : ℕ) (parts : ChipState) → count ≡ 2 ^ n → parts.run ≡ tabulate 0 count (λ c. blank_chip)
-    → parts.crossing.buffers ≡ tabulate 0 count (λ c. []) → events_of parts.logs.items ≡ tabulate 0 count (λ c. [])
-    → parts.row.items ≡ [] → routing_of parts.routing ≡ plain_routing → machine_of parts ≡ record (blank_machine n) { clock = parts.clock }
+pub machine_of-blank : (n cap count clock : ℕ) (parts : ChipState) → count ≡ 2 ^ n → IsBlankState n cap count clock parts
+    → machine_of parts ≡ record (blank_machine n) { clock = clock }
 unfolding blank_machine
-machine_of-blank n count parts all chips buffers logs row plain =
-    let all_chips : parts.run ≡ tabulate 0 (2 ^ n) (λ c. blank_chip) = chips
+machine_of-blank n cap count clock parts all is =
+    let all_chips : parts.run ≡ tabulate 0 (2 ^ n) (λ c. blank_chip) = is.chips
     ∙ ap (λ (k : ℕ). tabulate 0 k (λ c. blank_chip)) all in
-    let all_buffers : parts.crossing.buffers ≡ tabulate 0 (2 ^ n) (λ c. []) = buffers
+    let all_buffers : parts.crossing.buffers ≡ tabulate 0 (2 ^ n) (λ c. []) = is.buffers
     ∙ ap (λ (k : ℕ). tabulate 0 k (λ c. [])) all in
     let events : List (List Event) = events_of parts.logs.items in
     let all_logs : with_row events parts.row.items ≡ tabulate 0 (2 ^ n) (λ c. []) =
-    ap (with_row events) row ∙ with_row-nil events ∙ logs
+    ap (with_row events) is.row ∙ with_row-nil events ∙ is.logs
     ∙ ap (λ (k : ℕ). tabulate 0 k (λ c. [])) all in
     λ i. record {
       chips = all_chips i;
       buffers = all_buffers i;
       logs = all_logs i;
-      clock = parts.clock;
-      routing = plain i;
+      clock = is.clock i;
+      routing = is.routing i;
     }
 
 -- they are the parts of a machine
-pub AreParts-blank : (n cap count : ℕ) (parts : ChipState) → AreSizes n cap → count ≡ 2 ^ n
-    → parts.run ≡ tabulate 0 count (λ c. blank_chip)
-    → parts.crossing.buffers ≡ tabulate 0 count (λ c. []) → events_of parts.logs.items ≡ tabulate 0 count (λ c. [])
-    → parts.row.items ≡ [] → length parts.sent.items ≡ count → length parts.incoming.items ≡ count → IsTrue parts.crossing.gathered
-    → parts.clock < 2 ^ 63 → parts.routing.cuts.dims ≡ n → routing_of parts.routing ≡ plain_routing → AreParts n cap parts
-AreParts-blank n cap count parts sizes all chips buffers logs row same_sent same_incoming gathered clock cube plain = record {
+pub AreParts-blank : (n cap count clock : ℕ) (parts : ChipState) → AreSizes n cap → count ≡ 2 ^ n → clock < 2 ^ 63
+    → IsBlankState n cap count clock parts → AreParts n cap parts
+AreParts-blank n cap count clock parts sizes all few is = record {
   sized = record {
     sizes = sizes;
-    sent_count = same_sent ∙ all;
-    incoming_count = same_incoming ∙ all;
-    clock = clock;
-    cube = cube;
+    dims = is.dims;
+    room = is.room;
+    sent_count = is.sent ∙ all;
+    incoming_count = is.incoming ∙ all;
+    clock = omega (arith, is.clock, few);
+    cube = is.cube;
   };
-  gathered = gathered;
-  machine = subst (λ (m : Machine). IsMachine n cap m)
-      (sym (machine_of-blank n count parts all chips buffers logs row plain)) (IsMachine-blank_at n cap parts.clock);
+  gathered = is.gathered;
+  machine = subst (λ (m : Machine). IsMachine n cap m) (sym (machine_of-blank n cap count clock parts all is))
+      (IsMachine-blank_at n cap clock);
 }
 
 -- the blank machine counts from 0
@@ -276,29 +312,26 @@ AreParts-poked_flag (Err y) n cap parts run i p number b below refused ok err h 
     subst (λ (chips : Chips). AreParts n cap (record parts { run = chips })) (sym err) h
 
 -- a copy of the parts of a machine, with working room of its own, are the parts of a machine
-pub AreParts-copied : (n cap count : ℕ) (parts copy : ChipState) → AreParts n cap parts → count ≡ length parts.run
-    → copy.run ≡ parts.run → copy.crossing ≡ parts.crossing → events_of copy.logs.items ≡ events_of parts.logs.items
-    → copy.row.items ≡ parts.row.items
-    → copy.clock ≡ parts.clock → length copy.sent.items ≡ count → length copy.incoming.items ≡ count
-    → copy.routing ≡ parts.routing → AreParts n cap copy
-AreParts-copied n cap count parts copy h counted chips crossing logs row clock sent incoming routing =
-    let all : count ≡ 2 ^ n = counted ∙ h.machine.chip_count in
-    record {
-      sized = record {
-        sizes = h.sized.sizes;
-        sent_count = sent ∙ all;
-        incoming_count = incoming ∙ all;
-        clock = omega (arith, clock, h.sized.clock);
-        cube = ap (λ (r : Routing). r.cuts.dims) routing ∙ h.sized.cube;
-      };
-      gathered = subst (λ (u : InFlight). IsTrue u.gathered) (sym crossing) h.gathered;
-      machine = subst (λ (m : Machine). IsMachine n cap m)
-          (λ i. record {
-            chips = sym chips i;
-            buffers = (sym crossing i).buffers;
-            logs = with_row (sym logs i) (sym row i);
-            clock = sym clock i;
-            routing = routing_of (sym routing i);
-          })
-          h.machine;
-    }
+pub machine_of-copied : (parts copy : ChipState) → IsCopy parts copy → machine_of copy ≡ machine_of parts
+machine_of-copied parts copy is = λ i. record {
+  chips = is.chips i;
+  buffers = (is.crossing i).buffers;
+  logs = with_row (is.logs i) (is.row i);
+  clock = is.clock i;
+  routing = routing_of (is.routing i);
+}
+
+pub AreParts-copied : (n cap : ℕ) (parts copy : ChipState) → AreParts n cap parts → IsCopy parts copy → AreParts n cap copy
+AreParts-copied n cap parts copy h is = record {
+  sized = record {
+    sizes = h.sized.sizes;
+    dims = (λ i. (is.shape i).dims) ∙ h.sized.dims;
+    room = (λ i. (is.shape i).room) ∙ h.sized.room;
+    sent_count = is.sent ∙ h.machine.chip_count;
+    incoming_count = is.incoming ∙ h.machine.chip_count;
+    clock = omega (arith, is.clock, h.sized.clock);
+    cube = ap (λ (r : Routing). r.cuts.dims) is.routing ∙ h.sized.cube;
+  };
+  gathered = subst (λ (u : InFlight). IsTrue u.gathered) (sym is.crossing) h.gathered;
+  machine = subst (λ (m : Machine). IsMachine n cap m) (sym (machine_of-copied parts copy is)) h.machine;
+}

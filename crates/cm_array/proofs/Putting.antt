@@ -100,7 +100,7 @@ some_put lists_of (s ∷ rest) j at now all long some = omega (arith, all)
 -- ---- into a machine
 
 -- what is kept, as much as of a cube of n dimensions, once the first j pieces are put
-pub record ArePut (n : ℕ) (pieces : List Part) (j at : ℕ) (now : ChipState) : Type 0 where
+pub record ArePut (n cap : ℕ) (pieces : List Part) (j at : ℕ) (now : ChipState) : Type 0 where
   pub chips : IsPut (λ s. s.chips) pieces j at now.run
   pub buffers : IsPut (λ s. s.buffers) pieces j at now.crossing.buffers
   pub logs : IsPut (λ s. s.logs) pieces j at (events_of now.logs.items)
@@ -111,13 +111,15 @@ pub record ArePut (n : ℕ) (pieces : List Part) (j at : ℕ) (now : ChipState) 
   pub log_count : length now.logs.items ≡ 2 ^ n
   pub sent_count : length now.sent.items ≡ 2 ^ n
   pub incoming_count : length now.incoming.items ≡ 2 ^ n
+  pub dims : now.shape.dims ≡ n
+  pub room : now.shape.room ≡ cap
   pub cube : now.routing.cuts.dims ≡ n
   pub clock : 0 < j → now.clock ≡ first_clock pieces
   pub routing : 0 < j → routing_of now.routing ≡ first_routing pieces
   pub within : 0 < j → now.clock < 2 ^ 63
 
 -- all of them, gathered, are the machine that the pieces are
-module _ (n cap : ℕ) (pieces : List Part) (j at : ℕ) (now : ChipState) (crossing : InFlight) (were : ArePut n pieces j at now)
+module _ (n cap : ℕ) (pieces : List Part) (j at : ℕ) (now : ChipState) (crossing : InFlight) (were : ArePut n cap pieces j at now)
     (all : j ≡ length pieces) (is : IsMachine n cap (joined pieces)) (same : crossing.buffers ≡ now.crossing.buffers)
   where
     long : length now.run ≡ length (joined pieces).chips
@@ -144,6 +146,8 @@ module _ (n cap : ℕ) (pieces : List Part) (j at : ℕ) (now : ChipState) (cros
     AreParts-all_put sizes gathered = record {
       sized = record {
         sizes = sizes;
+        dims = were.dims;
+        room = were.room;
         sent_count = were.sent_count;
         incoming_count = were.incoming_count;
         clock = were.within some;
@@ -155,11 +159,11 @@ module _ (n cap : ℕ) (pieces : List Part) (j at : ℕ) (now : ChipState) (cros
 
 -- so what is kept then are the parts of a machine
 pub AreParts-put : (n cap : ℕ) (old new : ChipState) (machine : Machine) → AreParts n cap old → IsMachine n cap machine
-    → machine_of new ≡ machine → IsTrue new.crossing.gathered
+    → machine_of new ≡ machine → IsTrue new.crossing.gathered → new.shape ≡ old.shape
     → length new.sent.items ≡ length old.sent.items → length new.incoming.items ≡ length old.incoming.items
     → new.clock < 2 ^ 63 → new.routing.cuts.dims ≡ old.routing.cuts.dims → AreParts n cap new
-AreParts-put n cap old new machine were is same gathered sent incoming clock cube = record {
-  sized = AreSized-again n cap (2 ^ n) old new were.sized sent incoming clock cube;
+AreParts-put n cap old new machine were is same gathered shape sent incoming clock cube = record {
+  sized = AreSized-again n cap (2 ^ n) old new were.sized shape sent incoming clock cube;
   gathered = gathered;
   machine = subst (λ (m : Machine). IsMachine n cap m) (sym same) is;
 }

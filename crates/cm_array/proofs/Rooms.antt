@@ -1,8 +1,7 @@
 -- How many events more each log takes, and how many petit cycles are among acts.
-use Rattle.std.proofs.Common.{◌≡◌, ◌≢◌, ℕ, ◌+◌, ◌*◌, ◌<◌, ◌≤◌, Result, Ok, Err, OnErr, List, [], ◌∷◌, ◌++◌, length}
-use Rattle.std.proofs.Common.{get_or, set, take, cond, min, ◌-◌, ◌/◌, ◌^◌, slice_index, sym, subst, ◌∙◌, ap, arith}
+use Rattle.std.proofs.Common.{◌≡◌, ◌≢◌, ℕ, ◌+◌, ◌*◌, ◌<◌, ◌≤◌, Result, Ok, Err, IfOk, OnErr, OnOk, List, [], ◌∷◌, ◌++◌, length}
+use Rattle.std.proofs.Common.{get_or, set, take, cond, ◌-◌, ◌/◌, sym, ◌∙◌, ap, arith}
 use Rattle.std.proofs.Common.{mul_comm, mul_assoc}
-use Rattle.std.proofs.lemmas.Bool.Decides.{nat_tests}
 use Rattle.std.proofs.Common.{below_more}
 use Rattle.std.proofs.lemmas.List.{length-map, get_or-map, length-replicate, get_or-replicate, take_more}
 use Rattle.std.proofs.lemmas.Nat.{div_below}
@@ -11,7 +10,7 @@ use Rattle.std.proofs.Math.Nat.{mul-le-mul_right}
 use Rattle.std.proofs.Math.Seq.{map-set_same}
 use Rattle.std.specs.Prelude.{vec_len, vec_capacity}
 use Rattle.cm_model.specs.declared.act.Act.{Act}
-use Rattle.cm_router.specs.Logs.{Log, log_room, log_rooms_of, HaveLogRoom}
+use Rattle.cm_router.specs.Logs.{Log, log_room, log_rooms_of}
 use Rattle.cm_router.proofs.Rooms.{room_at, room_written, room_of_others}
 use Rattle.cm_petit.specs.Routers.{events_of}
 use Rattle.cm_array.specs.Acts.{is_cycle, cycles_in}
@@ -50,19 +49,24 @@ room_lacks logs was more c none l same some full kept = record {
       omega (arith, get_or-map log_room logs c none 0 l, kept, few);
 }
 
--- room for as many as a number tells, in logs that cannot have so much, is room for more than that
-pub room_that_can_be : (wanted more : ℕ) (rooms : List ℕ) → more ≡ min wanted (2 ^ 64 - 1)
-    → (0 < length rooms → more < 2 ^ 63)
-    → HaveLogRoom more rooms → HaveLogRoom wanted rooms
-room_that_can_be wanted more rooms is can_be room i below =
-    let few = can_be (omega (arith, below)) in
-    let same : more ≡ wanted = grind (arith, nat_tests) in
-    subst (λ (m : ℕ). m ≤ slice_index rooms i) same (room i below)
-
 -- a fact that holds holds of every error
 pub on_err : {A E P : Type 0} (result : Result A E) → P → OnErr result P
 on_err (Ok x) p = tt
 on_err (Err e) p = p
+
+-- a fact of a result that follows from another
+pub on_err_from : {A E P Q : Type 0} (result : Result A E) → (P → Q) → OnErr result P → OnErr result Q
+on_err_from (Ok x) f p = tt
+on_err_from (Err e) f p = f p
+
+pub on_ok_from : {A E P Q : Type 0} (result : Result A E) → (P → Q) → OnOk result P → OnOk result Q
+on_ok_from (Ok x) f p = f p
+on_ok_from (Err e) f p = tt
+
+pub if_ok_from : {A E : Type 0} (P Q : A → Type 0) (result : Result A E) → ((x : A) → P x → Q x) → IfOk result P
+    → IfOk result Q
+if_ok_from P Q (Ok x) f p = f x p
+if_ok_from P Q (Err e) f p = tt
 
 -- ---- room in a row for a run of acts
 

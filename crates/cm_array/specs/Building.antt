@@ -22,20 +22,11 @@ pub record IsUnfinished (n cap : ℕ) (machine : Machine) : Type 0 where
   pub unlogged : IsUnlogged n machine
   pub routing : IsRouting n machine.routing
 
--- the parts that a builder has, whose chips are filled near
-abbrev pub parts_built : {n cap : ℕ} → Inside n cap → ChipState
-parts_built builder = record {
-  run = builder.run;
-  logs = builder.logs;
-  row = builder.row;
-  clock = builder.clock;
-  sent = builder.sent;
-  incoming = builder.incoming;
-  crossing = builder.crossing;
-  routing = builder.routing;
-}
+-- the state of the chips that a builder has, which are filled near
+abbrev pub state_built : {n cap : ℕ} → Inside n cap → ChipState
+state_built builder = record builder.state { run = builder.run }
 
--- the parts of such a machine, with sizes and working room as every machine has them
-pub record AreUnfinished (n cap : ℕ) (parts : ChipState) : Type 0 where
-  pub sized : AreSized n cap (2 ^ n) parts
-  pub machine : IsUnfinished n cap (machine_of parts)
+-- the chips of such a machine, with sizes and working room as every machine has them
+pub record AreUnfinished (n cap : ℕ) (state : ChipState) : Type 0 where
+  pub sized : AreSized n cap (2 ^ n) state
+  pub machine : IsUnfinished n cap (machine_of state)

@@ -1,14 +1,14 @@
 -- Parts that are cut out of a machine, as they are kept, and the machine that parts are one after another. Ours.
-use Rattle.std.specs.Prelude.{◌≡◌, ℕ, ◌+◌, ◌<◌, ◌≤◌, ◌^◌, Bool, List, [], ◌∷◌, length}
+use Rattle.std.specs.Prelude.{◌≡◌, ℕ, ◌+◌, ◌<◌, ◌≤◌, ◌^◌, Bool, IsTrue, List, [], ◌∷◌, length}
 use Rattle.std.specs.List.{All, flat_map}
 use Rattle.cm_model.specs.Array.{nth_or_nil}
 use Rattle.cm_model.specs.Wiring.{Routing, plain_routing}
 use Rattle.cm_model.specs.Machine.{Machine}
 use Rattle.cm_model.specs.Keeping.{IsMachine}
-use Rattle.cm_blocks.specs.Parts.{Part}
-use Rattle.cm_petit.specs.Routers.{part_from_logs}
+use Rattle.cm_blocks.specs.Parts.{Part, sliced}
+use Rattle.cm_petit.specs.Routers.{events_of, part_from_logs}
 use Rattle.cm_array.specs.declared.chip_state.ChipState.{ChipState}
-use Rattle.cm_array.specs.Parts.{AreSized}
+use Rattle.cm_array.specs.Parts.{machine_of, AreSized}
 use Rattle.cm_router.specs.Logs.{log_rooms_of}
 use Rattle.cm_router.specs.Routes.{routing_of}
 
@@ -24,23 +24,54 @@ pub record PartView : Type 0 where
   pub gathered : Bool
 
 -- that of a part that begins at chip `first`
-abbrev pub part_view : ℕ → ℕ → ℕ → ChipState → PartView
-part_view dims room first parts = record {
-  dims = dims;
-  room = room;
-  part = part_from_logs (routing_of parts.routing) first (length parts.run) parts.run parts.crossing.buffers parts.logs.items
-      parts.clock;
-  log_rooms = log_rooms_of parts.logs.items;
-  gathered = parts.crossing.gathered;
+abbrev pub part_view : ℕ → ChipState → PartView
+part_view first state = record {
+  dims = state.shape.dims;
+  room = state.shape.room;
+  part = part_from_logs (routing_of state.routing) first (length state.run) state.run state.crossing.buffers state.logs.items
+      state.clock;
+  log_rooms = log_rooms_of state.logs.items;
+  gathered = state.crossing.gathered;
 }
 
 -- some chips of a cube of n dimensions, with a buffer, a log and working room for each
-pub record IsPartView (n cap first : ℕ) (parts : ChipState) : Type 0 where
-  pub sized : AreSized n cap (length parts.run) parts
-  pub there : first + length parts.run ≤ 2 ^ n
-  pub buffer_count : length parts.crossing.buffers ≡ length parts.run
-  pub log_count : length parts.logs.items ≡ length parts.run
-  pub within : All (λ ms. length ms ≤ cap) parts.crossing.buffers
+pub record IsPartView (n cap first : ℕ) (state : ChipState) : Type 0 where
+  pub sized : AreSized n cap (length state.run) state
+  pub there : first + length state.run ≤ 2 ^ n
+  pub buffer_count : length state.crossing.buffers ≡ length state.run
+  pub log_count : length state.logs.items ≡ length state.run
+  pub within : All (λ ms. length ms ≤ cap) state.crossing.buffers
+
+-- so is a part, of the cube of its shape
+abbrev pub IsPart : ℕ → ChipState → Type 0
+IsPart first state = IsPartView state.shape.dims state.shape.room first state
+
+-- ---- cutting
+
+-- room for so many chips of a machine of n dimensions and room cap, whatever stands there
+pub record IsRoomFor (n cap count : ℕ) (state : ChipState) : Type 0 where
+  pub dims : state.shape.dims ≡ n
+  pub room : state.shape.room ≡ cap
+  pub chips : length state.run ≡ count
+  pub logs : length state.logs.items ≡ count
+  pub sent : length state.sent.items ≡ count
+  pub incoming : length state.incoming.items ≡ count
+  pub buffers : length state.crossing.buffers ≡ count
+  pub cube : state.routing.cuts.dims ≡ n
+
+-- the state of so many chips of a whole machine, from the first on
+pub record IsCut (first count : ℕ) (whole state : ChipState) : Type 0 where
+  pub dims : state.shape.dims ≡ whole.shape.dims
+  pub room : state.shape.room ≡ whole.shape.room
+  pub chips : state.run ≡ sliced first count whole.run
+  pub buffers : state.crossing.buffers ≡ sliced first count whole.crossing.buffers
+  pub gathered : IsTrue state.crossing.gathered
+  pub logs : events_of state.logs.items ≡ sliced first count (machine_of whole).logs
+  pub sent : length state.sent.items ≡ count
+  pub incoming : length state.incoming.items ≡ count
+  pub clock : state.clock ≡ whole.clock
+  pub cube : state.routing.cuts.dims ≡ whole.shape.dims
+  pub routing : routing_of state.routing ≡ routing_of whole.routing
 
 -- ---- parts one after another
 

@@ -1,5 +1,6 @@
 pub mod Parts
 pub mod Cuts
+pub mod Fresh
 pub mod Bands
 pub mod Faults
 pub mod Acts
@@ -8,6 +9,5 @@ pub mod Building
 pub mod Tags
 pub mod PokeLaws
 pub mod SavedLogs
-pub mod Rooms
 pub mod Rows
 pub mod Finding

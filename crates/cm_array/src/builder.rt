@@ -15,12 +15,12 @@ use crate::chip_state::ChipState;
 use crate::machine::{Machine, MachineFault};
 use crate::tags::has_tag_twice;
 use cm_bits::{Addr, Edge, FlagNo, NoMemory, Plane};
-use cm_element::NearRun;
-use cm_message::{Event, Message};
-use cm_router::{Routing, Rule};
-use cm_router_engine::RouterEngine;
+use cm_element::{NearRun, Run};
+use cm_message::Message;
+use cm_router::Rule;
 use std::alloc::Global;
 use std::marker::Model;
+use std::mem;
 use thiserror::Error;
 
 /// Why what was built is no machine.
@@ -49,14 +49,10 @@ impl From<NoMemory> for BuildFault {
 /// Contracts see the machine that it is so far.
 #[derive(Debug, Drop)]
 pub struct Builder<const N: usize, const CAP: usize> {
+    /// The chips, by number.
     run: NearRun,
-    logs: Vec<Vec<Event>>,
-    row: Vec<Event>,
-    clock: u64,
-    sent: Vec<Plane>,
-    incoming: Vec<Plane>,
-    crossing: RouterEngine,
-    routing: Routing,
+    /// All else; its own run has no chips.
+    state: ChipState,
 }
 
 impl<const N: usize, const CAP: usize> Model for Builder<N, CAP> {
@@ -65,11 +61,11 @@ impl<const N: usize, const CAP: usize> Model for Builder<N, CAP> {
     ghost Value = { Machine };
 
     ghost use Rattle.cm_array.specs.Parts.{machine_of};
-    ghost use Rattle.cm_array.specs.Building.{parts_built, AreUnfinished};
+    ghost use Rattle.cm_array.specs.Building.{state_built, AreUnfinished};
 
-    ghost view = { λ builder. machine_of (parts_built builder) };
+    ghost view = { λ builder. machine_of (state_built builder) };
 
-    ghost invariant = { λ builder. AreUnfinished N CAP (parts_built builder) };
+    ghost invariant = { λ builder. AreUnfinished N CAP (state_built builder) };
 }
 
 impl<const N: usize, const CAP: usize> Builder<N, CAP> {
@@ -82,18 +78,10 @@ impl<const N: usize, const CAP: usize> Builder<N, CAP> {
         ensures sizes { IsOk result → AreSizes N CAP }
     {
         let machine = Machine::<N, CAP>::blank_at(alloc, clock)?;
-        let parts = machine.into_parts();
-        let near = NearRun::of(alloc, parts.run, 1 << N)?;
-        Ok(Builder {
-            run: near,
-            logs: parts.logs,
-            row: parts.row,
-            clock: parts.clock,
-            sent: parts.sent,
-            incoming: parts.incoming,
-            crossing: parts.crossing,
-            routing: parts.routing,
-        })
+        let mut state = machine.state;
+        let far = mem::replace(&mut state.run, Run::blank(alloc, 0)?);
+        let run = NearRun::of(alloc, far, 1 << N)?;
+        Ok(Builder { run, state })
     }
 
     /// Petit cycles so far, before which each message has to be born.
@@ -101,7 +89,7 @@ impl<const N: usize, const CAP: usize> Builder<N, CAP> {
         ensures value { result ≡ self.now.clock }
         ensures within { result < 2 ^ 63 }
     {
-        self.clock
+        self.state.clock
     }
 
     /// Whether a chip's router has no room for another message.
@@ -109,7 +97,7 @@ impl<const N: usize, const CAP: usize> Builder<N, CAP> {
         requires chip { chip < 2 ^ N }
         ensures value { IsTrue result ↔ (CAP ≤ length (nth_or_nil self.now.buffers chip)) }
     {
-        self.crossing.len(usize::from(chip)) >= CAP
+        self.state.crossing.len(usize::from(chip)) >= CAP
     }
 
     /// Cuts a wire: nobody crosses it then, in either direction.
@@ -118,16 +106,16 @@ impl<const N: usize, const CAP: usize> Builder<N, CAP> {
         requires dim { edge.dim < N }
         ensures value { self.new ≡ machine_with_cut self.old edge }
     {
-        self.routing.cuts.add(edge);
+        self.state.routing.cuts.add(edge);
         // For the prover alone: a call brings in what holds of all cuts of a cube.
-        let _dims = self.routing.cuts.dims();
+        let _dims = self.state.routing.cuts.dims();
     }
 
     /// Has the routers choose by a rule.
     pub fn rule(&mut self, rule: Rule)
         ensures value { self.new ≡ machine_with_rule self.old rule }
     {
-        self.routing.rule = rule;
+        self.state.routing.rule = rule;
     }
 
     /// Puts a plane at an address of a chip: bit p is that of processor p.
@@ -169,7 +157,7 @@ impl<const N: usize, const CAP: usize> Builder<N, CAP> {
         ensures value { self.new ≡ machine_with_message self.old chip message }
     {
         look_at::<N>(&message);
-        self.crossing.arrive(usize::from(chip), message);
+        self.state.crossing.arrive(usize::from(chip), message);
     }
 
     /// The machine that was built, if no two of its messages have one tag.
@@ -178,22 +166,14 @@ impl<const N: usize, const CAP: usize> Builder<N, CAP> {
         ensures ok { IsOk result → build_fault self.entry ≡ None }
         ensures refused { IfErr result (λ fault. fault ≢ BuildFault.Memory → build_fault self.entry ≡ Some fault) }
     {
-        let mut parts = ChipState {
-            run: self.run.into_run(),
-            logs: self.logs,
-            row: self.row,
-            clock: self.clock,
-            sent: self.sent,
-            incoming: self.incoming,
-            crossing: self.crossing,
-            routing: self.routing,
-        };
-        parts.crossing.gather();
-        let alloc = *parts.logs.allocator();
-        if has_tag_twice(alloc, &parts.crossing)? {
+        let mut state = self.state;
+        state.run = self.run.into_run();
+        state.crossing.gather();
+        let alloc = *state.logs.allocator();
+        if has_tag_twice(alloc, &state.crossing)? {
             return Err(BuildFault::TagTwice);
         }
-        Ok(Machine::of_parts(parts))
+        Ok(Machine { state })
     }
 }
 

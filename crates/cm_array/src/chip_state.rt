@@ -10,7 +10,8 @@ ghost use Rattle.cm_model.specs.Buffers.{after_act};
 ghost use Rattle.cm_router.specs.Logs.{log_room, log_rooms_of, HaveLogRoom};
 ghost use Rattle.cm_petit.specs.Routers.{events_of};
 ghost use Rattle.cm_array.specs.Acts.{cycles_in, is_instruction};
-ghost use Rattle.cm_array.specs.Parts.{machine_of, AreParts, AreUnderWay, LacksLogRoom};
+ghost use Rattle.cm_array.specs.Fresh.{IsBlankState, IsCopy};
+ghost use Rattle.cm_array.specs.Parts.{machine_of, view_of, AreParts, AreUnderWay, LacksLogRoom};
 
 use crate::stepping::step;
 use cm_bits::{NoMemory, Plane};
@@ -22,10 +23,15 @@ use cm_router::Routing;
 use cm_router_engine::{RouterEngine, Shape};
 use std::alloc::Global;
 
-/// What a machine keeps, and the working room of instructions and petit cycles, so that these take no
-/// memory.
+/// Most events of a chip in one petit cycle, beside one for each message that its router has room for.
+const MOST_INJECTED: usize = 4;
+
+/// The state of some chips of a machine, or of all, and the working room of instructions and petit cycles, so that
+/// these take no memory.
 #[derive(Debug, Drop)]
 pub(crate) struct ChipState {
+    /// Of which machine the chips are.
+    pub(crate) shape: Shape,
     /// The chips, by number.
     pub(crate) run: Run,
     /// By chip, its events since the machine was made, as far as they are dealt out.
@@ -44,72 +50,161 @@ pub(crate) struct ChipState {
     pub(crate) routing: Routing,
 }
 
-/// Runs acts one after another, in a whole machine of these sizes, and gathers the messages then.
-pub(crate) fn run(sizes: Shape, parts: &mut ChipState, acts: &[Act])
-    requires parts { AreParts sizes.dims sizes.room parts.old }
-    requires clock { parts.old.clock + cycles_in acts.now < 2 ^ 63 }
-    requires log_room { cycles_in acts.now * (2 ^ sizes.dims * (4 + sizes.room)) ≤ log_room parts.old.row }
-    ensures value { machine_of parts.new ≡ run_of sizes.dims sizes.room (machine_of parts.old) acts.now }
-    ensures parts { AreParts sizes.dims sizes.room parts.new }
-{
-    for act in acts {
-        run_one(sizes, parts, act);
+impl ChipState {
+    /// So many chips of a machine of this shape, with all bits and flags 0, no message, no event and no wire cut, after
+    /// so many petit cycles.
+    pub(crate) fn blank(
+        alloc: Global,
+        shape: Shape,
+        chips: u16,
+        clock: u64,
+    ) -> Result<ChipState, NoMemory>
+        requires few { chips ≤ 4096 }
+        ensures value { IfOk result (λ state. IsBlankState shape.dims shape.room chips clock state) }
+    {
+        let count = usize::from(chips);
+        let run = Run::blank(alloc, chips)?;
+        let logs = blank_logs(alloc, count)?;
+        let row = Vec::new(alloc);
+        let sent = blank_planes(alloc, count)?;
+        let incoming = blank_planes(alloc, count)?;
+        let crossing = RouterEngine::new(alloc, count)?;
+        let routing = Routing::plain(alloc, shape.dims)?;
+        Ok(ChipState {
+            shape,
+            run,
+            logs,
+            row,
+            clock,
+            sent,
+            incoming,
+            crossing,
+            routing,
+        })
     }
-    parts.crossing.gather();
-}
 
-fn run_one(sizes: Shape, parts: &mut ChipState, act: &Act)
-    requires parts { AreUnderWay sizes.dims sizes.room parts.old }
-    requires clock { parts.old.clock + cycles_in (act.now ∷ []) < 2 ^ 63 }
-    requires log_room { cycles_in (act.now ∷ []) * (2 ^ sizes.dims * (4 + sizes.room)) ≤ log_room parts.old.row }
-    ensures value { machine_of parts.new ≡ after_act sizes.dims sizes.room (machine_of parts.old) act.now }
-    ensures parts { AreUnderWay sizes.dims sizes.room parts.new }
-    ensures clock { parts.new.clock ≡ parts.old.clock + cycles_in (act.now ∷ []) }
-    ensures log_room { log_room parts.old.row
-        ≤ log_room parts.new.row + cycles_in (act.now ∷ []) * (2 ^ sizes.dims * (4 + sizes.room)) }
-{
-    match act {
-        Act::Nano(nano) => step(
-            sizes.dims,
-            &mut parts.run,
-            nano,
-            &mut parts.sent,
-            &mut parts.incoming,
-        ),
-        Act::Sense => {}
-        Act::Cycle => cycle(
-            sizes,
-            &parts.routing,
-            &mut parts.run,
-            &mut parts.crossing,
-            &mut parts.row,
-            &mut parts.clock,
-        ),
+    /// The same once more, with working room of its own.
+    pub(crate) fn copy(&self, alloc: Global) -> Result<ChipState, NoMemory>
+        ensures value { IfOk result (λ copy. IsCopy self.now copy) }
+    {
+        let count = self.run.chips();
+        let run = self.run.copy(alloc)?;
+        let logs = copied_logs(alloc, &self.logs)?;
+        let row = self.row.to_vec(alloc)?;
+        let sent = blank_planes(alloc, count)?;
+        let incoming = blank_planes(alloc, count)?;
+        let crossing = self.crossing.copy(alloc)?;
+        let routing = self.routing.copy()?;
+        Ok(ChipState {
+            shape: self.shape,
+            run,
+            logs,
+            row,
+            clock: self.clock,
+            sent,
+            incoming,
+            crossing,
+            routing,
+        })
     }
-}
 
-/// Runs acts that change nothing but the counter, so many of them petit cycles: no instruction is among them, and a
-/// petit cycle of this machine changes nothing else. Whether it is so; if not, nothing is done.
-pub(crate) fn pass_time(sizes: Shape, parts: &mut ChipState, acts: &[Act], cycles: usize) -> bool
-    requires parts { AreParts sizes.dims sizes.room parts.old }
-    requires cycles { cycles ≡ cycles_in acts.now }
-    requires clock { parts.old.clock + cycles < 2 ^ 63 }
-    ensures value { IsTrue result
-        → machine_of parts.new ≡ run_of sizes.dims sizes.room (machine_of parts.old) acts.now }
-    ensures parts { AreParts sizes.dims sizes.room parts.new }
-    ensures same { IsFalse result → parts.new ≡ parts.old }
-{
-    if has_instruction(acts) {
-        return false;
+    /// Runs acts one after another, in a whole machine, and gathers the messages then.
+    pub(crate) fn run(&mut self, acts: &[Act])
+        requires state { AreParts self.old.shape.dims self.old.shape.room self.old }
+        requires clock { self.old.clock + cycles_in acts.now < 2 ^ 63 }
+        requires log_room { cycles_in acts.now * (2 ^ self.old.shape.dims * (4 + self.old.shape.room))
+            ≤ log_room self.old.row }
+        ensures value { machine_of self.new
+            ≡ run_of self.old.shape.dims self.old.shape.room (machine_of self.old) acts.now }
+        ensures state { AreParts self.old.shape.dims self.old.shape.room self.new }
+    {
+        for act in acts {
+            self.run_one(act);
+        }
+        self.crossing.gather();
     }
-    if cycles == 0 {
-        return true;
+
+    fn run_one(&mut self, act: &Act)
+        requires state { AreUnderWay self.old.shape.dims self.old.shape.room self.old }
+        requires clock { self.old.clock + cycles_in (act.now ∷ []) < 2 ^ 63 }
+        requires log_room { cycles_in (act.now ∷ []) * (2 ^ self.old.shape.dims * (4 + self.old.shape.room))
+            ≤ log_room self.old.row }
+        ensures value { machine_of self.new
+            ≡ after_act self.old.shape.dims self.old.shape.room (machine_of self.old) act.now }
+        ensures state { AreUnderWay self.old.shape.dims self.old.shape.room self.new }
+        ensures clock { self.new.clock ≡ self.old.clock + cycles_in (act.now ∷ []) }
+        ensures log_room { log_room self.old.row ≤ log_room self.new.row
+            + cycles_in (act.now ∷ []) * (2 ^ self.old.shape.dims * (4 + self.old.shape.room)) }
+    {
+        match act {
+            Act::Nano(nano) => step(
+                self.shape.dims,
+                &mut self.run,
+                nano,
+                &mut self.sent,
+                &mut self.incoming,
+            ),
+            Act::Sense => {}
+            Act::Cycle => cycle(
+                self.shape,
+                &self.routing,
+                &mut self.run,
+                &mut self.crossing,
+                &mut self.row,
+                &mut self.clock,
+            ),
+        }
     }
-    if !is_at_rest(sizes, &parts.run, &parts.crossing) {
-        return false;
+
+    /// Makes room in each log for so many petit cycles.
+    pub(crate) fn reserve_logs(&mut self, cycles: usize) -> Result<(), NoMemory>
+        ensures value { self.new ≡ record self.old { logs = self.new.logs } }
+        ensures events { events_of self.new.logs.items ≡ events_of self.old.logs.items }
+        ensures log_room { OnOk result
+            (HaveLogRoom (cycles * (4 + self.old.shape.room)) (log_rooms_of self.new.logs.items)) }
+    {
+        let more = cycles.saturating_mul(MOST_INJECTED + usize::from(self.shape.room));
+        reserve(&mut self.logs, more)
     }
-    parts.clock += cycles as u64;
-    true
+
+    /// Makes room in the row for what all chips tell in so many petit cycles.
+    pub(crate) fn reserve_row(&mut self, cycles: usize) -> Result<(), NoMemory>
+        requires state { AreParts self.old.shape.dims self.old.shape.room self.old }
+        requires few { cycles ≤ 64 }
+        ensures machine { machine_of self.new ≡ machine_of self.old }
+        ensures state { AreParts self.old.shape.dims self.old.shape.room self.new }
+        ensures ok { OnOk result
+            (cycles * (2 ^ self.old.shape.dims * (4 + self.old.shape.room)) ≤ log_room self.new.row) }
+        ensures err { OnErr result (LacksLogRoom (cycles * (4 + self.old.shape.room)) (view_of self.old).log_rooms) }
+        ensures no_more { cycles ≡ 0 → IsOk result }
+    {
+        let most = self.run.chips() * (MOST_INJECTED + usize::from(self.shape.room));
+        make_room(&mut self.row, cycles * most)
+    }
+
+    /// Runs acts that change nothing but the counter, so many of them petit cycles: no instruction is among them, and a
+    /// petit cycle of this machine changes nothing else. Whether it is so; if not, nothing is done.
+    pub(crate) fn pass_time(&mut self, acts: &[Act], cycles: usize) -> bool
+        requires state { AreParts self.old.shape.dims self.old.shape.room self.old }
+        requires cycles { cycles ≡ cycles_in acts.now }
+        requires clock { self.old.clock + cycles < 2 ^ 63 }
+        ensures value { IsTrue result → machine_of self.new
+            ≡ run_of self.old.shape.dims self.old.shape.room (machine_of self.old) acts.now }
+        ensures state { AreParts self.old.shape.dims self.old.shape.room self.new }
+        ensures same { IsFalse result → self.new ≡ self.old }
+    {
+        if has_instruction(acts) {
+            return false;
+        }
+        if cycles == 0 {
+            return true;
+        }
+        if !is_at_rest(self.shape, &self.run, &self.crossing) {
+            return false;
+        }
+        self.clock += cycles as u64;
+        true
+    }
 }
 
 /// Whether an instruction is among acts.
@@ -126,7 +221,7 @@ fn is_instruction(act: &Act) -> bool
 }
 
 /// Makes room in each log for so many events more.
-pub(crate) fn reserve(logs: &mut [Vec<Event>], more: usize) -> Result<(), NoMemory>
+fn reserve(logs: &mut [Vec<Event>], more: usize) -> Result<(), NoMemory>
     ensures events { events_of logs.new ≡ events_of logs.old }
     ensures ok { OnOk result (HaveLogRoom more (log_rooms_of logs.new)) }
     ensures can_be { OnOk result (0 < length logs.old → more < 2 ^ 63) }
@@ -145,7 +240,7 @@ pub(crate) fn reserve(logs: &mut [Vec<Event>], more: usize) -> Result<(), NoMemo
 /// Makes room in a log, or in a row, for so many events more. One that has to grow gets twice its room at least, and
 /// twice of what is wanted, so that the lists of acts that follow find room: memory that was reserved and not
 /// written yet costs nothing. Only the events that it holds are moved, not all that it had room for.
-pub(crate) fn make_room(log: &mut Vec<Event>, more: usize) -> Result<(), NoMemory>
+fn make_room(log: &mut Vec<Event>, more: usize) -> Result<(), NoMemory>
     ensures items { log.new.items ≡ log.old.items }
     ensures len { vec_len log.new ≡ vec_len log.old }
     ensures ok { OnOk result (vec_len log.new + more ≤ vec_capacity log.new) }
@@ -194,13 +289,13 @@ fn lay_log(log: &mut Vec<Event>, other: &[Event]) -> Result<(), NoMemory>
     Ok(())
 }
 
-pub(crate) fn blank_planes(alloc: Global, count: usize) -> Result<Vec<Plane>, NoMemory>
+fn blank_planes(alloc: Global, count: usize) -> Result<Vec<Plane>, NoMemory>
     ensures count { IfOk result (λ planes. length planes.items ≡ count) }
 {
     Ok(vec![in alloc; 0; count]?)
 }
 
-pub(crate) fn copied_logs(alloc: Global, logs: &[Vec<Event>]) -> Result<Vec<Vec<Event>>, NoMemory>
+fn copied_logs(alloc: Global, logs: &[Vec<Event>]) -> Result<Vec<Vec<Event>>, NoMemory>
     ensures value { IfOk result (λ copies. events_of copies.items ≡ events_of logs.now) }
 {
     Ok(logs.iter().map(|log| log.to_vec(alloc)).try_collect(alloc)?)

@@ -24,12 +24,12 @@ impl Part {
         } }
     {
         step_in_band(
-            self.sizes.dims,
-            &mut self.parts.run,
+            self.state.shape.dims,
+            &mut self.state.run,
             nano,
             edge,
-            &mut self.parts.sent,
-            &mut self.parts.incoming,
+            &mut self.state.sent,
+            &mut self.state.incoming,
         );
     }
 
@@ -43,7 +43,7 @@ impl Part {
         ensures within { (k : ℕ) → k < length out.new → slice_index out.new k < 16 }
         ensures others { self.new ≡ self.old }
     {
-        self.parts.run.send(nano, &mut self.parts.sent);
-        write_edge(&self.parts.sent, nano.dir, out);
+        self.state.run.send(nano, &mut self.state.sent);
+        write_edge(&self.state.sent, nano.dir, out);
     }
 }

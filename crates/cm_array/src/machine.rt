@@ -18,37 +18,27 @@ ghost use Rattle.cm_router.specs.Routes.{routing_of};
 ghost use Rattle.cm_array.specs.Cuts.{joined, AreWhole};
 ghost use Rattle.cm_array.specs.SavedLogs.{unlogged, logs_appended, TakeIn};
 ghost use Rattle.cm_array.specs.Faults.{size_fault};
-ghost use Rattle.cm_array.specs.Parts.{view_of, AreParts, LacksLogRoom};
-ghost use Rattle.cm_array.specs.Rooms.{IsRoomFor};
+ghost use Rattle.cm_array.specs.Parts.{LacksLogRoom};
 ghost use Rattle.cm_array.specs.Pokes.{machine_with_memory_bit, machine_with_flag};
 
-use crate::chip_state::{
-    ChipState, blank_logs, blank_planes, copied_logs, make_room, pass_time, reserve, run,
-};
+use crate::chip_state::{ChipState, blank_logs};
 use crate::finding::{delivered_to, router_of, told_in};
+use crate::limits::{MOST_DIMENSIONS, MOST_ROOM};
 use crate::log_view::Log;
-use crate::part::{Part, lay_all_buffers, lay_chips};
-use crate::put::{IntoPart, keep, put_one};
-use crate::room::Room;
-use crate::row::{deal_out, has_events, lay_told};
+use crate::part::{Part, room_for};
+use crate::put::{IntoPart, keep};
+use crate::row::{deal_out, has_events};
 use crate::saved_logs::{InTurn, LogAppender, SavedLogs};
 use cm_bits::{Addr, FlagNo, NoMemory, Plane, Proc};
 use cm_element::{ChipView, PITCH, Run, ZeroFlag};
-use cm_message::{Event, Message, Tag};
+use cm_message::{Message, Tag};
 use cm_model::{Act, Found};
 use cm_router::{Routing, Rule};
-use cm_router_engine::{RouterEngine, Shape};
+use cm_router_engine::Shape;
 use std::alloc::Global;
 use std::marker::Model;
 use std::mem;
 use thiserror::Error;
-
-const MOST_DIMENSIONS: usize = 12;
-
-const MOST_ROOM: usize = 15;
-
-/// Most events of a chip in one petit cycle, beside one for each message that its router has room for.
-const MOST_INJECTED: usize = 4;
 
 /// Why a machine was not made.
 #[derive(Clone, Copy, Debug, PartialEq, Eq, Error)]
@@ -82,7 +72,7 @@ impl From<NoMemory> for MachineFault {
 /// stands twice in its account, and each message whose injection a log tells of stands there once.
 #[derive(Debug, Drop)]
 pub struct Machine<const N: usize, const CAP: usize> {
-    parts: ChipState,
+    pub(crate) state: ChipState,
 }
 
 impl<const N: usize, const CAP: usize> Model for Machine<N, CAP> {
@@ -90,9 +80,9 @@ impl<const N: usize, const CAP: usize> Model for Machine<N, CAP> {
 
     ghost Value = { MachineView };
 
-    ghost view = { λ machine. view_of machine.parts };
+    ghost view = { λ machine. view_of machine.state };
 
-    ghost invariant = { λ machine. AreParts N CAP machine.parts };
+    ghost invariant = { λ machine. AreParts N CAP machine.state };
 }
 
 impl<const N: usize, const CAP: usize> Machine<N, CAP> {
@@ -118,68 +108,20 @@ impl<const N: usize, const CAP: usize> Machine<N, CAP> {
         if CAP == 0 || CAP > MOST_ROOM {
             return Err(MachineFault::Cap);
         }
-        let count = Self::chip_count();
-        let run = Run::blank(alloc, count as u16)?;
-        let logs = blank_logs(alloc, count)?;
-        let row = Vec::new(alloc);
-        let sent = blank_planes(alloc, count)?;
-        let incoming = blank_planes(alloc, count)?;
-        let crossing = RouterEngine::new(alloc, count)?;
-        let routing = Routing::plain(alloc, N as u8)?;
-        Ok(Machine {
-            parts: ChipState {
-                run,
-                logs,
-                row,
-                clock,
-                sent,
-                incoming,
-                crossing,
-                routing,
-            },
-        })
-    }
-
-    /// What it keeps.
-    pub(crate) fn into_parts(self) -> ChipState
-        ensures value { view_of result ≡ self.entry }
-        ensures parts { AreParts N CAP result }
-    {
-        self.parts
-    }
-
-    /// The machine that keeps these.
-    pub(crate) fn of_parts(parts: ChipState) -> Self
-        requires parts { AreParts N CAP parts }
-        ensures value { result ≡ view_of parts }
-    {
-        Machine { parts }
+        let shape = Shape {
+            dims: N as u8,
+            room: CAP as u8,
+        };
+        let state = ChipState::blank(alloc, shape, 1 << N, clock)?;
+        Ok(Machine { state })
     }
 
     /// A second machine, the same as this one, its logs too.
     pub fn copy(&self, alloc: Global) -> Result<Self, NoMemory>
         ensures value { IfOk result (λ kept. kept.machine ≡ self.now.machine) }
     {
-        let count = self.parts.run.chips();
-        let run = self.parts.run.copy(alloc)?;
-        let logs = copied_logs(alloc, &self.parts.logs)?;
-        let row = self.parts.row.to_vec(alloc)?;
-        let sent = blank_planes(alloc, count)?;
-        let incoming = blank_planes(alloc, count)?;
-        let crossing = self.parts.crossing.copy(alloc)?;
-        let routing = self.parts.routing.copy()?;
-        Ok(Machine {
-            parts: ChipState {
-                run,
-                logs,
-                row,
-                clock: self.parts.clock,
-                sent,
-                incoming,
-                crossing,
-                routing,
-            },
-        })
+        let state = self.state.copy(alloc)?;
+        Ok(Machine { state })
     }
 
     /// A part of it: so many of its chips, from `first` on, each with room in its log for so many petit cycles.
@@ -217,54 +159,11 @@ impl<const N: usize, const CAP: usize> Machine<N, CAP> {
         ensures log_room { IfOk result (λ kept. HaveLogRoom (cycles * (4 + CAP)) kept.log_rooms) }
         ensures gathered { IfOk result (λ kept. IsTrue kept.gathered) }
     {
-        // For the prover alone: reading a field brings in what holds of every machine.
-        let _kept = &self.parts;
-        let room = Room::of_used(alloc, count, used)?;
-        self.lay_part(first, count, cycles, room)
-    }
-
-    /// The same in this room.
-    fn lay_part(&self, first: u16, count: u16, cycles: usize, room: Room) -> Result<Part, NoMemory>
-        requires there { first + count ≤ 2 ^ N }
-        requires room { IsRoomFor count room }
-        ensures value { IfOk result (λ kept. kept.part ≡ part first count self.now.machine) }
-        ensures dims { IfOk result (λ kept. kept.dims ≡ N) }
-        ensures room { IfOk result (λ kept. kept.room ≡ CAP) }
-        ensures log_room { IfOk result (λ kept. HaveLogRoom (cycles * (4 + CAP)) kept.log_rooms) }
-        ensures gathered { IfOk result (λ kept. IsTrue kept.gathered) }
-    {
-        let parts = &self.parts;
-        let sizes = Self::sizes();
-        let at = usize::from(first);
-        let chips = usize::from(count);
-        let Room {
-            mut run,
-            mut logs,
-            sent,
-            incoming,
-            mut crossing,
-        } = room;
-        lay_chips(&mut run, &parts.run, first, count);
-        lay_told(&mut logs, first, &parts.logs[at..at + chips], &parts.row)?;
-        let more = cycles.saturating_mul(MOST_INJECTED + CAP);
-        reserve(&mut logs, more)?;
-        lay_all_buffers(&mut crossing, &parts.crossing, at, chips);
-        let row = Vec::new(*parts.row.allocator());
-        let routing = parts.routing.copy()?;
-        Ok(Part {
-            sizes,
-            first,
-            parts: ChipState {
-                run,
-                logs,
-                row,
-                clock: parts.clock,
-                sent,
-                incoming,
-                crossing,
-                routing,
-            },
-        })
+        let state = &self.state;
+        let mut cut = room_for(alloc, state.shape, count, used)?;
+        cut.lay(state, first, count)?;
+        cut.reserve_logs(cycles)?;
+        Ok(Part { first, state: cut })
     }
 
     /// Becomes the machine that these are in their order. No memory is taken.
@@ -272,7 +171,7 @@ impl<const N: usize, const CAP: usize> Machine<N, CAP> {
         requires whole { AreWhole N CAP (map (λ piece. (P.held piece).part) pieces.items) }
         ensures value { self.new.machine ≡ joined (map (λ piece. (P.held piece).part) pieces.items) }
     {
-        let mut none = Vec::new(*self.parts.logs.allocator());
+        let mut none = Vec::new(*self.state.logs.allocator());
         self.put_and_keep(pieces, &mut none);
     }
 
@@ -281,16 +180,16 @@ impl<const N: usize, const CAP: usize> Machine<N, CAP> {
         requires whole { AreWhole N CAP (map (λ piece. (P.held piece).part) pieces.items) }
         ensures value { self.new.machine ≡ joined (map (λ piece. (P.held piece).part) pieces.items) }
     {
-        let parts = &mut self.parts;
-        parts.crossing.clear();
-        parts.row.clear();
+        let state = &mut self.state;
+        state.crossing.clear();
+        state.row.clear();
         let mut at = 0;
         for piece in pieces {
             let mut part = piece.into_part();
-            at = put_one(parts, at, &mut part);
+            at = state.put(at, &mut part);
             keep(used, part);
         }
-        parts.crossing.gather();
+        state.crossing.gather();
     }
 
     /// Sets its logs aside, each with room for so many petit cycles, and stands there without events.
@@ -300,12 +199,12 @@ impl<const N: usize, const CAP: usize> Machine<N, CAP> {
         ensures log_room { IfOk result (λ earlier. HaveLogRoom (cycles * (4 + CAP)) earlier.log_rooms) }
         ensures err { OnErr result (self.new.machine ≡ self.old.machine) }
     {
-        let parts = &mut self.parts;
-        deal_out(&mut parts.logs, &mut parts.row)?;
-        let none = blank_logs(alloc, parts.run.chips())?;
-        reserve(&mut parts.logs, cycles.saturating_mul(MOST_INJECTED + CAP))?;
+        let state = &mut self.state;
+        deal_out(&mut state.logs, &mut state.row)?;
+        let none = blank_logs(alloc, state.run.chips())?;
+        state.reserve_logs(cycles)?;
         Ok(SavedLogs {
-            logs: mem::replace(&mut parts.logs, none),
+            logs: mem::replace(&mut state.logs, none),
         })
     }
 
@@ -316,7 +215,7 @@ impl<const N: usize, const CAP: usize> Machine<N, CAP> {
         requires room { TakeIn earlier.log_rooms self.old.machine.logs }
         ensures value { self.new.machine ≡ logs_appended N earlier.logs self.old.machine }
     {
-        let mut none = Vec::new(*self.parts.logs.allocator());
+        let mut none = Vec::new(*self.state.logs.allocator());
         self.put_logs_back_by(&InTurn, earlier, &mut none);
     }
 
@@ -334,8 +233,8 @@ impl<const N: usize, const CAP: usize> Machine<N, CAP> {
         ensures value { self.new.machine ≡ logs_appended N earlier.logs self.old.machine }
     {
         let mut logs = earlier.logs;
-        by.append_logs(&mut logs, &self.parts.logs);
-        let mut told = mem::replace(&mut self.parts.logs, logs);
+        by.append_logs(&mut logs, &self.state.logs);
+        let mut told = mem::replace(&mut self.state.logs, logs);
         for i in 0..used.len() {
             used[i].exchange_logs(&mut told);
         }
@@ -347,7 +246,7 @@ impl<const N: usize, const CAP: usize> Machine<N, CAP> {
         ensures value { result ≡ chip_at self.now.machine.chips number }
         ensures whole { IsMachine N CAP self.now.machine }
     {
-        self.parts.run.view(number)
+        self.state.run.view(number)
     }
 
     /// The bits of all processors at an address, a plane for each chip in order.
@@ -356,7 +255,7 @@ impl<const N: usize, const CAP: usize> Machine<N, CAP> {
         ensures value { (c : ℕ) → c < 2 ^ N → IsPlane (slice_index result.now c)
             (λ p. memory_bit (processor_at (chip_at self.now.machine.chips c) p) at) }
     {
-        self.parts.run.plane_row(at)
+        self.state.run.plane_row(at)
     }
 
     /// Whether memory has a row for an address: where it has none, the bits of all processors are 0 there.
@@ -364,7 +263,7 @@ impl<const N: usize, const CAP: usize> Machine<N, CAP> {
         ensures blank { result ≡ false → (c : ℕ) → c < 2 ^ N
             → IsPlane 0 (λ p. memory_bit (processor_at (chip_at self.now.machine.chips c) p) at) }
     {
-        self.parts.run.is_in_use(at)
+        self.state.run.is_in_use(at)
     }
 
     /// Copies so many chips, from `first` on, to the front of a run: there the planes of a chip lie nearer to
@@ -374,7 +273,7 @@ impl<const N: usize, const CAP: usize> Machine<N, CAP> {
         requires room { count ≤ length to.old }
         ensures value { AreLaid 0 first count self.now.machine.chips to.old to.new }
     {
-        to.lay(0, &self.parts.run, first, count);
+        to.lay(0, &self.state.run, first, count);
     }
 
     /// Writes the memory planes of so many chips, from `first` on, chip by chip: `PITCH` words of cm_element apart. The
@@ -387,7 +286,7 @@ impl<const N: usize, const CAP: usize> Machine<N, CAP> {
         ensures others { (i : ℕ) → count * 4128 ≤ i → slice_index memory.new i ≡ slice_index memory.old i }
     {
         let written = usize::from(count) * PITCH;
-        self.parts
+        self.state
             .run
             .write_planes(first, count, &mut memory[..written]);
     }
@@ -398,7 +297,7 @@ impl<const N: usize, const CAP: usize> Machine<N, CAP> {
         ensures value { result.now ≡ nth_or_nil self.now.machine.buffers chip }
         ensures whole { IsMachine N CAP self.now.machine }
     {
-        self.parts.crossing.buffer(usize::from(chip))
+        self.state.crossing.buffer(usize::from(chip))
     }
 
     /// A chip's events since the machine was made, the oldest first; a copy has those of its original.
@@ -407,7 +306,7 @@ impl<const N: usize, const CAP: usize> Machine<N, CAP> {
         ensures value { result ≡ nth_or_nil self.now.machine.logs chip }
         ensures whole { IsMachine N CAP self.now.machine }
     {
-        Log::of(chip, &self.parts.logs[usize::from(chip)], &self.parts.row)
+        Log::of(chip, &self.state.logs[usize::from(chip)], &self.state.row)
     }
 
     /// Deals events that lie in one row out to the logs of their chips, as far as memory is not refused. Who looks at
@@ -415,15 +314,15 @@ impl<const N: usize, const CAP: usize> Machine<N, CAP> {
     pub fn deal_out(&mut self) -> Result<(), NoMemory>
         ensures machine { self.new.machine ≡ self.old.machine }
     {
-        let parts = &mut self.parts;
-        deal_out(&mut parts.logs, &mut parts.row)
+        let state = &mut self.state;
+        deal_out(&mut state.logs, &mut state.row)
     }
 
     /// Whether some chip has told an event.
     pub fn has_events(&self) -> bool
         ensures none { result ≡ false → All (λ log. log ≡ []) self.now.machine.logs }
     {
-        !self.parts.row.is_empty() || has_events(&self.parts.logs)
+        !self.state.row.is_empty() || has_events(&self.state.logs)
     }
 
     /// The dimensions of its cube.
@@ -432,7 +331,7 @@ impl<const N: usize, const CAP: usize> Machine<N, CAP> {
         ensures sizes { AreSizes N CAP }
     {
         // For the prover alone: reading a field brings in what holds of every machine.
-        let _kept = &self.parts;
+        let _kept = &self.state;
         N as u8
     }
 
@@ -443,7 +342,7 @@ impl<const N: usize, const CAP: usize> Machine<N, CAP> {
         ensures sizes { AreSizes N CAP }
         ensures whole { IsMachine N CAP self.now.machine }
     {
-        self.parts.clock
+        self.state.clock
     }
 
     /// Whether a chip's wire over a dimension is cut: nobody crosses it then, in either direction.
@@ -452,14 +351,14 @@ impl<const N: usize, const CAP: usize> Machine<N, CAP> {
         requires dim { dim < N }
         ensures value { result ≡ is_cut self.now.machine.routing chip dim }
     {
-        self.parts.routing.cuts.has(chip, dim)
+        self.state.routing.cuts.has(chip, dim)
     }
 
     /// By which rule its routers choose who leaves.
     pub fn rule(&self) -> Rule
         ensures value { result ≡ self.now.machine.routing.rule }
     {
-        self.parts.routing.rule
+        self.state.routing.rule
     }
 
     /// How its messages go: which wires are cut, and the rule.
@@ -468,7 +367,7 @@ impl<const N: usize, const CAP: usize> Machine<N, CAP> {
         ensures cube { result.now.cuts.dims ≡ N }
         ensures whole { IsMachine N CAP self.now.machine }
     {
-        &self.parts.routing
+        &self.state.routing
     }
 
     /// Where the message of a tag is: in a router, or else delivered, or else nowhere.
@@ -477,13 +376,13 @@ impl<const N: usize, const CAP: usize> Machine<N, CAP> {
         ensures there { IsWhereabouts N self.now.machine tag result }
         ensures whole { IsMachine N CAP self.now.machine }
     {
-        if let Some(chip) = router_of(&self.parts.crossing, &tag) {
+        if let Some(chip) = router_of(&self.state.crossing, &tag) {
             return Found::Router(chip);
         }
-        if let Some(place) = delivered_to(&self.parts.logs, &tag) {
+        if let Some(place) = delivered_to(&self.state.logs, &tag) {
             return Found::Delivered(place.chip, place.proc);
         }
-        match told_in(&self.parts.row, self.parts.logs.len(), &tag) {
+        match told_in(&self.state.row, self.state.logs.len(), &tag) {
             Some(place) => Found::Delivered(place.chip, place.proc),
             None => Found::Unknown,
         }
@@ -494,7 +393,7 @@ impl<const N: usize, const CAP: usize> Machine<N, CAP> {
         ensures value { result ≡ wire self.now.machine.chips }
         ensures whole { IsMachine N CAP self.now.machine }
     {
-        cm_wire::wire(&self.parts.run)
+        cm_wire::wire(&self.state.run)
     }
 
     /// Puts a bit into the memory of one processor.
@@ -503,7 +402,7 @@ impl<const N: usize, const CAP: usize> Machine<N, CAP> {
         ensures value { self.new
             ≡ record self.old { machine = machine_with_memory_bit self.old.machine chip proc at bit } }
     {
-        self.parts.run.poke(chip, proc, at, bit);
+        self.state.run.poke(chip, proc, at, bit);
     }
 
     /// Puts a bit into a flag of one processor, but not into flag 8.
@@ -520,26 +419,7 @@ impl<const N: usize, const CAP: usize> Machine<N, CAP> {
             ≡ record self.old { machine = machine_with_flag self.old.machine chip proc number bit }) }
         ensures err { OnErr result (self.new ≡ self.old) }
     {
-        self.parts.run.poke_flag(chip, proc, number, bit)
-    }
-
-    fn chip_count() -> usize
-        requires dimension { N ≤ 12 }
-        ensures value { result ≡ 2 ^ N }
-    {
-        1 << N
-    }
-
-    /// The sizes of a whole machine.
-    fn sizes() -> Shape
-        requires sizes { AreSizes N CAP }
-        ensures dims { result.dims ≡ N }
-        ensures room { result.room ≡ CAP }
-    {
-        Shape {
-            dims: N as u8,
-            room: CAP as u8,
-        }
+        self.state.run.poke_flag(chip, proc, number, bit)
     }
 
     /// Runs acts, so many of them petit cycles, one after another, or none of them.
@@ -552,12 +432,9 @@ impl<const N: usize, const CAP: usize> Machine<N, CAP> {
         ensures ok { OnOk result (self.new.machine ≡ run_of N CAP self.old.machine acts.now) }
         ensures err { OnErr result (self.new.machine ≡ self.old.machine) }
     {
-        let parts = &mut self.parts;
-        let sizes = Self::sizes();
-        if !pass_time(sizes, parts, acts, cycles) {
-            let most = Self::chip_count() * (MOST_INJECTED + CAP);
-            make_room(&mut parts.row, cycles * most)?;
-            run(sizes, parts, acts);
+        if !self.state.pass_time(acts, cycles) {
+            self.state.reserve_row(cycles)?;
+            self.state.run(acts);
         }
         Ok(())
     }

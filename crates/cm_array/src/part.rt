@@ -1,7 +1,7 @@
 //! Parts of a machine: some of its chips, one after another, with what stands at them.
 
 ghost use Rattle.std.specs.Prelude.{◌≡◌, ℕ, ◌+◌, ◌<◌, ◌≤◌, ◌^◌, ◌++◌, [], true, None, IsTrue, length};
-ghost use Rattle.std.specs.Prelude.{◌⊎◌, false, slice_index_or, slice_set};
+ghost use Rattle.std.specs.Prelude.{◌⊎◌, IfOk, OnOk, false, slice_index_or, slice_set};
 ghost use Rattle.std.specs.List.{All};
 ghost use Rattle.cm_model.specs.Array.{nth_or_nil};
 ghost use Rattle.cm_model.specs.Keeping.{AreSizes};
@@ -11,13 +11,18 @@ ghost use Rattle.cm_blocks.specs.Parcels.{Mail, due};
 ghost use Rattle.cm_blocks.specs.Steps.{less, absorbed};
 ghost use Rattle.cm_blocks.specs.Parts.{sliced, chip_in, buffer_in, log_in};
 ghost use Rattle.cm_router.specs.Routes.{routing_of};
-ghost use Rattle.cm_array.specs.Cuts.{part_view, IsPartView, IsLaid};
+ghost use Rattle.cm_array.specs.Parts.{AreParts};
+ghost use Rattle.cm_array.specs.Cuts.{IsCut, IsLaid, IsRoomFor};
 
 use crate::chip_state::ChipState;
+use crate::put::route_as;
+use crate::row::lay_told;
+use cm_bits::NoMemory;
 use cm_element::{ChipView, Run};
 use cm_message::{Event, Message};
 use cm_router::Routing;
 use cm_router_engine::{RouterEngine, Shape};
+use std::alloc::Global;
 use std::marker::Model;
 use std::mem;
 
@@ -28,36 +33,26 @@ use std::mem;
 /// grow, and whether the messages can be read.
 #[derive(Debug, Drop)]
 pub struct Part {
-    /// Of which machine the chips are.
-    pub(crate) sizes: Shape,
     /// The number of the first chip.
     pub(crate) first: u16,
     /// The chips by place, the first at place 0.
-    pub(crate) parts: ChipState,
+    pub(crate) state: ChipState,
 }
 
 impl Model for Part {
-    ghost use Rattle.cm_array.specs.Cuts.{PartView, part_view, IsPartView};
+    ghost use Rattle.cm_array.specs.Cuts.{PartView, part_view, IsPart};
 
     ghost Value = { PartView };
 
-    ghost view = { λ part. part_view part.sizes.dims part.sizes.room part.first part.parts };
+    ghost view = { λ part. part_view part.first part.state };
 
-    ghost invariant = { λ part. IsPartView part.sizes.dims part.sizes.room part.first part.parts };
+    ghost invariant = { λ part. IsPart part.first part.state };
 }
 
 impl Part {
-    /// What it keeps of its chips.
-    pub(crate) fn into_parts(self) -> ChipState
-        ensures value { part_view self.dims self.room self.part.first result ≡ self }
-        ensures kept { IsPartView self.dims self.room self.part.first result }
-    {
-        self.parts
-    }
-
     /// Exchanges its logs for those of its chips in a list by number, as far as this has them.
     pub(crate) fn exchange_logs(&mut self, logs: &mut [Vec<Event>]) {
-        exchange(&mut self.parts.logs, usize::from(self.first), logs);
+        exchange(&mut self.state.logs, usize::from(self.first), logs);
     }
 
     /// The dimensions of the cube that its chips are of.
@@ -65,7 +60,7 @@ impl Part {
         ensures value { result ≡ self.now.dims }
         ensures sizes { AreSizes self.now.dims self.now.room }
     {
-        self.sizes.dims
+        self.state.shape.dims
     }
 
     /// The number of its first chip.
@@ -79,7 +74,7 @@ impl Part {
     pub fn chips(&self) -> usize
         ensures value { result ≡ self.now.part.count }
     {
-        self.parts.run.chips()
+        self.state.run.chips()
     }
 
     /// Petit cycles so far.
@@ -87,7 +82,7 @@ impl Part {
         ensures value { result ≡ self.now.part.clock }
         ensures within { result < 2 ^ 63 }
     {
-        self.parts.clock
+        self.state.clock
     }
 
     /// How messages go: which wires of the cube are cut, and the rule.
@@ -95,7 +90,7 @@ impl Part {
         ensures value { routing_of result.now ≡ self.now.part.routing }
         ensures cube { result.now.cuts.dims ≡ self.now.dims }
     {
-        &self.parts.routing
+        &self.state.routing
     }
 
     /// The chip of that number in the whole, to be read.
@@ -104,7 +99,7 @@ impl Part {
         requires below { number < self.now.part.first + self.now.part.count }
         ensures value { result ≡ chip_in self.now.part number }
     {
-        self.parts.run.view(number - self.first)
+        self.state.run.view(number - self.first)
     }
 
     /// The messages that stand in the router of the chip of that number in the whole, in order of arrival.
@@ -114,7 +109,7 @@ impl Part {
         requires gathered { IsTrue self.now.gathered }
         ensures value { result.now ≡ buffer_in self.now.part number }
     {
-        self.parts.crossing.buffer(usize::from(number - self.first))
+        self.state.crossing.buffer(usize::from(number - self.first))
     }
 
     /// The events of the chip of that number in the whole, the oldest first.
@@ -123,7 +118,7 @@ impl Part {
         requires below { number < self.now.part.first + self.now.part.count }
         ensures value { result.now ≡ log_in self.now.part number }
     {
-        &self.parts.logs[usize::from(number - self.first)]
+        &self.state.logs[usize::from(number - self.first)]
     }
 }
 
@@ -142,9 +137,13 @@ impl Part {
             → is_cut self.new.part.routing (self.new.part.first + c) dim ≡ false
             → length (nth_or_nil self.new.part.buffers c) < self.new.room }
     {
-        self.parts
-            .crossing
-            .leave(self.sizes, &self.parts.routing, self.first, dim, leavers);
+        self.state.crossing.leave(
+            self.state.shape,
+            &self.state.routing,
+            self.first,
+            dim,
+            leavers,
+        );
     }
 
     /// The second half: each chip takes in what was written down for it, behind all that stand there. Nothing is
@@ -159,14 +158,53 @@ impl Part {
         } }
         ensures blank { All (λ leaver. leaver ≡ None) leavers.new }
     {
-        self.parts.crossing.take_in(self.sizes, leavers);
+        self.state.crossing.take_in(self.state.shape, leavers);
     }
 
     /// Makes its messages readable, if any has moved since they were.
     pub fn gather(&mut self)
         ensures value { self.new ≡ record self.old { gathered = true } }
     {
-        self.parts.crossing.gather();
+        self.state.crossing.gather();
+    }
+}
+
+/// Room for so many chips of a machine of this shape, whatever stands in it: that of a part which is not needed any
+/// more, if it is of as many chips of such a machine, else new.
+pub(crate) fn room_for(
+    alloc: Global,
+    shape: Shape,
+    chips: u16,
+    used: Option<Part>,
+) -> Result<ChipState, NoMemory>
+    requires few { chips ≤ 4096 }
+    ensures value { IfOk result (λ state. IsRoomFor shape.dims shape.room chips state) }
+{
+    match used {
+        Some(part)
+            if part.chips() == usize::from(chips)
+                && part.dims() == shape.dims
+                && part.state.shape.room == shape.room => { Ok(part.state) }
+        _ => ChipState::blank(alloc, shape, chips, 0),
+    }
+}
+
+impl ChipState {
+    /// Becomes the state of so many chips of a whole machine, from `first` on, with its shape.
+    pub(crate) fn lay(&mut self, from: &ChipState, first: u16, count: u16) -> Result<(), NoMemory>
+        requires from { AreParts from.now.shape.dims from.now.shape.room from.now }
+        requires there { first + count ≤ 2 ^ from.now.shape.dims }
+        requires room { IsRoomFor from.now.shape.dims from.now.shape.room count self.old }
+        ensures value { OnOk result (IsCut first count from.now self.new) }
+    {
+        let at = usize::from(first);
+        let chips = usize::from(count);
+        lay_chips(&mut self.run, &from.run, first, count);
+        lay_told(&mut self.logs, first, &from.logs[at..at + chips], &from.row)?;
+        lay_all_buffers(&mut self.crossing, &from.crossing, at, chips);
+        self.clock = from.clock;
+        route_as(&mut self.routing, &from.routing);
+        Ok(())
     }
 }
 

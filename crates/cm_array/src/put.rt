@@ -34,38 +34,41 @@ impl IntoPart for Part {
     }
 }
 
-/// Puts one part into the place of the chips from `at` on, at which no messages stand, and tells where it ends. The
-/// part has the logs that were there then.
-pub(crate) fn put_one(parts: &mut ChipState, at: usize, piece: &mut Part) -> usize
-    requires chips { at + length piece.old.part.chips ≤ length parts.old.run }
-    requires buffers { length parts.old.crossing.buffers ≡ length parts.old.run }
-    requires logs { length parts.old.logs.items ≡ length parts.old.run }
-    requires few { length parts.old.run ≤ 4096 }
-    requires empty { (c : ℕ) → at ≤ c → nth_or_nil parts.old.crossing.buffers c ≡ [] }
-    requires wires { All (IsWireOf parts.old.routing.cuts.dims) piece.old.part.routing.cuts }
-    ensures end { result ≡ at + length piece.old.part.chips }
-    ensures buffer_count { length piece.old.part.buffers ≡ length piece.old.part.chips }
-    ensures log_count { length piece.old.part.logs ≡ length piece.old.part.chips }
-    ensures chips { IsLaid at piece.old.part.chips parts.old.run parts.new.run }
-    ensures buffers { IsLaid at piece.old.part.buffers parts.old.crossing.buffers parts.new.crossing.buffers }
-    ensures logs { IsLaid at piece.old.part.logs (events_of parts.old.logs.items) (events_of parts.new.logs.items) }
-    ensures clock { parts.new.clock ≡ piece.old.part.clock }
-    ensures within { parts.new.clock < 2 ^ 63 }
-    ensures routing { routing_of parts.new.routing ≡ piece.old.part.routing }
-    ensures cube { parts.new.routing.cuts.dims ≡ parts.old.routing.cuts.dims }
-    ensures sent { length parts.new.sent.items ≡ length parts.old.sent.items }
-    ensures incoming { length parts.new.incoming.items ≡ length parts.old.incoming.items }
-    ensures row { parts.new.row ≡ parts.old.row }
-{
-    let from = &mut piece.parts;
-    let count = from.run.chips();
-    parts.run.lay(at as u16, &from.run, 0, count as u16);
-    from.crossing.gather();
-    lay_buffers(&mut parts.crossing, at, &from.crossing, 0, count);
-    move_logs(&mut parts.logs, at, &mut from.logs);
-    parts.clock = from.clock;
-    route_as(&mut parts.routing, &from.routing);
-    at + count
+impl ChipState {
+    /// Puts a part into the place of the chips from `at` on, at which no messages stand, and tells where it ends. The
+    /// part has the logs that were there then.
+    pub(crate) fn put(&mut self, at: usize, piece: &mut Part) -> usize
+        requires chips { at + length piece.old.part.chips ≤ length self.old.run }
+        requires buffers { length self.old.crossing.buffers ≡ length self.old.run }
+        requires logs { length self.old.logs.items ≡ length self.old.run }
+        requires few { length self.old.run ≤ 4096 }
+        requires empty { (c : ℕ) → at ≤ c → nth_or_nil self.old.crossing.buffers c ≡ [] }
+        requires wires { All (IsWireOf self.old.routing.cuts.dims) piece.old.part.routing.cuts }
+        ensures end { result ≡ at + length piece.old.part.chips }
+        ensures buffer_count { length piece.old.part.buffers ≡ length piece.old.part.chips }
+        ensures log_count { length piece.old.part.logs ≡ length piece.old.part.chips }
+        ensures chips { IsLaid at piece.old.part.chips self.old.run self.new.run }
+        ensures buffers { IsLaid at piece.old.part.buffers self.old.crossing.buffers self.new.crossing.buffers }
+        ensures logs { IsLaid at piece.old.part.logs (events_of self.old.logs.items) (events_of self.new.logs.items) }
+        ensures clock { self.new.clock ≡ piece.old.part.clock }
+        ensures within { self.new.clock < 2 ^ 63 }
+        ensures routing { routing_of self.new.routing ≡ piece.old.part.routing }
+        ensures shape { self.new.shape ≡ self.old.shape }
+        ensures cube { self.new.routing.cuts.dims ≡ self.old.routing.cuts.dims }
+        ensures sent { length self.new.sent.items ≡ length self.old.sent.items }
+        ensures incoming { length self.new.incoming.items ≡ length self.old.incoming.items }
+        ensures row { self.new.row ≡ self.old.row }
+    {
+        let from = &mut piece.state;
+        let count = from.run.chips();
+        self.run.lay(at as u16, &from.run, 0, count as u16);
+        from.crossing.gather();
+        lay_buffers(&mut self.crossing, at, &from.crossing, 0, count);
+        move_logs(&mut self.logs, at, &mut from.logs);
+        self.clock = from.clock;
+        route_as(&mut self.routing, &from.routing);
+        at + count
+    }
 }
 
 /// Keeps a part of which nothing but its room is needed any more, if there is a place for it.
@@ -76,7 +79,7 @@ pub(crate) fn keep(used: &mut Vec<Part>, part: Part) {
 }
 
 /// Routes as another does, all of whose cut wires are of this cube.
-fn route_as(routing: &mut Routing, other: &Routing)
+pub(crate) fn route_as(routing: &mut Routing, other: &Routing)
     requires within { All (IsWireOf routing.old.cuts.dims) other.now.cuts.wires }
     ensures value { routing_of routing.new ≡ routing_of other.now }
     ensures cube { routing.new.cuts.dims ≡ routing.old.cuts.dims }

@@ -21,12 +21,12 @@ impl Part {
         ensures log_room { LoseAtMost 4 self.old.log_rooms self.new.log_rooms }
     {
         inject(
-            self.sizes,
+            self.state.shape,
             self.first,
-            &mut self.parts.run,
-            &mut self.parts.crossing,
-            &mut self.parts.logs,
-            self.parts.clock,
+            &mut self.state.run,
+            &mut self.state.crossing,
+            &mut self.state.logs,
+            self.state.clock,
         );
     }
 
@@ -40,9 +40,7 @@ impl Part {
           gathered = self.new.gathered;
         } }
     {
-        self.parts
-            .crossing
-            .cross(self.sizes, span, &self.parts.routing, self.first, dim);
+        self.state.crossing.cross(self.state.shape, span, &self.state.routing, self.first, dim);
     }
 
     /// Messages that have arrived go to their processors, and the counter is one more.
@@ -57,12 +55,12 @@ impl Part {
         ensures log_room { LoseAtMost self.old.room self.old.log_rooms self.new.log_rooms }
     {
         deliver(
-            self.sizes,
+            self.state.shape,
             self.first,
-            &mut self.parts.run,
-            &mut self.parts.crossing,
-            &mut self.parts.logs,
+            &mut self.state.run,
+            &mut self.state.crossing,
+            &mut self.state.logs,
         );
-        self.parts.clock += 1;
+        self.state.clock += 1;
     }
 }

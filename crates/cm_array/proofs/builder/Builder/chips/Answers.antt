@@ -3,7 +3,7 @@ use Rattle.cm_model.specs.Array.{Chips}
 use Rattle.cm_model.proofs.Each.{length-tabulate}
 use Rattle.cm_element.specs.Runs.{chip_beside, chips_beside}
 use Rattle.cm_array.specs.declared.chip_state.ChipState.{ChipState}
-use Rattle.cm_array.specs.Building.{parts_built}
+use Rattle.cm_array.specs.Building.{state_built}
 use Rattle.cm_array.proofs.Building.{AreUnfinished-with_chips}
 use Rattle.cm_array.proofs.builder.Builder.chips.Goals as goal
 
@@ -13,7 +13,7 @@ lay_planes-requires-clause-here g c = omega (arith, c.requires.chips, c.self.inv
 pub invariant_of-self : goal.invariant_of-self
 unfolding chips_beside
 invariant_of-self g c =
-    let parts : ChipState = parts_built c.self.inside in
+    let parts : ChipState = state_built c.self.inside in
     let from : Chips = chips_beside c.args.memory.now c.args.flags.now c.args.count in
     let long : length from ≡ c.args.count =
     length-tabulate 0 c.args.count (chip_beside c.args.memory.now c.args.flags.now) in

@@ -1,26 +1,24 @@
-use Rattle.std.proofs.Common.{◌≡◌, false, List, sym, ap, subst, ◌∙◌, lit<}
+use Rattle.std.proofs.Common.{◌≡◌, false, List, sym, ap, subst, ◌∙◌}
 use Rattle.std.specs.List.{flat_map}
 use Rattle.cm_model.specs.declared.message.Message.{Message}
 use Rattle.cm_model.specs.Array.{Chips}
 use Rattle.cm_model.specs.Unlogged.{standing_messages, has_tag_twice}
 use Rattle.cm_array.specs.declared.chip_state.ChipState.{ChipState}
 use Rattle.cm_array.specs.Parts.{machine_of}
-use Rattle.cm_array.specs.Building.{parts_built, AreUnfinished}
+use Rattle.cm_array.specs.Building.{state_built, AreUnfinished}
 use Rattle.cm_array.proofs.Building.{AreParts-finished}
 use Rattle.cm_array.proofs.builder.Builder.done.Goals as goal
 
-pub of_parts-requires : goal.of_parts-requires
-of_parts-requires g c =
-    let built : ChipState = parts_built c.self.inside in
+pub invariant_of-result : goal.invariant_of-result
+invariant_of-result g c =
+    let built : ChipState = state_built c.self.inside in
     let same : c.into_run.result ≡ built.run = c.into_run.ensures.value in
-    let parts : ChipState = record built { run = c.into_run.result } in
-    let unfinished : AreUnfinished g.row.N g.row.CAP parts =
-    subst (λ (run : Chips). AreUnfinished g.row.N g.row.CAP (record parts { run = run })) (sym same) c.self.invariant in
-    let apart : has_tag_twice (standing_messages (machine_of parts)) ≡ false =
+    let state : ChipState = record built { run = c.into_run.result } in
+    let unfinished : AreUnfinished g.row.N g.row.CAP state =
+    subst (λ (run : Chips). AreUnfinished g.row.N g.row.CAP (record built { run = run })) (sym same) c.self.invariant in
+    let apart : has_tag_twice (standing_messages (machine_of state)) ≡ false =
     ap (λ (buffers : List (List Message)). has_tag_twice (flat_map (λ buffer. buffer) buffers))
     (sym c.gather.ensures.value)
-    ∙ (sym c.in_ok-has_tag_twice.ensures.value ∙ c.if-branch.false) in (
-      lit< tt,
-      AreParts-finished g.row.N g.row.CAP parts c.gather.new.self unfinished c.gather.ensures.value
-          c.gather.ensures.gathered apart,
-    )
+    ∙ (sym c.in_ok-has_tag_twice.ensures.value ∙ c.if-branch.false) in
+    AreParts-finished g.row.N g.row.CAP state c.gather.new.self unfinished c.gather.ensures.value
+    c.gather.ensures.gathered apart

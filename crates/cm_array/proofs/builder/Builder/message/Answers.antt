@@ -2,7 +2,7 @@ use Rattle.std.proofs.Common.{◌≡◌, ◌<◌, ◌^◌, ℕ, length, sym, ap,
 use Rattle.cm_model.specs.Array.{nth_or_nil}
 use Rattle.cm_model.specs.Machine.{Machine}
 use Rattle.cm_array.specs.declared.chip_state.ChipState.{ChipState}
-use Rattle.cm_array.specs.Building.{parts_built}
+use Rattle.cm_array.specs.Building.{state_built}
 use Rattle.cm_array.specs.Parts.{machine_of}
 use Rattle.cm_array.specs.Pokes.{machine_with_message}
 use Rattle.cm_array.proofs.Building.{machine_of-with_message, AreUnfinished-with_message}
@@ -10,7 +10,7 @@ use Rattle.cm_array.proofs.builder.Builder.message.Goals as goal
 
 pub invariant_of-self : goal.invariant_of-self
 invariant_of-self g c =
-    let parts : ChipState = parts_built c.self.inside in
+    let parts : ChipState = state_built c.self.inside in
     let below : c.from.result < 2 ^ g.row.N = omega arith in
     let is : machine_of parts ≡ c.args.self.now = c.self.view_is in
     let place : c.from.result ≡ c.args.chip = c.from.ensures in
@@ -25,7 +25,7 @@ invariant_of-self g c =
 
 pub returns : goal.returns
 returns g c =
-    let parts : ChipState = parts_built c.self.inside in
+    let parts : ChipState = state_built c.self.inside in
     record {
       value =
           machine_of-with_message parts c.from.result c.arrive.new.self c.args.message c.arrive.ensures.value

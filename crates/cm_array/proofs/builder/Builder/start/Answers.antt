@@ -1,4 +1,4 @@
-use Rattle.std.proofs.Common.{◌≡◌, ap, sym, subst, ◌∙◌}
+use Rattle.std.proofs.Common.{ap, sym, subst, ◌∙◌}
 use Rattle.cm_model.specs.Array.{Chips}
 use Rattle.cm_array.specs.declared.chip_state.ChipState.{ChipState}
 use Rattle.cm_array.specs.Parts.{MachineView}
@@ -8,8 +8,8 @@ use Rattle.cm_array.proofs.builder.Builder.start.Goals as goal
 
 pub invariant_of-result : goal.invariant_of-result
 invariant_of-result g c =
-    let parts : ChipState = c.into_parts-parts.result in
-    let same : c.in_ok-near.near ≡ parts.run = c.in_ok-near.ensures.value in
-    subst (λ (run : Chips). AreUnfinished g.row.N g.row.CAP (record parts { run = run })) (sym same)
-    (AreUnfinished-blank g.row.N g.row.CAP c.args.clock c.into_parts-parts.result c.into_parts-parts.ensures.parts
-    (ap (λ (kept : MachineView). kept.machine) c.into_parts-parts.ensures.value ∙ c.in_ok-machine.ensures.value))
+    let state : ChipState = c.machine.inside.state in
+    let same = c.in_ok-run.ensures.value ∙ c.replace-far.ensures.value in
+    subst (λ (run : Chips). AreUnfinished g.row.N g.row.CAP (record state { run = run })) (sym same)
+    (AreUnfinished-blank g.row.N g.row.CAP c.args.clock state c.machine.invariant
+    (ap (λ (kept : MachineView). kept.machine) c.machine.view_is ∙ c.in_ok-machine.ensures.value))

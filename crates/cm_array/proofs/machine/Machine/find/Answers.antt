@@ -16,7 +16,7 @@ use Rattle.cm_array.proofs.machine.Machine.find.Goals as goal
 
 pub returns-in-Some-clause-value : goal.returns-in-Some-clause-value
 returns-in-Some-clause-value g c =
-    let parts = c.self.inside.parts in
+    let parts = c.self.inside.state in
     let machine = c.args.self.now.machine in
     found_in-router g.row.N machine c.args.tag parts.crossing.buffers parts.logs.items parts.row.items
     (AreOf-parts g.row.N g.row.CAP parts machine c.self.invariant (ap (λ (k : MachineView). k.machine) c.self.view_is))
@@ -30,7 +30,7 @@ returns-in-Some-clause-there g c =
 
 pub returns-in-Some-delivered_to-clause-value : goal.returns-in-Some-delivered_to-clause-value
 returns-in-Some-delivered_to-clause-value g c =
-    let parts = c.self.inside.parts in
+    let parts = c.self.inside.state in
     let machine = c.args.self.now.machine in
     let place = c.in-Some-delivered_to.place in
     found_in-delivered g.row.N machine c.args.tag parts.crossing.buffers parts.logs.items parts.row.items
@@ -47,7 +47,7 @@ returns-in-Some-delivered_to-clause-there g c =
 
 pub returns-in-Some-told_in-clause-value : goal.returns-in-Some-told_in-clause-value
 returns-in-Some-told_in-clause-value g c =
-    let parts = c.self.inside.parts in
+    let parts = c.self.inside.state in
     let machine = c.args.self.now.machine in
     let place = c.in-Some-told_in.place in
     found_in-told g.row.N machine c.args.tag parts.crossing.buffers parts.logs.items parts.row.items
@@ -64,7 +64,7 @@ returns-in-Some-told_in-clause-there g c =
 
 pub returns-in-None-clause-value : goal.returns-in-None-clause-value
 returns-in-None-clause-value g c =
-    let parts = c.self.inside.parts in
+    let parts = c.self.inside.state in
     let machine = c.args.self.now.machine in
     let tag = c.args.tag in
     let logs : (k : ℕ) → k < length parts.logs.items → TellNone tag (nth_or_nil (events_of parts.logs.items) k) =

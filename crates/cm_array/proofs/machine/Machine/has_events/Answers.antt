@@ -11,7 +11,7 @@ use Rattle.cm_array.proofs.machine.Machine.has_events.Goals as goal
 
 pub returns-else-not-is_empty : goal.returns-else-not-is_empty
 returns-else-not-is_empty g c =
-    let parts = c.self.inside.parts in
+    let parts = c.self.inside.state in
     let logs = parts.logs.items in
     record {
       none = λ no. subst (λ (kept : MachineView). All (λ (log : List Event). log ≡ []) kept.machine.logs) c.self.view_is

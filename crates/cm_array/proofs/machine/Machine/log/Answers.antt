@@ -10,7 +10,7 @@ use Rattle.cm_array.proofs.machine.Machine.log.Goals as goal
 
 pub index-requires : goal.index-requires
 index-requires g c =
-    let parts = c.self.inside.parts in
+    let parts = c.self.inside.state in
     omega (
       arith,
       c.requires.chip,
@@ -21,7 +21,7 @@ index-requires g c =
 
 pub returns-clause-value : goal.returns-clause-value
 returns-clause-value g c =
-    let parts = c.self.inside.parts in
+    let parts = c.self.inside.state in
     let chip = c.args.chip in
     let logs = parts.logs.items in
     let under = AreUnderWay-parts g.row.N g.row.CAP parts c.self.invariant in

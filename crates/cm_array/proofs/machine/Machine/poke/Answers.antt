@@ -6,7 +6,7 @@ use Rattle.cm_array.proofs.machine.Machine.poke.Goals as goal
 
 pub invariant_of-self : goal.invariant_of-self
 invariant_of-self g c =
-    let parts = c.self.inside.parts in
+    let parts = c.self.inside.state in
     let chip = get_or parts.run c.args.chip [] in
     AreParts-with_chip g.row.N g.row.CAP parts c.poke.new.self c.args.chip
     (with_memory_bit chip c.args.proc c.args.at c.args.bit)

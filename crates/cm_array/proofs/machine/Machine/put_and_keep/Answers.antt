@@ -20,7 +20,7 @@ pub loop-piece-init : goal.loop-piece-init
 loop-piece-init g c =
     let pieces = map (λ (piece : g.row.P.Denot). (g.P.IntoPart.held piece).part) c.args.pieces.items in
     let none : ℕ → List Message = λ k. [] in
-    let parts = c.self.inside.parts in
+    let parts = c.self.inside.state in
     let were = c.self.invariant in
     record {
       chips = none_put (λ (s : Part). s.chips) pieces parts.run;
@@ -35,14 +35,16 @@ loop-piece-init g c =
       log_count = length-logs g.row.N g.row.CAP parts (AreUnderWay-parts g.row.N g.row.CAP parts were);
       sent_count = were.sized.sent_count;
       incoming_count = were.sized.incoming_count;
+      dims = were.sized.dims;
+      room = were.sized.room;
       cube = were.sized.cube;
       clock = λ l. absurd (omega (arith, l));
       routing = λ l. absurd (omega (arith, l));
       within = λ l. absurd (omega (arith, l));
     }
 
-pub put_one-at-requires-clause-chips : goal.put_one-at-requires-clause-chips
-put_one-at-requires-clause-chips g c =
+pub put-at-requires-clause-chips : goal.put-at-requires-clause-chips
+put-at-requires-clause-chips g c =
     let pieces = c.args.pieces.items in
     let parts = map (λ (piece : g.row.P.Denot). (g.P.IntoPart.held piece).part) pieces in
     let j = length c.loop-piece.yielded in
@@ -55,18 +57,18 @@ put_one-at-requires-clause-chips g c =
     let next = next_held g.P.IntoPart.held pieces j c.in-Some.piece c.into_part-part.result turn c.into_part-part.ensures.value in
     omega (
       arith,
-      next_fits (λ (x : Part). x.chips) parts j c.loop-piece.at s c.loop-piece.parts.run next.0 next.1
+      next_fits (λ (x : Part). x.chips) parts j c.loop-piece.at s c.loop-piece.state.run next.0 next.1
           c.loop-piece.invariant.chips,
       c.loop-piece.invariant.chip_count,
       c.requires.whole.machine.chip_count,
     )
 
-pub put_one-at-requires-clause-few : goal.put_one-at-requires-clause-few
-put_one-at-requires-clause-few g c =
+pub put-at-requires-clause-few : goal.put-at-requires-clause-few
+put-at-requires-clause-few g c =
     omega (arith, c.loop-piece.invariant.chip_count, few_chips g.row.N c.self.invariant.sized.sizes.dimension)
 
-pub put_one-at-requires-clause-wires : goal.put_one-at-requires-clause-wires
-put_one-at-requires-clause-wires g c =
+pub put-at-requires-clause-wires : goal.put-at-requires-clause-wires
+put-at-requires-clause-wires g c =
     let pieces = c.args.pieces.items in
     let parts = map (λ (piece : g.row.P.Denot). (g.P.IntoPart.held piece).part) pieces in
     let j = length c.loop-piece.yielded in
@@ -97,9 +99,9 @@ loop-piece-preserved g c =
     let next = next_held g.P.IntoPart.held pieces j c.in-Some.piece c.into_part-part.result turn c.into_part-part.ensures.value in
     let more = length_push c.loop-piece.yielded c.in-Some.piece in
     let were = c.loop-piece.invariant in
-    let put = c.put_one-at.ensures in
-    let old = c.loop-piece.parts in
-    let new = c.put_one-at.new.parts in
+    let put = c.put-at.ensures in
+    let old = c.loop-piece.state in
+    let new = c.put-at.new.self in
     let events : Log → List Event = λ log. log.items in
     record {
       chips = next_put (λ (x : Part). x.chips) parts j at s old.run new.run _ _ next.0 next.1 more put.end
@@ -118,6 +120,8 @@ loop-piece-preserved g c =
           ∙ were.log_count;
       sent_count = put.sent ∙ were.sent_count;
       incoming_count = put.incoming ∙ were.incoming_count;
+      dims = (λ i. (put.shape i).dims) ∙ were.dims;
+      room = (λ i. (put.shape i).room) ∙ were.room;
       cube = put.cube ∙ were.cube;
       clock = λ l. put.clock ∙ ap (λ (x : Part). x.clock) next.1 ∙ c.requires.whole.clock j s next.0;
       routing = λ l. put.routing ∙ ap (λ (x : Part). x.routing) next.1 ∙ c.requires.whole.routing j s next.0;
@@ -134,7 +138,7 @@ invariant_of-self g c =
     c.loop-piece.piece-iterator
     c.loop-piece.yielded_by c.next.result c.next.new.self c.in-None.is c.next.ensures.steps in
     let all = end.1 ∙ sym (length-map pieces (λ (piece : g.row.P.Denot). (g.P.IntoPart.held piece).part)) in
-    AreParts-all_put g.row.N g.row.CAP parts (length c.loop-piece.yielded) c.loop-piece.at c.loop-piece.parts
+    AreParts-all_put g.row.N g.row.CAP parts (length c.loop-piece.yielded) c.loop-piece.at c.loop-piece.state
     c.gather.new.self c.loop-piece.invariant all c.requires.whole.machine c.gather.ensures.value
     c.self.invariant.sized.sizes c.gather.ensures.gathered
 
@@ -149,6 +153,6 @@ returns g c =
     c.loop-piece.yielded_by c.next.result c.next.new.self c.in-None.is c.next.ensures.steps in
     let all = end.1 ∙ sym (length-map pieces (λ (piece : g.row.P.Denot). (g.P.IntoPart.held piece).part)) in
     record {
-      value = machine_of-put g.row.N g.row.CAP parts (length c.loop-piece.yielded) c.loop-piece.at c.loop-piece.parts
+      value = machine_of-put g.row.N g.row.CAP parts (length c.loop-piece.yielded) c.loop-piece.at c.loop-piece.state
           c.gather.new.self c.loop-piece.invariant all c.requires.whole.machine c.gather.ensures.value;
     }

@@ -25,14 +25,14 @@ long_earlier g c =
 
 pub append_logs-requires-clause-count : goal.append_logs-requires-clause-count
 append_logs-requires-clause-count g c =
-    let parts = c.self.inside.parts in
+    let parts = c.self.inside.state in
     ap length c.deref.ensures.value
     ∙ length-logs g.row.N g.row.CAP parts (AreUnderWay-parts g.row.N g.row.CAP parts c.self.invariant)
     ∙ sym (long_earlier g c) ∙ ap length (sym c.deref_mut.ensures.value)
 
 pub append_logs-requires-clause-room : goal.append_logs-requires-clause-room
 append_logs-requires-clause-room g c =
-    let parts = c.self.inside.parts in
+    let parts = c.self.inside.state in
     let earlier = c.earlier.inside.logs.items in
     let all : TakeIn (log_rooms_of earlier) (machine_of parts).logs =
     subst (λ (aside : Aside). TakeIn aside.log_rooms (machine_of parts).logs) (sym c.earlier.view_is)
@@ -59,7 +59,7 @@ put_back n parts now earlier aside kept same_logs same long is =
 
 pub invariant_of-self : goal.invariant_of-self
 invariant_of-self g c =
-    let parts = c.self.inside.parts in
+    let parts = c.self.inside.state in
     let earlier = c.earlier.inside.logs in
     let before = ap (λ (aside : Aside). aside.logs) c.earlier.view_is in
     let under = AreUnderWay-parts g.row.N g.row.CAP parts c.self.invariant in
@@ -72,11 +72,11 @@ invariant_of-self g c =
     c.requires.whole
     (put_back g.row.N parts c.replace-told.new.dest earlier.items c.args.earlier c.args.self.now before
     (ap (λ (kept : MachineView). kept.machine) c.self.view_is) (length-events g.row.N g.row.CAP parts under) logs)
-    c.self.invariant.gathered refl refl c.self.invariant.sized.clock refl
+    c.self.invariant.gathered refl refl refl c.self.invariant.sized.clock refl
 
 pub returns : goal.returns
 returns g c =
-    let parts = c.self.inside.parts in
+    let parts = c.self.inside.state in
     let earlier = c.earlier.inside.logs in
     let before = ap (λ (aside : Aside). aside.logs) c.earlier.view_is in
     let under = AreUnderWay-parts g.row.N g.row.CAP parts c.self.invariant in

@@ -1,25 +1,47 @@
-use Rattle.std.proofs.Common.{◌≡◌, ◌+◌, ◌*◌, ◌^◌, ◌<◌, ℕ, rules, sym, subst, arith}
-use Rattle.std.proofs.lemmas.Nat.{pow_pos}
+use Rattle.std.proofs.Common.{◌≡◌, ℕ, ◌+◌, ◌*◌, ◌^◌, ◌≤◌, rules, subst, sym, ap, arith}
+use Rattle.cm_model.specs.Machine.{Machine}
 use Rattle.cm_router.specs.Logs.{log_room}
 use Rattle.cm_array.specs.declared.chip_state.ChipState.{ChipState}
-use Rattle.cm_array.specs.Parts.{MachineView, LacksLogRoom, shares}
-use Rattle.cm_array.proofs.Rooms.{on_err, share_lacks}
-use Rattle.cm_array.proofs.Machines.{length-logs, AreUnderWay-parts}
+use Rattle.cm_array.specs.Parts.{AreParts, MachineView}
+use Rattle.cm_array.proofs.Machines.{at_sizes, AreParts-at_shape}
 use Rattle.cm_array.proofs.machine.Machine.run.Goals as goal
 
-pub returns-in_err-make_room-clause-memory : goal.returns-in_err-make_room-clause-memory
-returns-in_err-make_room-clause-memory g c =
-    let parts = c.self.inside.parts in
-    let cycles = c.args.cycles in
-    let most : ℕ = 4 + g.row.CAP in
-    let same : c.pass_time.new.parts ≡ parts = c.pass_time.ensures.same (search rules) in
-    let chips = length-logs g.row.N g.row.CAP parts (AreUnderWay-parts g.row.N g.row.CAP parts c.self.invariant) in
-    let short : log_room c.pass_time.new.parts.row < cycles * (c.chip_count.result * most) =
-    omega (arith, c.in_err-make_room.ensures.full) in
-    let few : log_room parts.row < cycles * (2 ^ g.row.N * most) =
-    subst (λ (p : ChipState). log_room p.row < cycles * (2 ^ g.row.N * most)) same
-    (subst (λ (n : ℕ). log_room c.pass_time.new.parts.row < cycles * (n * most)) c.chip_count.ensures.value short) in
-    on_err c.from_residual.result
-    (subst (λ (k : MachineView). LacksLogRoom (cycles * most) k.log_rooms) c.self.view_is
-    (subst (λ (n : ℕ). LacksLogRoom (cycles * most) (shares n (log_room parts.row))) (sym chips)
-    (share_lacks (2 ^ g.row.N) cycles most (log_room parts.row) (pow_pos g.row.N) few)))
+-- what holds of the sizes of a shape holds of those that they are
+at_own : (n cap : ℕ) (old new : ChipState) → old.shape.dims ≡ n → old.shape.room ≡ cap
+    → AreParts old.shape.dims old.shape.room new → AreParts n cap new
+at_own n cap old new dims room h =
+    at_sizes (λ d r. AreParts d r new) old.shape.dims old.shape.room n cap (sym dims) (sym room) h
+
+pub pass_time-requires-clause-state : goal.pass_time-requires-clause-state
+pass_time-requires-clause-state g c = AreParts-at_shape g.row.N g.row.CAP c.self.inside.state c.self.invariant
+
+pub reserve_row-requires-clause-state : goal.reserve_row-requires-clause-state
+reserve_row-requires-clause-state g c =
+    AreParts-at_shape c.self.inside.state.shape.dims c.self.inside.state.shape.room c.pass_time.new.self
+    c.pass_time.ensures.state
+
+pub run-requires-clause-state : goal.run-requires-clause-state
+run-requires-clause-state g c =
+    AreParts-at_shape c.pass_time.new.self.shape.dims c.pass_time.new.self.shape.room c.reserve_row.new.self
+    c.reserve_row.ensures.state
+
+pub run-requires-clause-clock : goal.run-requires-clause-clock
+run-requires-clause-clock g c =
+    let same : c.pass_time.new.self ≡ c.self.inside.state = c.pass_time.ensures.same (search rules) in
+    omega (
+      arith,
+      ap (λ (m : Machine). m.clock) c.reserve_row.ensures.machine,
+      ap (λ (s : ChipState). s.clock) same,
+      ap (λ (kept : MachineView). kept.machine.clock) c.self.view_is,
+      c.requires.clock,
+      c.requires.cycles,
+    )
+
+pub run-requires-clause-log_room : goal.run-requires-clause-log_room
+run-requires-clause-log_room g c =
+    let was = c.pass_time.new.self in
+    let now = c.reserve_row.new.self in
+    let sized = c.reserve_row.ensures.state.sized in
+    subst (λ (k : ℕ). k * (2 ^ now.shape.dims * (4 + now.shape.room)) ≤ log_room now.row) c.requires.cycles
+    (at_sizes (λ d r. c.args.cycles * (2 ^ d * (4 + r)) ≤ log_room now.row) was.shape.dims was.shape.room
+    now.shape.dims now.shape.room sized.dims sized.room c.in_ok-reserve_row.ensures.ok)

@@ -1,5 +1,4 @@
-use Rattle.std.proofs.Common.{◌≡◌, List, [], length, ap, sym, ◌∙◌, refl}
-use Rattle.std.specs.Vec.{with_items}
+use Rattle.std.proofs.Common.{◌≡◌, List, [], length, ap, sym, ◌∙◌, refl, subst}
 use Rattle.cm_model.specs.declared.message.Event.{Event}
 use Rattle.cm_model.specs.Each.{tabulate}
 use Rattle.cm_router.specs.Routes.{routing_of}
@@ -9,7 +8,8 @@ use Rattle.cm_router.specs.Rows.{with_row}
 use Rattle.cm_router.proofs.Telling.{with_row-nil}
 use Rattle.cm_petit.specs.Routers.{events_of}
 use Rattle.cm_array.specs.SavedLogs.{unlogged}
-use Rattle.cm_array.specs.Parts.{MachineView, machine_of}
+use Rattle.cm_array.specs.declared.chip_state.ChipState.{ChipState}
+use Rattle.cm_array.specs.Parts.{MachineView, machine_of, AreParts}
 use Rattle.cm_array.proofs.Lists.{items-lent}
 use Rattle.cm_array.proofs.Behind.{IsMachine-unlogged}
 use Rattle.cm_array.proofs.Putting.{AreParts-put}
@@ -24,13 +24,18 @@ told_by_none g c =
     ∙ with_row-nil (events_of c.in_ok-none.none.items) ∙ c.in_ok-none.ensures.value
     ∙ ap (λ k. tabulate {X = List Event} 0 k (λ b. [])) (c.chips.ensures.value ∙ c.self.invariant.machine.chip_count)
 
-machine_is : (g : Over) (c : After-replace g) → machine_of (record c.self.inside.parts {
-  logs = c.replace.new.dest;
-  row = c.deal_out.new.row;
-})
-    ≡ unlogged g.row.N (machine_of c.self.inside.parts)
+-- what is kept then
+kept_aside : (g : Over) → After-replace g → ChipState
+kept_aside g c = record c.self.inside.state { logs = c.replace.new.dest; row = c.deal_out.new.row }
+
+is_kept : (g : Over) (c : After-replace g) → record c.reserve_logs.new.self { logs = c.replace.new.dest } ≡ kept_aside g c
+unfolding kept_aside
+is_kept g c = ap (λ (s : ChipState). record s { logs = c.replace.new.dest }) c.reserve_logs.ensures.value
+
+machine_is : (g : Over) (c : After-replace g) → machine_of (kept_aside g c) ≡ unlogged g.row.N (machine_of c.self.inside.state)
+unfolding kept_aside
 machine_is g c =
-    let parts = c.self.inside.parts in
+    let parts = c.self.inside.state in
     let logs = told_by_none g c in
     λ i. record {
       chips = parts.run;
@@ -41,25 +46,25 @@ machine_is g c =
     }
 
 pub invariant_of-self-2 : goal.invariant_of-self-2
+unfolding kept_aside
 invariant_of-self-2 g c =
-    let parts = c.self.inside.parts in
-    AreParts-put g.row.N g.row.CAP parts _ (unlogged g.row.N (machine_of parts)) c.self.invariant
+    let parts = c.self.inside.state in
+    subst (λ (s : ChipState). AreParts g.row.N g.row.CAP s) (sym (is_kept g c))
+    (AreParts-put g.row.N g.row.CAP parts (kept_aside g c) (unlogged g.row.N (machine_of parts)) c.self.invariant
     (IsMachine-unlogged g.row.N g.row.CAP (machine_of parts) c.self.invariant.machine) (machine_is g c)
-    c.self.invariant.gathered refl refl c.self.invariant.sized.clock refl
+    c.self.invariant.gathered refl refl refl c.self.invariant.sized.clock refl)
 
 pub returns-clause-ok : goal.returns-clause-ok
 returns-clause-ok g c =
-    machine_is g c ∙ ap (λ (kept : MachineView). unlogged g.row.N kept.machine) c.self.view_is
+    ap machine_of (is_kept g c) ∙ machine_is g c
+    ∙ ap (λ (kept : MachineView). unlogged g.row.N kept.machine) c.self.view_is
 
 pub returns-clause-logs : goal.returns-clause-logs
 returns-clause-logs g c =
-    let parts = c.self.inside.parts in
+    let parts = c.self.inside.state in
     let dealt = c.deal_out.new.logs in
     let first = items-lent parts.logs dealt (c.deal_out.auto.logs ∙ ap length c.deref_mut.ensures.value) in
-    let next = items-lent (with_items parts.logs dealt) c.reserve.new.logs
-    (c.reserve.auto.logs ∙ ap length c.deref_mut-2.ensures.value) in
-    ap (λ v. events_of v.items) c.replace.ensures.value ∙ ap events_of next ∙ c.reserve.ensures.events
-    ∙ ap events_of c.deref_mut-2.ensures.value ∙ ap events_of first
+    ap (λ v. events_of v.items) c.replace.ensures.value ∙ c.reserve_logs.ensures.events ∙ ap events_of first
     ∙ sym (with_row-nil (events_of dealt)) ∙ ap (with_row (events_of dealt)) (sym c.in_ok-deal_out.ensures.ok)
     ∙ c.deal_out.ensures.value
     ∙ ap (λ (logs : List Log). with_row (events_of logs) parts.row.items) c.deref_mut.ensures.value

@@ -15,15 +15,15 @@ returns-clause-value c =
     let nano = c.args.nano.now in
     let sent = c.send.new.sent in
     let out = c.write_edge.new.out in
-    let before : PartView = part_view inside.sizes.dims inside.sizes.room inside.first inside.parts in
-    let band : IsBand inside.sizes.dims before.part =
+    let before : PartView = part_view inside.first inside.state in
+    let band : IsBand inside.state.shape.dims before.part =
     subst (λ (k : PartView). IsBand k.dims k.part) (sym c.self.view_is) c.requires.band in
     let as_many = c.send.auto.sent ∙ ap length c.deref_mut.ensures.value in
     subst (λ (k : PartView). Edge (edge_bits out) ≡ due k.dims k.room (Instruct nano) k.part) c.self.view_is
-    (edge_due inside.sizes.dims inside.sizes.room nano before.part sent out c.requires.vertical band refl
+    (edge_due inside.state.shape.dims inside.state.shape.room nano before.part sent out c.requires.vertical band refl
     (as_many ∙ c.self.invariant.sized.sent_count)
     (c.write_edge.auto.out ∙ c.requires.lanes ∙ ap (λ (k : PartView). chip_columns k.dims) (sym c.self.view_is))
     c.send.ensures.value
     (subst (λ (planes : List ℕ). IsEdgeOf nano.dir planes out)
-    (c.deref.ensures.value ∙ items-lent inside.parts.sent sent as_many) c.write_edge.ensures.value)
-    (edge_inside inside.sizes.dims nano.dir before.part band).1)
+    (c.deref.ensures.value ∙ items-lent inside.state.sent sent as_many) c.write_edge.ensures.value)
+    (edge_inside inside.state.shape.dims nano.dir before.part band).1)
