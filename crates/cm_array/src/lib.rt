@@ -5,6 +5,7 @@ mod builder;
 mod chip_state;
 mod finding;
 mod instructions;
+mod limits;
 mod log_laws;
 mod log_view;
 mod machine;
@@ -20,6 +21,7 @@ mod stepping;
 mod tags;
 
 pub use builder::{BuildFault, Builder};
+pub use limits::{LAST_CLOCK, LONGEST, MOST_CYCLES, MOST_DIMENSIONS, MOST_ROOM};
 pub use log_laws::{few_events_are_told, logs_are_never_read};
 pub use log_view::Log;
 pub use machine::{Machine, MachineFault};

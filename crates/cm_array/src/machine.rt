@@ -26,6 +26,7 @@ use crate::chip_state::{
     ChipState, blank_logs, blank_planes, copied_logs, make_room, pass_time, reserve, run,
 };
 use crate::finding::{delivered_to, router_of, told_in};
+use crate::limits::{MOST_DIMENSIONS, MOST_ROOM};
 use crate::log_view::Log;
 use crate::part::{Part, lay_all_buffers, lay_chips};
 use crate::put::{IntoPart, keep, put_one};
@@ -42,10 +43,6 @@ use std::alloc::Global;
 use std::marker::Model;
 use std::mem;
 use thiserror::Error;
-
-const MOST_DIMENSIONS: usize = 12;
-
-const MOST_ROOM: usize = 15;
 
 /// Most events of a chip in one petit cycle, beside one for each message that its router has room for.
 const MOST_INJECTED: usize = 4;

@@ -8,16 +8,11 @@ ghost use Rattle.cm_array.specs.Acts.{cycles_in, is_cycle, is_late, is_long};
 ghost use Rattle.cm_array.specs.Faults.{CountsLacks, is_no_thread, plain_threads_lacked, WantsChangeTheirCount};
 ghost use Rattle.cm_array.specs.Parts.{LacksLogRoom};
 
+use crate::limits::{LAST_CLOCK, LONGEST, MOST_CYCLES};
 use crate::machine::Machine;
 use cm_bits::NoMemory;
 use cm_model::Act;
 use thiserror::Error;
-
-const LONGEST: usize = 4096;
-
-const MOST_CYCLES: usize = 64;
-
-const LAST_CLOCK: u64 = u64::MAX >> 1;
 
 /// Why a list of acts was not run.
 #[derive(Clone, Copy, Debug, PartialEq, Eq, Error)]
