@@ -11,6 +11,7 @@ use Rattle.lab_counts.specs.declared.crossings.Crossings.{Crossings}
 abbrev pub last_digit : ℕ → List ℕ
 last_digit x = decimal (x % 10)
 
+-- its last two
 abbrev pub last_two : ℕ → List ℕ
 last_two x = last_digit (x / 10) ++ last_digit x
 

@@ -15,7 +15,7 @@ pub enum PlotFault {
     #[error("line {0}: {1} names, where the first and at most nine more are drawn")]
     Wide(u64, usize),
     /// A line that has so many cells, and how many columns the table has.
-    #[error("line {0}: {2} cells are wanted, as in the first line, not {1}")]
+    #[error("line {0}: as many cells as in the first line are wanted, {2}, not {1}")]
     Width(u64, usize, usize),
     /// A line and a column.
     #[error("line {0}, column {1}: no number, as 12 or 0.5")]
