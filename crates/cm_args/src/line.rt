@@ -1,9 +1,10 @@
-ghost use Rattle.std.specs.Prelude.{◌≡◌, ℕ, List, [], ◌∷◌, Option, Some, None, IfOk, IfSome, IsErrOf, String};
+ghost use Rattle.std.specs.Prelude.{◌≡◌, ℕ, List, Option, None, IfOk, IfSome, IsErrOf};
 ghost use Rattle.std.specs.Prelude.{codes, option_map, string_bytes};
 ghost use Rattle.clap.specs.Walk.{first_of, rows_of, texts};
 ghost use Rattle.clap.specs.Matches.{found_of};
 ghost use Rattle.cm_args.specs.Lines.{AsksFor, IsBadLine, IsLine, IsFreshLine, IsRunLine, IsNumberOperand};
 ghost use Rattle.cm_args.specs.Lines.{IsNumberOption, IsWeaveLine};
+ghost use Rattle.cm_args.specs.Laws.{BadLinesAskForNothing, LinesAskFor};
 
 use crate::app::{DIMENSION, FILE, IMAGE, OUT, PROGRAM, ROOM, SPLIT, STEPS, WORKERS, matches};
 use crate::fault::LineFault;
@@ -206,95 +207,6 @@ fn number_option(operands: &ArgMatches, name: &str, least: u8, most: u8, usual: 
 /// range behind it, and `weave` with one operand or four, with `--workers`, or with a number out of its range do not.
 #[tactic(auto, unfolding(clap::proofs::OnLiterals::clap_on_literals))]
 pub fn lines_and_bad_lines()
-    ensures chip { AsksFor (codes "cm1" ∷ codes "chip" ∷ []) Line.Chip }
-    ensures lone_dashes { AsksFor (codes "cm1" ∷ codes "chip" ∷ codes "--" ∷ []) Line.Chip }
-    ensures list { (program : String Global) → string_bytes program ≡ codes "sums.txt"
-        → AsksFor (codes "cm1" ∷ codes "list" ∷ codes "sums.txt" ∷ []) (Line.List program) }
-    ensures fresh { (file : String Global) → string_bytes file ≡ codes "blank.image"
-        → AsksFor (codes "cm1" ∷ codes "fresh" ∷ codes "12" ∷ codes "7" ∷ codes "blank.image" ∷ [])
-        (Line.Fresh 12 7 file) }
-    ensures help { IsBadLine (codes "cm1" ∷ codes "help" ∷ []) }
-    ensures help_flag { IsBadLine (codes "cm1" ∷ codes "--help" ∷ []) }
-    ensures short_help_flag { IsBadLine (codes "cm1" ∷ codes "-h" ∷ []) }
-    ensures help_of_chip { IsBadLine (codes "cm1" ∷ codes "chip" ∷ codes "--help" ∷ []) }
-    ensures version_flag { IsBadLine (codes "cm1" ∷ codes "--version" ∷ []) }
-    ensures short_version_flag { IsBadLine (codes "cm1" ∷ codes "-V" ∷ []) }
-    ensures name_alone { IsBadLine (codes "cm1" ∷ []) }
-    ensures no_words { IsBadLine [] }
-    ensures unknown { IsBadLine (codes "cm1" ∷ codes "ship" ∷ []) }
-    ensures operand { IsBadLine (codes "cm1" ∷ codes "chip" ∷ codes "3" ∷ []) }
-    ensures option { IsBadLine (codes "cm1" ∷ codes "chip" ∷ codes "--out" ∷ []) }
-    ensures no_program { IsBadLine (codes "cm1" ∷ codes "list" ∷ []) }
-    ensures two_programs { IsBadLine (codes "cm1" ∷ codes "list" ∷ codes "sums.txt" ∷ codes "more.txt" ∷ []) }
-    ensures run { (image : String Global) (program : String Global) → string_bytes image ≡ codes "a.image"
-        → string_bytes program ≡ codes "sums.txt"
-        → AsksFor (codes "cm1" ∷ codes "run" ∷ codes "a.image" ∷ codes "sums.txt" ∷ [])
-        (Line.Run image program 0 1 None) }
-    ensures run_with_out { (image : String Global) (program : String Global) (out : String Global)
-        → string_bytes image ≡ codes "a.image" → string_bytes program ≡ codes "sums.txt"
-        → string_bytes out ≡ codes "b.image"
-        → AsksFor
-        (codes "cm1" ∷ codes "run" ∷ codes "a.image" ∷ codes "sums.txt" ∷ codes "--out" ∷ codes "b.image" ∷ [])
-        (Line.Run image program 0 1 (Some out)) }
-    ensures run_with_out_first { (image : String Global) (program : String Global) (out : String Global)
-        → string_bytes image ≡ codes "a.image" → string_bytes program ≡ codes "sums.txt"
-        → string_bytes out ≡ codes "b.image"
-        → AsksFor (codes "cm1" ∷ codes "run" ∷ codes "--out=b.image" ∷ codes "a.image" ∷ codes "sums.txt" ∷ [])
-        (Line.Run image program 0 1 (Some out)) }
-    ensures run_with_split { (image : String Global) (program : String Global) → string_bytes image ≡ codes "a.image"
-        → string_bytes program ≡ codes "sums.txt"
-        → AsksFor
-        (codes "cm1" ∷ codes "run" ∷ codes "a.image" ∷ codes "sums.txt" ∷ codes "--split" ∷ codes "6" ∷ [])
-        (Line.Run image program 6 1 None) }
-    ensures run_with_workers { (image : String Global) (program : String Global) → string_bytes image ≡ codes "a.image"
-        → string_bytes program ≡ codes "sums.txt"
-        → AsksFor
-        (codes "cm1" ∷ codes "run" ∷ codes "--split=2" ∷ codes "--workers" ∷ codes "64" ∷ codes "a.image"
-        ∷ codes "sums.txt" ∷ [])
-        (Line.Run image program 2 64 None) }
-    ensures option_of_list { IsBadLine (codes "cm1" ∷ codes "list" ∷ codes "sums.txt" ∷ codes "--out" ∷ []) }
-    ensures run_without_program { IsBadLine (codes "cm1" ∷ codes "run" ∷ codes "a.image" ∷ []) }
-    ensures run_of_three { IsBadLine
-        (codes "cm1" ∷ codes "run" ∷ codes "a.image" ∷ codes "sums.txt" ∷ codes "more.txt" ∷ []) }
-    ensures unknown_option_of_run { IsBadLine
-        (codes "cm1" ∷ codes "run" ∷ codes "a.image" ∷ codes "sums.txt" ∷ codes "--steps" ∷ codes "4" ∷ []) }
-    ensures out_without_file { IsBadLine
-        (codes "cm1" ∷ codes "run" ∷ codes "a.image" ∷ codes "sums.txt" ∷ codes "--out" ∷ []) }
-    ensures out_twice { IsBadLine
-        (codes "cm1" ∷ codes "run" ∷ codes "a.image" ∷ codes "sums.txt" ∷ codes "--out=b" ∷ codes "--out=c" ∷ []) }
-    ensures split_above_6 { IsBadLine
-        (codes "cm1" ∷ codes "run" ∷ codes "a.image" ∷ codes "sums.txt" ∷ codes "--split" ∷ codes "7" ∷ []) }
-    ensures split_that_is_no_number { IsBadLine
-        (codes "cm1" ∷ codes "run" ∷ codes "a.image" ∷ codes "sums.txt" ∷ codes "--split" ∷ codes "two" ∷ []) }
-    ensures split_without_number { IsBadLine
-        (codes "cm1" ∷ codes "run" ∷ codes "a.image" ∷ codes "sums.txt" ∷ codes "--split" ∷ []) }
-    ensures split_twice { IsBadLine
-        (codes "cm1" ∷ codes "run" ∷ codes "a.image" ∷ codes "sums.txt" ∷ codes "--split=1" ∷ codes "--split=2" ∷ []) }
-    ensures no_workers { IsBadLine
-        (codes "cm1" ∷ codes "run" ∷ codes "a.image" ∷ codes "sums.txt" ∷ codes "--workers" ∷ codes "0" ∷ []) }
-    ensures workers_above_64 { IsBadLine
-        (codes "cm1" ∷ codes "run" ∷ codes "a.image" ∷ codes "sums.txt" ∷ codes "--workers" ∷ codes "65" ∷ []) }
-    ensures workers_twice { IsBadLine
-        (codes "cm1" ∷ codes "run" ∷ codes "a.image" ∷ codes "sums.txt" ∷ codes "--workers=1" ∷ codes "--workers=2"
-        ∷ []) }
-    ensures weave { (image : String Global) (program : String Global) → string_bytes image ≡ codes "a.image"
-        → string_bytes program ≡ codes "sums.txt"
-        → AsksFor (codes "cm1" ∷ codes "weave" ∷ codes "a.image" ∷ codes "sums.txt" ∷ [])
-        (Line.Weave image program None 0 None) }
-    ensures weave_with_steps { (image : String Global) (program : String Global) (steps : String Global)
-        (out : String Global)
-        → string_bytes image ≡ codes "a.image" → string_bytes program ≡ codes "sums.txt"
-        → string_bytes steps ≡ codes "steps.txt" → string_bytes out ≡ codes "b.image"
-        → AsksFor
-        (codes "cm1" ∷ codes "weave" ∷ codes "a.image" ∷ codes "sums.txt" ∷ codes "--split" ∷ codes "1"
-        ∷ codes "steps.txt" ∷ codes "--out=b.image" ∷ [])
-        (Line.Weave image program (Some steps) 1 (Some out)) }
-    ensures weave_without_program { IsBadLine (codes "cm1" ∷ codes "weave" ∷ codes "a.image" ∷ []) }
-    ensures weave_of_four { IsBadLine
-        (codes "cm1" ∷ codes "weave" ∷ codes "a.image" ∷ codes "sums.txt" ∷ codes "steps.txt" ∷ codes "more.txt"
-        ∷ []) }
-    ensures weave_with_workers { IsBadLine
-        (codes "cm1" ∷ codes "weave" ∷ codes "a.image" ∷ codes "sums.txt" ∷ codes "--workers" ∷ codes "1" ∷ []) }
-    ensures weave_cut_seven_times { IsBadLine
-        (codes "cm1" ∷ codes "weave" ∷ codes "a.image" ∷ codes "sums.txt" ∷ codes "--split" ∷ codes "7" ∷ []) }
+    ensures lines { LinesAskFor }
+    ensures bad_lines { BadLinesAskForNothing }
 {}
