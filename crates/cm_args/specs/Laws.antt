@@ -1,5 +1,5 @@
 -- Lines as one types them: what each of some asks for, and that others ask for nothing. Ours.
-use Rattle.std.specs.Prelude.{◌≡◌, ℕ, ◌==◌, Bool, List, [], codes, Some, None, String, string_bytes}
+use Rattle.std.specs.Prelude.{◌≡◌, ◌==◌, List, [], codes, Some, None, String, string_bytes}
 use Rattle.std.specs.List.{slice_split}
 use Rattle.std.specs.declared.alloc.Global.{Global}
 use Rattle.clap.specs.Walk.{Text}
@@ -7,13 +7,9 @@ use Rattle.cm_args.specs.declared.line.Line.TheVariants as line
 use Rattle.cm_args.specs.Lines.{AsksFor, IsBadLine}
 use Prim.Native.String.{String as Typed}
 
--- a byte is a space
-abbrev pub is_space : ℕ → Bool
-is_space byte = byte == 32
-
 -- the words of a line in which one space stands between two words
 abbrev pub typed : Typed → List Text
-typed line = slice_split is_space (codes line)
+typed line = slice_split (λ byte. byte == 32) (codes line)
 
 -- each text of these characters is so
 abbrev pub EachText : Typed → (String Global → Type 0) → Type 0

@@ -4,7 +4,6 @@ ghost use Rattle.clap.specs.Walk.{first_of, rows_of, texts};
 ghost use Rattle.clap.specs.Matches.{found_of};
 ghost use Rattle.cm_args.specs.Lines.{AsksFor, IsBadLine, IsLine, IsFreshLine, IsRunLine, IsNumberOperand};
 ghost use Rattle.cm_args.specs.Lines.{IsNumberOption, IsWeaveLine};
-ghost use Rattle.cm_args.specs.Laws.{BadLinesAskForNothing, LinesAskFor};
 
 use crate::app::{DIMENSION, FILE, IMAGE, OUT, PROGRAM, ROOM, SPLIT, STEPS, WORKERS, matches};
 use crate::fault::LineFault;
@@ -198,15 +197,3 @@ fn number_option(operands: &ArgMatches, name: &str, least: u8, most: u8, usual: 
         None => Some(usual),
     }
 }
-
-/// A law: of the words below, `chip` alone, `list` with one operand, `fresh` with three, `run` with two and at most one
-/// `--out`, `--split` and `--workers` each, before its operands or behind them, and `weave` with two or three and at
-/// most one `--out` and `--split` each ask for a line. A call for help or for the version, no subcommand, no word at
-/// all, an unknown subcommand, an operand or an option of `chip`, `list` with no operand, with two or with an option,
-/// `run` with one operand or three, with another option, with an option twice, or with no file or no number of its
-/// range behind it, and `weave` with one operand or four, with `--workers`, or with a number out of its range do not.
-#[tactic(auto, unfolding(clap::proofs::OnLiterals::clap_on_literals))]
-pub fn lines_and_bad_lines()
-    ensures lines { LinesAskFor }
-    ensures bad_lines { BadLinesAskForNothing }
-{}

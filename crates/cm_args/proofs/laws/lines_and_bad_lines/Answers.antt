@@ -6,7 +6,7 @@ use Rattle.clap.specs.Faults.{fault_of}
 use Rattle.clap.specs.Walk.{Row, Text, first_of}
 use Rattle.cm_args.specs.Lines.{IsBadLine, IsNumberOperand, IsNumberOption, IsRunLine, program_app}
 use Rattle.clap.proofs.OnLiterals.{clap_on_literals}
-use Rattle.cm_args.proofs.line.lines_and_bad_lines.Goals as goal
+use Rattle.cm_args.proofs.laws.lines_and_bad_lines.Goals as goal
 
 -- a file of this name is found
 file : {name : Text} (it : String Global) → string_bytes it ≡ name → Some name ≡ Some (string_bytes it)
