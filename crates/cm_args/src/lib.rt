@@ -3,7 +3,9 @@
 
 mod app;
 mod fault;
+mod laws;
 mod line;
 
 pub use fault::LineFault;
-pub use line::{Line, command, lines_and_bad_lines};
+pub use laws::lines_and_bad_lines;
+pub use line::{Line, command};

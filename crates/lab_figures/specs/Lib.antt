@@ -1,5 +1,6 @@
 pub mod Checksums
 pub mod Formats
+pub mod Laws
 pub mod Looks
 pub mod Numbers
 pub mod Palettes

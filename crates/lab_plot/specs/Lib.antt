@@ -2,6 +2,7 @@ pub mod Axes
 pub mod Bins
 pub mod Cells
 pub mod Heads
+pub mod Laws
 pub mod Lines
 pub mod Panels
 pub mod Pictures

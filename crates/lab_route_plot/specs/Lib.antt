@@ -1,4 +1,5 @@
 pub mod Cycles
 pub mod Drawing
+pub mod Laws
 pub mod Legs
 pub mod Rows

@@ -1,6 +1,5 @@
-use Rattle.std.proofs.Common.{◌≡◌, ℕ, List, [], ◌∙◌, ap, false, get_or}
+use Rattle.std.proofs.Common.{◌≡◌, ℕ, List, [], ◌∙◌, false, get_or}
 use Rattle.std.specs.Borrow.{Bor}
-use Rattle.clap.specs.declared.builder.arg.Arg.{Arg}
 use Rattle.cm_args.specs.Lines.{optional_operand}
 use Rattle.cm_args.proofs.Rules.{local-push, rules-push, rules_more}
 use Rattle.cm_args.proofs.app.add_further.Goals as goal

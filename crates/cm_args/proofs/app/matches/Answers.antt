@@ -1,8 +1,7 @@
 use Rattle.std.proofs.Common.{◌≡◌, List, [], true, false, refl, subst, ap, ◌∙◌, inl, inr}
 use denote.Enum.Bare.{sameb}
-use Rattle.clap.specs.Walk.{Text, rows_of, texts}
-use Rattle.clap.specs.Matches.{found_of}
-use Rattle.clap.specs.Simple.{App, HasMatchesOf, app_of, is_simple}
+use Rattle.clap.specs.Walk.{Text, texts}
+use Rattle.clap.specs.Simple.{App, HasMatchesOf, is_simple}
 use Rattle.clap.specs.Faults.{fault_of, is_simple_and_free}
 use Rattle.clap.specs.Kinds.{HasKind, IsAmong, Kinds}
 use Rattle.clap.specs.Values.{kind_of}
