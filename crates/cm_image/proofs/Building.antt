@@ -20,8 +20,9 @@ use Rattle.cm_element.specs.Planes.{processor_in, chip_of}
 use Rattle.cm_image_format.specs.Image.{Listed, ChipImage}
 use Rattle.cm_image_format.specs.Whole.{plane_or, plane_at, planes_of, chip_from, Image, machine_of_image}
 use Rattle.cm_array.specs.Pokes.{machine_with_flag_plane}
+use Rattle.cm_image_fields.specs.Memory.{with_listed}
 use Rattle.cm_image.specs.Planes.{put_plane}
-use Rattle.cm_image.specs.Chips.{with_chip, with_flags, with_listed, with_message, with_chip_image, IsBlankFrom}
+use Rattle.cm_image.specs.Chips.{with_chip, with_flags, with_message, with_chip_image, IsBlankFrom}
 use Rattle.cm_image.specs.Chips.{blank_at, put_chip}
 
 -- ---- a chip of planes

@@ -17,17 +17,17 @@ use Rattle.cm_image_format.specs.Reading.{must, number_at, made, fault_in}
 use Rattle.cm_image_format.specs.Header.{Head, header_part}
 use Rattle.cm_image_format.specs.Cuts.{routing_part}
 use Rattle.cm_image_format.specs.Image.{message_part, messages_part, chip_part}
+use Rattle.cm_image_fields.specs.Cuts.{with_routing}
+use Rattle.cm_image_fields.proofs.Filling.{fill, counted_all}
 use Rattle.cm_image.specs.declared.pieces.SourceFault.{SourceFault}
 use Rattle.cm_image.specs.declared.pieces.SourceFault.TheVariants as source
 use Rattle.cm_image.specs.Chips.{with_chip_image, IsBlankFrom, chips_onto, IsReadTo}
-use Rattle.cm_image.specs.Cuts.{with_routing}
 use Rattle.cm_image.specs.Pieces.{GivesAtMost, GivesRest, IsStopped, between}
 use Rattle.cm_image.specs.Taken.{IsTakenIn, AreTakenIn}
 use Rattle.cm_image.specs.WaitingChips.{with_waiting}
 use Rattle.cm_image.proofs.Going.{goes_on-made, chip_goes_on, header_goes_on, routing_goes_on, last_bytes}
-use Rattle.cm_image.proofs.Filling.{fill, counted_all}
 use Rattle.cm_image.proofs.Waiting.{nothing_waits}
-use Rattle.cm_image.proofs.Taking.{same_place, no_more}
+use Rattle.cm_image.proofs.Standing.{same_place, no_more}
 use Rattle.cm_image.proofs.Loading.{made_of, blank_on, chips_on, read_to_first, routed}
 
 -- ---- what a source gives

@@ -2,7 +2,7 @@
 use Rattle.std.proofs.Common.{◌≡◌, ℕ, zero, suc, ◌+◌, ◌==◌, ◌<◌, ◌≤◌, ◌^◌, not, cond, Bool, true, false, List, []}
 use Rattle.std.proofs.Common.{◌∷◌, ◌++◌, length, take, get_or, refl, sym, ap, ◌∙◌, ⊎_elim, arith, append_assoc}
 use Rattle.std.proofs.Common.{if◌then◌else◌}
-use Rattle.std.specs.Int.{w8, w16, w32, w64}
+use Rattle.std.specs.Int.{w8, w16, w64}
 use Rattle.std.specs.List.{flat_map}
 use Rattle.std.proofs.lemmas.Bool.{cases_lt}
 use Rattle.std.proofs.lemmas.List.{append-nil, length-append, length_push, get_or_append_left, get_or_push, take_more}
@@ -14,7 +14,7 @@ use Rattle.cm_model.specs.Processor.{Processor}
 use Rattle.cm_model.specs.Array.{Chips, chip_at, nth_or_nil}
 use Rattle.cm_model.specs.Machine.{Machine}
 use Rattle.cm_message.specs.Bytes.{number_bytes, message_text}
-use Rattle.cm_image_format.specs.Header.{MAGIC, Head, head_text}
+use Rattle.cm_image_format.specs.Header.{head_text}
 use Rattle.cm_image_format.specs.Cuts.{head_of, routing_text}
 use Rattle.cm_image_format.specs.Image.{Listed, ChipImage, listed_text, chip_text}
 use Rattle.cm_image_format.specs.Whole.{flag_plane_of, memory_plane_of, image_of_chip, image_text, text_of}
@@ -39,24 +39,8 @@ pub grown : (text front part before after : List ℕ) → before ≡ text ++ fro
     → after ≡ text ++ (front ++ part)
 grown text front part before after is more = more ∙ (ap (λ (xs : List ℕ). xs ++ part) is ∙ append_assoc text front part)
 
--- ---- the header
-
 four : (a b c d : List ℕ) → ((a ++ b) ++ c) ++ d ≡ a ++ (b ++ (c ++ d))
 four a b c d = simp append_assoc
-
-in_a_row : (t a b c d e : List ℕ) → ((((t ++ a) ++ b) ++ c) ++ d) ++ e ≡ t ++ (a ++ (b ++ (c ++ (d ++ e))))
-in_a_row t a b c d e = simp append_assoc
-
-pub head_written : (head : Head) (text a b c d e : List ℕ) → a ≡ text ++ number_bytes w32 MAGIC
-    → b ≡ a ++ number_bytes w8 head.version → c ≡ b ++ number_bytes w8 head.dimension → d ≡ c ++ number_bytes w8 head.room
-    → e ≡ d ++ number_bytes w8 head.rule → e ≡ text ++ head_text head
-unfolding head_text
-head_written head text a b c d e first second third fourth fifth =
-    (λ i. fifth i) ∙ ((λ i. (fourth
-    ∙ (λ j. (third ∙ (λ k. (second ∙ (λ l. first l ++ number_bytes w8 head.version)) k ++ number_bytes w8 head.dimension)) j
-    ++ number_bytes w8 head.room)) i ++ number_bytes w8 head.rule)
-    ∙ in_a_row text (number_bytes w32 MAGIC) (number_bytes w8 head.version) (number_bytes w8 head.dimension) (number_bytes w8 head.room)
-    (number_bytes w8 head.rule))
 
 -- ---- flags
 

@@ -1,12 +1,11 @@
 -- How many bytes a dump has: of each part, of a chip, of all.
-use Rattle.std.proofs.Common.{◌≡◌, ℕ, ◌+◌, ◌*◌, ◌/◌, ◌^◌, ◌<◌, ◌≤◌, List, [], ◌∷◌, ◌++◌, length, refl, sym, ap, ◌∙◌}
+use Rattle.std.proofs.Common.{◌≡◌, ℕ, ◌+◌, ◌*◌, ◌/◌, ◌^◌, ◌<◌, ◌≤◌, List, [], ◌++◌, length, refl, sym, ap, ◌∙◌}
 use Rattle.std.proofs.Common.{arith, lit<}
 use Rattle.std.specs.Int.{w8, w16, w64}
 use Rattle.std.specs.List.{flat_map}
 use Rattle.std.proofs.Math.Nat.{pow-le-pow_right, mul-le-mul}
 use Rattle.std.proofs.lemmas.List.{length-append}
 use Rattle.std.proofs.lemmas.List.FromFn.{length-map-range_with_len}
-use Rattle.cm_bits.specs.Wire.{Wire}
 use Rattle.cm_model.specs.declared.message.Message.{Message}
 use Rattle.cm_model.specs.Each.{tabulate}
 use Rattle.cm_model.specs.Processor.{Processor}
@@ -14,22 +13,12 @@ use Rattle.cm_model.specs.Array.{chip_at, nth_or_nil}
 use Rattle.cm_model.specs.Machine.{Machine}
 use Rattle.cm_message.specs.Bytes.{number_bytes, message_text}
 use Rattle.cm_image_format.specs.Header.{Head, head_text}
-use Rattle.cm_image_format.specs.Cuts.{cut_text, listed_cuts_text, head_of, routing_text}
+use Rattle.cm_image_format.specs.Cuts.{head_of, routing_text}
 use Rattle.cm_image_format.specs.Image.{Listed, listed_text, chip_text}
 use Rattle.cm_image_format.specs.Whole.{flag_plane_of, image_of_chip, image_text, text_of}
+use Rattle.cm_image_fields.proofs.Lengths.{length-flat_map_same, two}
 use Rattle.cm_image.specs.Planes.{flags_text, planes_below, listed_below, chips_text}
 use Rattle.cm_image.proofs.Dumping.{chip_text-parts, chips_none, chips_more}
-
--- pieces of one length
-length-flat_map_same : {X : Type 0} (g : X → List ℕ) (k : ℕ) (xs : List X) → ((x : X) → length (g x) ≡ k)
-    → length (flat_map g xs) ≡ length xs * k
-length-flat_map_same g k [] same = omega arith
-length-flat_map_same g k (x ∷ xs) same =
-    omega (arith, length-append (g x) (flat_map g xs), same x, length-flat_map_same g k xs same)
-
-two : (n : ℕ) → length (number_bytes w16 n) ≡ 2
-unfolding number_bytes
-two n = refl
 
 listed_four : (x : Listed) → length (listed_text x) ≡ 4
 unfolding number_bytes
@@ -111,21 +100,6 @@ length-text_of n cap machine =
       length-append cuts chips,
       head_eight head,
       clock_eight machine.clock,
-    )
-
--- ---- the wires that are cut
-
-cut_three : (w : Wire) → length (cut_text w) ≡ 3
-unfolding number_bytes
-cut_three w = refl
-
-pub length-listed_cuts : (cuts : List Wire) → length (listed_cuts_text cuts) ≡ 2 + length cuts * 3
-length-listed_cuts cuts =
-    omega (
-      arith,
-      length-append (number_bytes w16 (length cuts)) (flat_map cut_text cuts),
-      two (length cuts),
-      length-flat_map_same cut_text 3 cuts cut_three,
     )
 
 -- so few that a number of two bytes counts them

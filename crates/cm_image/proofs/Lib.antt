@@ -1,7 +1,5 @@
-mod Filling
 mod Going
-mod Taking
-mod Cutting
+mod Standing
 mod Nearing
 mod Waiting
 mod Building

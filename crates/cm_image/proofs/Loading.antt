@@ -20,11 +20,12 @@ use Rattle.cm_element.specs.Near.{with_near}
 use Rattle.cm_element.specs.Planes.{chip_of}
 use Rattle.cm_image_format.specs.Whole.{planes_of, chip_from, Image, machine_of_image, messages_in, image_part, ended}
 use Rattle.cm_image_format.specs.Whole.{read_image, image_fault}
-use Rattle.cm_image.specs.Chips.{with_flags, with_listed, with_message, with_chip_image, IsBlankFrom, blank_at}
+use Rattle.cm_image_fields.specs.Memory.{with_listed}
+use Rattle.cm_image_fields.specs.Cuts.{with_routing}
+use Rattle.cm_image_fields.proofs.Filling.{fill, fill_on, fill_err, fill_done, fill_is, many_err}
+use Rattle.cm_image.specs.Chips.{with_flags, with_message, with_chip_image, IsBlankFrom, blank_at}
 use Rattle.cm_image.specs.Chips.{chips_part, machine_of_chips, put_chip, chips_onto, IsReadTo}
-use Rattle.cm_image.specs.Cuts.{with_routing}
 use Rattle.cm_image.specs.WaitingChips.{with_waiting}
-use Rattle.cm_image.proofs.Filling.{fill, fill_on, fill_err, fill_done, fill_is, many_err}
 use Rattle.cm_image.proofs.Building.{chip_built, blank_from-next, blank_from-blank_at, machine_built, messages_all}
 use Rattle.cm_image.proofs.Waiting.{nothing_waits}
 use Rattle.cm_image.proofs.Nearing.{near_within, near_more}

@@ -14,10 +14,10 @@ use Rattle.cm_model.specs.Laws.{CutsAreFew}
 use Rattle.cm_image_format.specs.Cuts.{listed_cuts_text, version_of, routing_text}
 use Rattle.cm_image_format.specs.Image.{Listed, chip_text}
 use Rattle.cm_image_format.specs.Whole.{memory_plane_of, image_of_chip}
+use Rattle.cm_image_fields.proofs.Lengths.{length-listed_cuts}
 use Rattle.cm_image.specs.Planes.{planes_below, chips_text}
 use Rattle.cm_image.specs.Longest.{TextsAreShort}
 use Rattle.cm_image.proofs.Lengths.{length-chip_text, length-chips_none, length-chips_more, length-text_of}
-use Rattle.cm_image.proofs.Lengths.{length-listed_cuts}
 
 few_planes : (chip : List Processor) (count : ℕ) → length (planes_below chip count) ≤ count
 unfolding planes_below tabulate

@@ -16,9 +16,9 @@ use Rattle.cm_image_format.specs.declared.fault.ImageFault.TheVariants.{Count}
 use Rattle.cm_image_format.specs.Reading.{number_at, many, made, must}
 use Rattle.cm_image_format.specs.Image.{Listed, listed_part, memory_part}
 use Rattle.cm_image_format.specs.Whole.{plane_or, plane_at, planes_of}
+use Rattle.cm_image_fields.proofs.Filling.{counted_is}
+use Rattle.cm_image_fields.proofs.Taking.{next_address}
 use Rattle.cm_image.specs.WaitingChips.{AreWaitingPlanes, AreListedFrom, with_waiting}
-use Rattle.cm_image.proofs.Filling.{counted_is}
-use Rattle.cm_image.proofs.Taking.{next_address}
 
 each_more : {X : Type 0} (count : ℕ) (f : ℕ → X) → tabulate 0 (count + 1) f ≡ tabulate 0 count f ++ f count ∷ []
 unfolding tabulate

@@ -6,11 +6,11 @@ use Rattle.cm_model.specs.Array.{chip_at, nth_or_nil}
 use Rattle.cm_model.specs.Wiring.{Routing}
 use Rattle.cm_model.specs.Machine.{Machine, blank_machine}
 use Rattle.cm_element.specs.Planes.{chip_of}
-use Rattle.cm_array.specs.Pokes.{machine_with_plane, machine_with_message}
+use Rattle.cm_array.specs.Pokes.{machine_with_message}
 use Rattle.cm_image_format.specs.Reading.{Read, made, many}
 use Rattle.cm_image_format.specs.Header.{Head, header_part}
 use Rattle.cm_image_format.specs.Cuts.{routing_part}
-use Rattle.cm_image_format.specs.Image.{Listed, ChipImage, chip_part}
+use Rattle.cm_image_format.specs.Image.{ChipImage, chip_part}
 use Rattle.cm_image_format.specs.Whole.{chip_from, machine_of_image}
 
 -- the machine with a chip of these planes, of memory and of flags
@@ -20,10 +20,6 @@ with_chip c machine memory flags = record machine { chips = slice_set machine.ch
 -- the machine with these flag planes in a chip, whose memory is 0
 abbrev pub with_flags : ℕ → Machine → List ℕ → Machine
 with_flags c machine flags = with_chip c machine (replicate 4096 0) flags
-
--- the machine with the plane that is listed in a chip
-abbrev pub with_listed : ℕ → Machine → Listed → Machine
-with_listed c machine x = machine_with_plane machine c x.at x.plane
 
 -- the machine with a message more at a chip
 abbrev pub with_message : ℕ → Machine → Message → Machine

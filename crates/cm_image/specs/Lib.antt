@@ -1,7 +1,6 @@
 pub mod Planes
 pub mod Chips
 pub mod WaitingChips
-pub mod Cuts
 pub mod Pieces
 pub mod Taken
 pub mod Sending

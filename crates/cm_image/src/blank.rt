@@ -6,9 +6,9 @@ ghost use Rattle.cm_model.specs.Machine.{blank_machine};
 ghost use Rattle.cm_router.specs.Routes.{routing_of};
 ghost use Rattle.cm_image_format.specs.Whole.{text_of};
 
-use crate::cuts::{push_cuts, version_of};
-use crate::dumps::{BLANK_CHIP_LEN, push_head, push_u64};
+use crate::dumps::BLANK_CHIP_LEN;
 use cm_bits::NoMemory;
+use cm_image_fields::{push_cuts, push_head, push_u64, version_of};
 use cm_model::cuts_are_few;
 use cm_router::Routing;
 use std::alloc::Global;

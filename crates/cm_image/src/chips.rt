@@ -1,94 +1,21 @@
 //! The chips of an image.
 
-ghost use Rattle.std.specs.Prelude.{◌≡◌, ◌↔◌, ◌≤◌, ◌<◌, ◌+◌, ◌^◌, ℕ, List, [], IfOk, IfErr, OnOk, Ok, Err, fold};
+ghost use Rattle.std.specs.Prelude.{◌≡◌, ◌↔◌, ◌≤◌, ◌<◌, ◌+◌, ◌^◌, ℕ, List, [], IfOk, IfErr, OnOk, Ok, Err};
 ghost use Rattle.std.specs.Prelude.{length, slice_index, IfSome, IsNone, IsErrOf, true, false};
-ghost use Rattle.cm_image_format.specs.Reading.{Gives, made};
-ghost use Rattle.cm_image_format.specs.Image.{flag_part, listed_part, flags_part, memory_part, chip_part};
-ghost use Rattle.cm_image.specs.Chips.{with_listed, with_flags, with_chip_image, IsBlankFrom, chips_onto};
+ghost use Rattle.cm_image_format.specs.Reading.{made};
+ghost use Rattle.cm_image_format.specs.Image.{flags_part, chip_part};
+ghost use Rattle.cm_image.specs.Chips.{with_flags, with_chip_image, IsBlankFrom, chips_onto};
 ghost use Rattle.cm_image.specs.Pieces.{IsStopped};
 ghost use Rattle.cm_image.specs.Taken.{IsTakenIn, AreTakenIn};
 ghost use Rattle.cm_image.specs.WaitingChips.{with_waiting};
 
 use crate::messages::{are_messages, take_messages};
-use crate::numbers::{chip_count, take_u16};
 use crate::pieces::{SourceFault, Window};
 use crate::waiting_chips::{FULL_MEMORY_LEN, WaitingChips};
 use cm_array::Builder;
-use cm_bits::{Addr, FlagNo, Plane, Source};
+use cm_bits::{FlagNo, Plane, Source};
+use cm_image_fields::{chip_count, take_flags, take_memory};
 use cm_image_format::ImageFault;
-
-/// The flag planes of a chip, by number.
-fn take_flags(bytes: &[u8]) -> Result<([Plane; 16], &[u8]), ImageFault>
-    ensures value { Gives (λ x. (x.0, x.1.now)) result (flags_part bytes.now) }
-    ensures zero { IfOk result (λ x. slice_index x.0 8 ≡ 0) }
-{
-    let mut flags = [0u16; 16];
-    let mut rest = bytes;
-    for f in 0..16 {
-        let (plane, after) = take_flag(f, rest)?;
-        flags[f] = plane;
-        rest = after;
-    }
-    Ok((flags, rest))
-}
-
-fn take_flag(f: usize, bytes: &[u8]) -> Result<(Plane, &[u8]), ImageFault>
-    ensures value { Gives (λ x. (x.0, x.1.now)) result (flag_part f bytes.now) }
-    ensures zero { IfOk result (λ x. f ≡ 8 → x.0 ≡ 0) }
-{
-    let (plane, rest) = take_u16(bytes)?;
-    if f == 8 && plane != 0 {
-        return Err(ImageFault::Value);
-    }
-    Ok((plane, rest))
-}
-
-/// The address of a plane, which is this one or above it, and the plane.
-fn take_listed(least: u16, bytes: &[u8]) -> Result<(u16, Plane, &[u8]), ImageFault>
-    ensures value { Gives (λ x. (record { at = x.0; plane = x.1 }, x.2.now)) result
-        (listed_part least bytes.now) }
-    ensures below { IfOk result (λ x. x.0 < 4096) }
-{
-    let (at, rest) = take_u16(bytes)?;
-    if at > 4095 {
-        return Err(ImageFault::Value);
-    }
-    if at < least {
-        return Err(ImageFault::Order);
-    }
-    let (plane, rest) = take_u16(rest)?;
-    if plane == 0 {
-        return Err(ImageFault::Order);
-    }
-    Ok((at, plane, rest))
-}
-
-/// Puts the memory planes that are listed into a chip, and gives the bytes after them.
-fn take_memory<'a, const N: usize, const CAP: usize>(
-    builder: &mut Builder<N, CAP>,
-    chip: u16,
-    bytes: &'a [u8],
-) -> Result<&'a [u8], ImageFault>
-    requires chip { chip < 2 ^ N }
-    ensures ok { IfOk result (λ rest. made (λ listed. fold (with_listed chip) builder.old listed) memory_part bytes.now
-        ≡ Ok (builder.new, rest.now)) }
-    ensures refused { IfErr result (λ fault. memory_part bytes.now ≡ Err fault) }
-    ensures buffers { OnOk result (builder.new.buffers ≡ builder.old.buffers) }
-    ensures clock { OnOk result (builder.new.clock ≡ builder.old.clock) }
-{
-    let (count, mut rest) = take_u16(bytes)?;
-    if count > 4096 {
-        return Err(ImageFault::Count);
-    }
-    let mut least = 0;
-    for i in 0..count {
-        let (at, plane, after) = take_listed(least, rest)?;
-        builder.plane(chip, Addr::new(at).unwrap(), plane);
-        least = at + 1;
-        rest = after;
-    }
-    Ok(rest)
-}
 
 /// Puts the flag planes into a chip, but not that of flag 8, which is 0.
 fn put_flags<const N: usize, const CAP: usize>(

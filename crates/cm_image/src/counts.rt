@@ -6,9 +6,9 @@ ghost use Rattle.cm_model.specs.Array.{chip_at};
 ghost use Rattle.cm_image_format.specs.Whole.{memory_plane_of};
 ghost use Rattle.cm_image.specs.Planes.{AreCounted, AreInUse};
 
-use crate::numbers::chip_count;
 use cm_array::Machine;
 use cm_bits::{Addr, NoMemory, Plane};
+use cm_image_fields::chip_count;
 use std::alloc::Global;
 
 pub(crate) const ADDRESSES: u16 = 4096;

@@ -11,10 +11,11 @@ ghost use Rattle.cm_image.specs.Planes.{AreCounted, chips_text, plane_listing, l
 ghost use Rattle.cm_image.specs.Sending.{GoesOut, GoesOutInPart, is_dump_write};
 
 use crate::counts::ADDRESSES;
-use crate::dumps::{push, push_flags, push_messages, push_plane, push_u8, push_u16};
+use crate::dumps::{push_flags, push_messages, push_plane};
 use cm_array::Machine;
 use cm_bits::{NoMemory, Plane};
 use cm_element::{ChipView, PITCH};
+use cm_image_fields::{push, push_u8, push_u16};
 use cm_message::Message;
 
 /// How many planes of 64 chips are written near: 528 KB, which a cache holds.

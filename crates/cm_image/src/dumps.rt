@@ -4,12 +4,9 @@ ghost use Rattle.std.specs.Prelude.{◌≡◌, ℕ, ◌==◌, ◌+◌, ◌*◌, 
 ghost use Rattle.std.specs.Prelude.{OnOk, IsErrOf, OnErr, vec_capacity};
 ghost use Rattle.std.specs.Prelude.{false, if◌then◌else◌, slice_index, Some};
 ghost use Rattle.std.specs.List.{flat_map};
-ghost use Rattle.std.specs.Int.{w8, w16, w32, w64};
 ghost use Rattle.cm_model.specs.Processor.{Processor};
 ghost use Rattle.cm_model.specs.Array.{chip_at};
-ghost use Rattle.cm_model.specs.Wiring.{rule_number};
-ghost use Rattle.cm_message.specs.Bytes.{number_bytes, message_text};
-ghost use Rattle.cm_image_format.specs.Header.{head_text};
+ghost use Rattle.cm_message.specs.Bytes.{message_text};
 ghost use Rattle.cm_image_format.specs.Cuts.{version_of};
 ghost use Rattle.cm_image_format.specs.Image.{chip_text};
 ghost use Rattle.cm_image_format.specs.Whole.{flag_plane_of, memory_plane_of, image_of_chip, image_of, text_of};
@@ -19,15 +16,15 @@ ghost use Rattle.cm_image.specs.Planes.{AreCounted, AreInUse, chips_text, flags_
 ghost use Rattle.cm_image.specs.Planes.{listed_below, planes_below};
 ghost use Rattle.cm_image.specs.Sending.{front_text, GoesOut, GoesOutInPart, is_dump_write};
 
-use crate::cuts::{cuts_len, push_cuts, version_of};
-use crate::header::MAGIC;
-use crate::numbers::chip_count;
 use crate::sending::{DumpRoom, ListedMachine, sizes};
 use cm_array::Machine;
 use cm_bits::{Addr, Failed, FlagNo, NoMemory, Plane, Sink};
 use cm_element::ChipView;
+use cm_image_fields::{
+    chip_count, cuts_len, push, push_cuts, push_head, push_u8, push_u16, push_u64, version_of,
+};
 use cm_image_format::texts_leave_out_logs;
-use cm_message::{Message, Rule, bytes};
+use cm_message::{Message, bytes};
 use cm_model::cuts_are_few;
 use std::alloc::Global;
 
@@ -154,80 +151,6 @@ fn chip_len(planes: u16, buffer: &[Message]) -> usize
     ensures within { result ≤ 300000 }
 {
     BLANK_CHIP_LEN + usize::from(planes) * LISTING_LEN + buffer.len() * MESSAGE_LEN
-}
-
-pub(crate) fn push(text: &mut Vec<u8>, more: &[u8]) -> Result<(), NoMemory>
-    ensures ok { OnOk result (text.new.items ≡ text.old.items ++ more.now) }
-    ensures capacity { vec_capacity text.old ≤ vec_capacity text.new }
-    ensures grows { OnOk result (length text.new.items ≤ length text.old.items + length more.now) }
-    ensures full { OnErr result (vec_capacity text.old < length text.old.items + length more.now) }
-{
-    text.extend_from_slice(more)?;
-    Ok(())
-}
-
-#[tactic(auto, unfolding(cm_message::specs::Bytes::number_bytes))]
-pub(crate) fn push_u8(text: &mut Vec<u8>, n: u8) -> Result<(), NoMemory>
-    ensures ok { OnOk result (text.new.items ≡ text.old.items ++ number_bytes w8 n) }
-    ensures capacity { vec_capacity text.old ≤ vec_capacity text.new }
-    ensures grows { OnOk result (length text.new.items ≤ length text.old.items + 1) }
-    ensures full { OnErr result (vec_capacity text.old < length text.old.items + 1) }
-{
-    push(text, &[n])
-}
-
-#[tactic(auto, unfolding(cm_message::specs::Bytes::number_bytes))]
-pub(crate) fn push_u16(text: &mut Vec<u8>, n: u16) -> Result<(), NoMemory>
-    ensures ok { OnOk result (text.new.items ≡ text.old.items ++ number_bytes w16 n) }
-    ensures capacity { vec_capacity text.old ≤ vec_capacity text.new }
-    ensures grows { OnOk result (length text.new.items ≤ length text.old.items + 2) }
-    ensures full { OnErr result (vec_capacity text.old < length text.old.items + 2) }
-{
-    push(text, &n.to_be_bytes())
-}
-
-#[tactic(auto, unfolding(cm_message::specs::Bytes::number_bytes))]
-fn push_u32(text: &mut Vec<u8>, n: u32) -> Result<(), NoMemory>
-    ensures ok { OnOk result (text.new.items ≡ text.old.items ++ number_bytes w32 n) }
-    ensures capacity { vec_capacity text.old ≤ vec_capacity text.new }
-    ensures grows { OnOk result (length text.new.items ≤ length text.old.items + 4) }
-    ensures full { OnErr result (vec_capacity text.old < length text.old.items + 4) }
-{
-    push(text, &n.to_be_bytes())
-}
-
-#[tactic(auto, unfolding(cm_message::specs::Bytes::number_bytes))]
-pub(crate) fn push_u64(text: &mut Vec<u8>, n: u64) -> Result<(), NoMemory>
-    ensures ok { OnOk result (text.new.items ≡ text.old.items ++ number_bytes w64 n) }
-    ensures capacity { vec_capacity text.old ≤ vec_capacity text.new }
-    ensures grows { OnOk result (length text.new.items ≤ length text.old.items + 8) }
-    ensures full { OnErr result (vec_capacity text.old < length text.old.items + 8) }
-{
-    push(text, &n.to_be_bytes())
-}
-
-/// Magic, version, dimension, room, rule.
-pub(crate) fn push_head(
-    text: &mut Vec<u8>,
-    version: u8,
-    n: usize,
-    cap: usize,
-    rule: Rule,
-) -> Result<(), NoMemory>
-    requires dimension { n ≤ 12 }
-    requires room { cap ≤ 15 }
-    ensures ok { OnOk result (text.new.items ≡ text.old.items
-        ++ head_text (record { version = version; dimension = n; room = cap; rule = rule_number rule })) }
-    ensures capacity { vec_capacity text.old ≤ vec_capacity text.new }
-    ensures grows { OnOk result (length text.new.items ≤ length text.old.items + 8) }
-    ensures full { OnErr result (vec_capacity text.old < length text.old.items + 8) }
-{
-    push_u32(text, MAGIC)?;
-    push_u8(text, version)?;
-    push_u8(text, n as u8)?;
-    push_u8(text, cap as u8)?;
-    push_u8(text, rule.number())?;
-    Ok(())
 }
 
 /// What an image has of a chip with so many listed planes, all of them at these addresses, and this buffer.

@@ -4,23 +4,20 @@
 mod blank;
 mod chips;
 mod counts;
-mod cuts;
 mod dense;
 mod dumps;
-mod header;
 mod laws;
 mod loads;
 mod messages;
-mod numbers;
 mod pieces;
 mod sending;
 mod sourced;
 mod waiting_chips;
 
 pub use blank::blank_image;
+pub use cm_image_fields::shape;
 pub use cm_image_format::ImageFault;
 pub use dumps::dump;
-pub use header::shape;
 pub use laws::texts_are_short;
 pub use loads::load;
 pub use pieces::{SourceFault, take_rest};

@@ -4,15 +4,14 @@ ghost use Rattle.std.specs.Prelude.{◌≡◌, ◌≢◌, ◌≤◌, ◌^◌, �
 ghost use Rattle.std.specs.Prelude.{IsErrOf, IsOkUnless, true, false, length};
 ghost use Rattle.cm_model.specs.Unlogged.{standing_messages, has_tag_twice};
 ghost use Rattle.cm_image_format.specs.Whole.{read_image, image_fault, header_fault};
+ghost use Rattle.cm_image_fields.specs.Cuts.{header_of};
 ghost use Rattle.cm_image.specs.Chips.{IsBlankFrom, IsReadTo};
-ghost use Rattle.cm_image.specs.Cuts.{header_of};
 ghost use Rattle.cm_image.specs.WaitingChips.{with_waiting};
 
 use crate::chips::take_chips;
-use crate::cuts::take_routing;
-use crate::header::{Header, take_header};
 use crate::waiting_chips::WaitingChips;
 use cm_array::{BuildFault, Builder, Machine};
+use cm_image_fields::{Header, take_header, take_routing};
 use cm_image_format::ImageFault;
 use std::alloc::Global;
 

@@ -3,32 +3,14 @@
 ghost use Rattle.std.specs.Prelude.{◌≡◌, ◌≤◌, ◌<◌, ◌^◌, [], true, IfOk, IfErr, IsOk, Ok, Err, fold, length};
 ghost use Rattle.cm_model.specs.Array.{nth_or_nil};
 ghost use Rattle.cm_image_format.specs.Reading.{Gives, made};
-ghost use Rattle.cm_image_format.specs.Cuts.{chip_number_part};
 ghost use Rattle.cm_image_format.specs.Image.{processor_part, message_part, messages_part};
 ghost use Rattle.cm_image.specs.Chips.{with_message};
 
-use crate::numbers::{take_u8, take_u16, take_u32, take_u64};
 use cm_array::Builder;
 use cm_bits::Proc;
+use cm_image_fields::{take_chip_number, take_u8, take_u32, take_u64};
 use cm_image_format::ImageFault;
 use cm_message::{Message, Tag};
-
-/// The number of one of so many chips.
-pub(crate) fn take_chip_number(
-    n: usize,
-    chips: u16,
-    bytes: &[u8],
-) -> Result<(u16, &[u8]), ImageFault>
-    requires cube { chips ≡ 2 ^ n }
-    ensures value { Gives (λ x. (x.0, x.1.now)) result (chip_number_part n bytes.now) }
-    ensures below { IfOk result (λ x. x.0 < chips) }
-{
-    let (chip, rest) = take_u16(bytes)?;
-    if chip >= chips {
-        return Err(ImageFault::Value);
-    }
-    Ok((chip, rest))
-}
 
 fn take_processor(bytes: &[u8]) -> Result<(u8, &[u8]), ImageFault>
     ensures value { Gives (λ x. (x.0, x.1.now)) result (processor_part bytes.now) }

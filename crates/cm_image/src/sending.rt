@@ -14,10 +14,10 @@ ghost use Rattle.cm_image.specs.Sending.{is_dump_write};
 use crate::counts::{addresses_in_use, listed_planes};
 use crate::dense::{TILE_PLANES, push_dense_chip, write_tile};
 use crate::dumps::{push_front, push_sparse_chip};
-use crate::numbers::chip_count;
 use cm_array::Machine;
 use cm_bits::{NoMemory, Plane, Sink, write_all};
 use cm_element::{PITCH, Run};
+use cm_image_fields::chip_count;
 use std::alloc::Global;
 use thiserror::Error;
 

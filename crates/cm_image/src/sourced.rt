@@ -3,19 +3,18 @@
 ghost use Rattle.std.specs.Prelude.{◌≡◌, ◌≢◌, ◌↔◌, ◌≤◌, ◌^◌, ◌++◌, ℕ, List, [], true, false, Ok, Err, IfOk, IfErr};
 ghost use Rattle.std.specs.Prelude.{IsErrOf, OnOk, length};
 ghost use Rattle.cm_image_format.specs.Whole.{read_image};
+ghost use Rattle.cm_image_fields.specs.Cuts.{header_of};
 ghost use Rattle.cm_image.specs.Chips.{IsReadTo, IsBlankFrom};
-ghost use Rattle.cm_image.specs.Cuts.{header_of};
 ghost use Rattle.cm_image.specs.Pieces.{GivesRest, IsStopped, ShapesGoOn};
 ghost use Rattle.cm_image.specs.WaitingChips.{with_waiting};
 
 use crate::chips::take_full_chips;
-use crate::cuts::take_routing;
-use crate::header::{Header, take_header};
 use crate::loads::{finish, load};
 use crate::pieces::{SourceFault, Window, take_rest};
 use crate::waiting_chips::{WaitingChips, lists_all};
 use cm_array::{Builder, Machine};
 use cm_bits::Source;
+use cm_image_fields::{Header, take_header, take_routing};
 use cm_image_format::ImageFault;
 use std::alloc::Global;
 

@@ -6,7 +6,7 @@ use Rattle.cm_model.specs.Machine.{Machine}
 use Rattle.cm_model.specs.Unlogged.{standing_messages, has_tag_twice}
 use Rattle.cm_image_format.specs.declared.fault.ImageFault.{ImageFault}
 use Rattle.cm_image_format.specs.Header.{Head}
-use Rattle.cm_image.specs.Cuts.{header_of}
+use Rattle.cm_image_fields.specs.Cuts.{header_of}
 use Rattle.cm_image.proofs.Loading.{left_wrong, left_loaded, left_twice, left_extra, faulty, not_both}
 use Rattle.cm_image.proofs.loads.finish.Goals as goal
 

@@ -3,7 +3,7 @@ use Rattle.std.proofs.Common.{lit<, arith}
 use Rattle.std.proofs.lemmas.Result.{err_from_is_err_and}
 use Rattle.cm_model.specs.Machine.{Machine, blank_machine}
 use Rattle.cm_image_format.specs.Header.{Head, header_part}
-use Rattle.cm_image.specs.Cuts.{header_of}
+use Rattle.cm_image_fields.specs.Cuts.{header_of}
 use Rattle.cm_image.proofs.Loading.{header_wrong, routing_wrong, faulty, not_both, routed, nothing, of_whole}
 use Rattle.cm_image.proofs.Loading.{with_value, with_fault}
 use Rattle.cm_image.proofs.loads.load.Goals as goal

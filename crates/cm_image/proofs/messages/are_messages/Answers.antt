@@ -2,8 +2,8 @@ use Rattle.std.proofs.Common.{◌≡◌, ◌≤◌, Ok, sym, ◌∙◌, arith}
 use Rattle.std.specs.Int.{w8}
 use Rattle.cm_image_format.specs.Reading.{number_at}
 use Rattle.cm_image_format.specs.Image.{message_part}
-use Rattle.cm_image.proofs.Filling.{fill_on}
-use Rattle.cm_image.proofs.Taking.{same_place}
+use Rattle.cm_image_fields.proofs.Filling.{fill_on}
+use Rattle.cm_image.proofs.Standing.{same_place}
 use Rattle.cm_image.proofs.Coming.{passed_over, messages_stand}
 use Rattle.cm_image.proofs.messages.are_messages.Goals as goal
 

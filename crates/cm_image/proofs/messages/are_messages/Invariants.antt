@@ -1,7 +1,7 @@
 use Rattle.std.proofs.Common.{◌≡◌, ◌-◌}
 use Rattle.cm_image_format.specs.Image.{message_part}
-use Rattle.cm_image.proofs.Filling.{fill}
-use Rattle.cm_image.proofs.Taking.{same_place}
+use Rattle.cm_image_fields.proofs.Filling.{fill}
+use Rattle.cm_image.proofs.Standing.{same_place}
 use Rattle.cm_image.proofs.Coming.{passed_over}
 use Rattle.cm_image.proofs.messages.are_messages.Given as goal
 

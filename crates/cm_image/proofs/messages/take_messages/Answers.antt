@@ -2,7 +2,7 @@ use Rattle.std.proofs.Common.{◌≡◌, ◌≤◌, Ok, arith}
 use Rattle.std.specs.Int.{w8}
 use Rattle.cm_image_format.specs.Reading.{number_at}
 use Rattle.cm_image_format.specs.Image.{message_part}
-use Rattle.cm_image.proofs.Taking.{messages_on, messages_err, messages_all}
+use Rattle.cm_image.proofs.Standing.{messages_on, messages_err, messages_all}
 use Rattle.cm_image.proofs.messages.take_messages.Goals as goal
 
 pub returns-in-Err-clause-refused : goal.returns-in-Err-clause-refused

@@ -1,4 +1,4 @@
-use Rattle.cm_image.proofs.Taking.{IsStanding}
+use Rattle.cm_image.proofs.Standing.{IsStanding}
 use Rattle.cm_image.proofs.messages.take_messages.Given as goal
 
 -- the loop from here on gives what it gave at the start

@@ -1,8 +1,8 @@
 use Rattle.std.proofs.Common.{◌≡◌, ◌++◌, ℕ, Ok, sym, ap, subst, refl, lit<}
 use Rattle.cm_model.specs.Machine.{Machine, blank_machine}
 use Rattle.cm_image_format.specs.Header.{Head, header_part}
+use Rattle.cm_image_fields.specs.Cuts.{header_of}
 use Rattle.cm_image.specs.Chips.{IsBlankFrom}
-use Rattle.cm_image.specs.Cuts.{header_of}
 use Rattle.cm_image.proofs.Building.{blank_from-blank_at}
 use Rattle.cm_image.proofs.Loading.{routed}
 use Rattle.cm_image.proofs.Coming.{ok_so, err_so, rest_so, stopped_so, begun_on, begun_few}

@@ -2,8 +2,8 @@ use Rattle.std.proofs.Common.{ℕ, List, sym, subst}
 use Rattle.std.proofs.lemmas.Result.{err_from_is_err_and}
 use Rattle.cm_model.specs.Machine.{Machine}
 use Rattle.cm_image_format.specs.Header.{Head}
-use Rattle.cm_image.specs.declared.header.Header.{Header}
-use Rattle.cm_image.specs.Cuts.{header_of}
+use Rattle.cm_image_fields.specs.declared.header.Header.{Header}
+use Rattle.cm_image_fields.specs.Cuts.{header_of}
 use Rattle.cm_image.specs.Chips.{IsReadTo}
 use Rattle.cm_image.specs.WaitingChips.{with_waiting}
 use Rattle.cm_image.proofs.Coming.{rest_so, stopped_so, gives_at_most}

@@ -2,7 +2,7 @@ use Rattle.std.proofs.Common.{◌++◌, ◌∙◌, ℕ, List, sym, ap, subst}
 use Rattle.std.proofs.lemmas.Result.{err_from_is_err_and}
 use Rattle.cm_model.specs.Machine.{Machine}
 use Rattle.cm_image_format.specs.Header.{Head}
-use Rattle.cm_image.specs.Cuts.{header_of}
+use Rattle.cm_image_fields.specs.Cuts.{header_of}
 use Rattle.cm_image.specs.Chips.{IsReadTo}
 use Rattle.cm_image.specs.WaitingChips.{with_waiting}
 use Rattle.cm_image.proofs.Coming.{first_blank, first_to, rest_so, rest_after, stopped_after, gives_none, wants_memory, left_of}

@@ -1,6 +1,0 @@
-use Rattle.cm_image.proofs.Cutting.{IsCutting}
-use Rattle.cm_image.proofs.cuts.take_cuts.Given as goal
-
--- the loop from here on gives what it gave at the start
-abbrev pub invariant-loop-i : goal.invariant-loop-i
-invariant-loop-i g l = IsCutting g.row.N l.count l.i l.least l.builder l.rest l.initial.builder l.initial.rest

@@ -1,0 +1,5 @@
+pub mod Filling
+pub mod Taking
+mod Cutting
+mod Heading
+pub mod Lengths

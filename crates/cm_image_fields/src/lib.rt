@@ -1,0 +1,15 @@
+//! Fields of an image: its header, its cut wires, and the planes of one chip.
+#![tactic(auto)]
+
+mod cuts;
+mod header;
+mod numbers;
+mod planes;
+
+pub use cuts::{cuts_len, push_cuts, take_routing, version_of};
+pub use header::{Header, push_head, shape, take_header};
+pub use numbers::{
+    chip_count, push, push_u8, push_u16, push_u64, take_chip_number, take_u8, take_u16, take_u32,
+    take_u64,
+};
+pub use planes::{take_flags, take_memory};
