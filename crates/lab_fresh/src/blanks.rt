@@ -36,14 +36,14 @@ pub enum FreshFault {
     #[error("the rules are 0 and 1, not {0}")]
     Rule(u16),
     /// More wires are to be drawn than the cube has.
-    #[error("the cube has {most} wires, of which {count} cannot be drawn")]
+    #[error("of the wires of the cube at most {most} can be drawn, not {count}")]
     Drawn { most: u32, count: u16 },
     #[error("out of memory")]
     Memory,
 }
 
-/// The image of a blank machine of 2^n chips with room for so many messages in each router, of which these wires are cut,
-/// and which routes by the rule of this number.
+/// The image of a blank machine of 2^n chips with room for so many messages in each router, of which these wires are
+/// cut, and which routes by the rule of this number.
 #[tactic(auto, unfolding(crate::specs::Fresh::fresh_of))]
 pub fn fresh(
     alloc: Global,
