@@ -8,3 +8,5 @@ pub mod Loads
 pub mod Rates
 pub mod Usage
 pub mod Commands
+pub mod AskingLines
+pub mod RefusedLines

@@ -1,3 +1,4 @@
 pub mod Fresh
 pub mod Draws
 pub mod Drawn
+pub mod Laws

@@ -9,3 +9,4 @@ pub mod Tables
 pub mod Latencies
 pub mod Trials
 pub mod Spreads
+pub mod Laws

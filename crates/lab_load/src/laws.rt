@@ -1,110 +1,36 @@
 //! Laws over the definitions: values that are known from elsewhere, so that a wrong rule is not proved.
 
-ghost use Rattle.std.specs.Prelude.{◌≡◌, ◌≤◌, ◌%◌, ℕ, [], ◌∷◌, codes, false, true, map, None, Some};
-ghost use Rattle.cm_model.specs.Wiring.{Routing};
-ghost use Rattle.lab_counts.specs.Crossings.{in_all};
-ghost use Rattle.lab_load.specs.declared.offers.Pattern.TheVariants as pattern;
-ghost use Rattle.lab_load.specs.declared.offers.Load.{Load};
-ghost use Rattle.lab_load.specs.Offers.{aimed};
-ghost use Rattle.lab_load.specs.Counted.{counts_for, chips_for};
-ghost use Rattle.lab_counts.specs.Counts.{nothing_counted};
-ghost use Rattle.lab_load.specs.Figures.{greatest_latency, mean_of, most_of, throughput_of};
-ghost use Rattle.lab_load.specs.declared.latencies.Latencies.{Latencies};
-ghost use Rattle.lab_load.specs.Latencies.{histogram, rate_name, took_cell, latency_table_of};
-ghost use Rattle.lab_load.specs.declared.spreads.Column.TheVariants.{Throughput};
-ghost use Rattle.lab_load.specs.Spreads.{quantile_of, half_squared, figures_with};
-ghost use Rattle.lab_load.specs.Tables.{load_line, spread_line};
-ghost use Rattle.lab_load.specs.declared.trials.LoadFault.TheVariants as fault;
-ghost use Rattle.lab_load.specs.declared.trials.LoadTable.TheVariants as shown;
-ghost use Rattle.lab_load.specs.Trials.{trial_fault, trial_with};
+ghost use Rattle.lab_load.specs.Laws.{ChipsAndDimensionsAgree, FaultsComeInOrder, LatenciesAreToldSo, LoadsAreToldSo};
+ghost use Rattle.lab_load.specs.Laws.{PatternsAimSo, SpreadsAreToldSo};
 
 /// On four chips a place has six bits, on eight seven: of these places messages go to those, whatever is drawn.
 pub fn patterns_aim_so()
-    ensures halves { aimed pattern.Transpose [] 2 0 0b000_110 % 64 ≡ 0b110_000 }
-    ensures long_half { aimed pattern.Transpose [] 3 0 0b0001_011 % 128 ≡ 0b011_0001 }
-    ensures turned { aimed pattern.Reversal [] 2 0 0b000110 ≡ 0b011000 }
-    ensures hot { aimed pattern.HotSpot [] 2 0 0b10_1101 ≡ 0b1101 }
-    ensures own { aimed pattern.Own (7 ∷ 0 ∷ 5 ∷ []) 0 9 2 ≡ 5 }
-    ensures behind { aimed pattern.Own (7 ∷ 0 ∷ 5 ∷ []) 0 9 3 ≡ 0 }
+    ensures { PatternsAimSo }
 {}
 
 /// Of three messages, and of none: how long they took; and the line of a load.
 pub fn loads_are_told_so()
-    ensures mean { mean_of (1 ∷ 2 ∷ 2 ∷ []) ≡ 166 }
-    ensures most { most_of 9 (1 ∷ 2 ∷ 2 ∷ []) ≡ Some 2 }
-    ensures greatest { greatest_latency (1 ∷ 5 ∷ 2 ∷ []) ≡ 5 }
-    ensures throughput { throughput_of 51010 102400 ≡ 498 }
-    ensures no_mean { mean_of [] ≡ 0 }
-    ensures no_most { most_of 9 [] ≡ Some 0 }
-    ensures slower { most_of 1 (1 ∷ 2 ∷ 2 ∷ []) ≡ None }
-    ensures line { load_line (record {
-      rate = 50;
-      offered = 51084;
-      taken = 51083;
-      delivered = 51010;
-      throughput = 498;
-      mean = 140;
-      most = Some 2;
-      greatest = 5;
-      deepest = 0;
-      counts = nothing_counted false;
-    }) ≡ codes "0.50,51084,51083,51010,0.498,1.40,2,5,0\n" }
+    ensures { LoadsAreToldSo }
 {}
 
 /// Of four messages, and of none: how many took how long; the name of a rate's column, cells of a line, and the table
 /// of two loads, under each of which one message was delivered.
 pub fn latencies_are_told_so()
-    ensures counted { histogram (1 ∷ 3 ∷ 1 ∷ 4 ∷ []) ≡ 0 ∷ 2 ∷ 0 ∷ 1 ∷ 1 ∷ [] }
-    ensures none { histogram [] ≡ 0 ∷ [] }
-    ensures name { rate_name 1605 ≡ codes ",rate 16.05" }
-    ensures cell { took_cell 2 (0 ∷ 411 ∷ 491 ∷ []) ≡ codes ",491" }
-    ensures behind { took_cell 3 (0 ∷ 411 ∷ 491 ∷ []) ≡ codes ",0" }
-    ensures table { (low : Latencies) (high : Latencies) → low.rate ≡ 100 → high.rate ≡ 400
-        → low.counts.items ≡ 0 ∷ 0 ∷ 0 ∷ 1 ∷ [] → high.counts.items ≡ 0 ∷ 0 ∷ 1 ∷ []
-        → latency_table_of (low ∷ high ∷ []) ≡ codes "latency,rate 1.00,rate 4.00\n1,0,0\n2,0,1\n3,1,0\n" }
+    ensures { LatenciesAreToldSo }
 {}
 
 /// Quantiles; the square of the half width of two loads, that of 12.707 times half their difference; and the line of
 /// the loads of a rate.
 pub fn spreads_are_told_so()
-    ensures first_quantiles { map quantile_of (2 ∷ 3 ∷ 4 ∷ 5 ∷ 6 ∷ 7 ∷ 8 ∷ 9 ∷ 10 ∷ 11 ∷ [])
-        ≡ 12707 ∷ 4303 ∷ 3183 ∷ 2777 ∷ 2571 ∷ 2447 ∷ 2365 ∷ 2307 ∷ 2263 ∷ 2229 ∷ [] }
-    ensures last_quantile { quantile_of 31 ≡ 2043 }
-    ensures later_quantile { quantile_of 1000 ≡ 2043 }
-    ensures of_two { half_squared Throughput (figures_with 3733 ∷ figures_with 4000 ∷ []) ≡ 2877720 }
-    ensures of_like_ones { half_squared Throughput (figures_with 3733 ∷ figures_with 3733 ∷ []) ≡ 0 }
-    ensures line { spread_line (record {
-      rate = 425;
-      throughput = record { mean = 3866; half = 1696 };
-      mean = record { mean = 210; half = 412 };
-      most = record { mean = 950; half = 3176 };
-      greatest = record { mean = 1200; half = 3812 };
-    }) ≡ codes "4.25,3.866,1.696,2.10,4.12,9.50,31.76,12.00,38.12\n" }
+    ensures { SpreadsAreToldSo }
 {}
 
 /// A trial in which nothing is in its range has this first fault; with this one mended it has the next one, and so on.
 pub fn faults_come_in_order()
-    ensures dimension { trial_fault (trial_with 13 16 0 9 0 2 101 shown.Crossings) [] (1601 ∷ [])
-        ≡ Some (fault.Dimension 13) }
-    ensures room { trial_fault (trial_with 12 16 0 9 0 2 101 shown.Crossings) (record { chip = 4096; dim = 0 } ∷ [])
-        (1601 ∷ []) ≡ Some (fault.Room 16) }
-    ensures wire { trial_fault (trial_with 12 15 0 9 0 2 101 shown.Crossings) (record { chip = 4096; dim = 0 } ∷ [])
-        (1601 ∷ []) ≡ Some (fault.Wire 12 4096 0) }
-    ensures rate { trial_fault (trial_with 12 15 0 9 0 2 101 shown.Crossings) (record { chip = 4095; dim = 11 } ∷ [])
-        (1600 ∷ 1601 ∷ []) ≡ Some (fault.Rate 1601) }
-    ensures cycles { trial_fault (trial_with 12 15 0 9 0 2 101 shown.Crossings) [] (1600 ∷ []) ≡ Some (fault.Cycles 0) }
-    ensures skip { trial_fault (trial_with 12 15 9 9 0 2 101 shown.Crossings) [] (1600 ∷ []) ≡ Some (fault.Skip 9 9) }
-    ensures seeds { trial_fault (trial_with 12 15 10 9 0 2 101 shown.Crossings) [] (1600 ∷ []) ≡ Some (fault.Seeds 0) }
-    ensures rule { trial_fault (trial_with 12 15 10 9 2 2 101 shown.Crossings) [] (1600 ∷ []) ≡ Some (fault.Rule 2) }
-    ensures background { trial_fault (trial_with 12 15 10 9 2 1 101 shown.Crossings) [] (1600 ∷ [])
-        ≡ Some (fault.Background 101) }
-    ensures table { trial_fault (trial_with 12 15 10 9 2 1 100 shown.Crossings) [] (1600 ∷ []) ≡ Some (fault.Table 2) }
-    ensures none { trial_fault (trial_with 12 15 1000000 9 1000 1 100 shown.Plain) [] (1600 ∷ []) ≡ None }
+    ensures { FaultsComeInOrder }
 {}
 
 /// Under every load all chips together and all dimensions together have the same crossings, referrals and refusals.
 pub fn chips_and_dimensions_agree()
-    ensures agree { (cap : ℕ) (load : Load) (routing : Routing) (skip cycles : ℕ) → load.dims ≤ 12
-        → in_all (chips_for cap load routing skip cycles)
-        ≡ in_all (counts_for true cap load routing skip cycles).dims }
+    ensures { ChipsAndDimensionsAgree }
 {}

@@ -8,10 +8,8 @@ use Rattle.lab_load.proofs.ByChip.{counted_together}
 use Rattle.lab_load.proofs.laws.chips_and_dimensions_agree.Goals as goal
 
 pub returns : goal.returns
-returns c = record {
-  agree = λ cap load routing skip cycles few. counted_together cap load
-      (untold (after_cycles cap load (unloaded load.dims routing) skip)) (nothing_counted true)
-      (replicate (2 ^ load.dims) no_crossings) (cycles - skip) refl few
-      (omega (arith, length-replicate (2 ^ load.dims) no_crossings))
-      (none_together (2 ^ load.dims) ∙ sym (none_together 12));
-}
+returns c = λ cap load routing skip cycles few. counted_together cap load
+    (untold (after_cycles cap load (unloaded load.dims routing) skip)) (nothing_counted true)
+    (replicate (2 ^ load.dims) no_crossings) (cycles - skip) refl few
+    (omega (arith, length-replicate (2 ^ load.dims) no_crossings))
+    (none_together (2 ^ load.dims) ∙ sym (none_together 12))

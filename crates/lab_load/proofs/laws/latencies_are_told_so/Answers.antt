@@ -23,26 +23,13 @@ worked : two_columns 100 400 (0 ∷ 0 ∷ 0 ∷ 1 ∷ []) (0 ∷ 0 ∷ 1 ∷ [])
 unfolding digits
 worked = refl
 
-pub returns-clause-table : goal.returns-clause-table
-returns-clause-table c = λ low high low_rate high_rate lows highs.
+table_of_two : (low high : Latencies) → low.rate ≡ 100 → high.rate ≡ 400
+    → low.counts.items ≡ 0 ∷ 0 ∷ 0 ∷ 1 ∷ [] → high.counts.items ≡ 0 ∷ 0 ∷ 1 ∷ []
+    → latency_table_of (low ∷ high ∷ []) ≡ codes "latency,rate 1.00,rate 4.00\n1,0,0\n2,0,1\n3,1,0\n"
+table_of_two low high low_rate high_rate lows highs =
     of_two low high ∙ ((λ i. two_columns (low_rate i) (high_rate i) (lows i) (highs i)) ∙ worked)
 
-pub returns-clause-counted : goal.returns-clause-counted
-unfolding histogram tabulate
-returns-clause-counted c = refl
-
-pub returns-clause-none : goal.returns-clause-none
-unfolding histogram tabulate
-returns-clause-none c = refl
-
-pub returns-clause-name : goal.returns-clause-name
-unfolding digits
-returns-clause-name c = refl
-
-pub returns-clause-cell : goal.returns-clause-cell
-unfolding digits
-returns-clause-cell c = refl
-
-pub returns-clause-behind : goal.returns-clause-behind
-unfolding digits
-returns-clause-behind c = refl
+pub returns : goal.returns
+unfolding histogram tabulate digits
+returns c =
+    record { counted = refl; none = refl; name = refl; cell = refl; behind = refl; table = table_of_two }
