@@ -7,3 +7,4 @@ pub mod Counting
 pub mod Histograms
 pub mod Beginning
 pub mod ByChip
+pub mod Conserving

@@ -2,6 +2,7 @@ pub mod Offers
 pub mod Asking
 pub mod Telling
 pub mod Loaded
+pub mod Conserved
 pub mod Counted
 pub mod Kept
 pub mod Figures

@@ -22,6 +22,7 @@ column_if (Some x) = number_cell x
 
 -- ---- loads
 
+-- the names of its columns
 abbrev pub loads_header : List ℕ
 loads_header = codes "rate,offered,taken,delivered,throughput,mean,p95,greatest,deepest\n"
 

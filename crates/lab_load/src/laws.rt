@@ -1,5 +1,6 @@
 //! Laws over the definitions: values that are known from elsewhere, so that a wrong rule is not proved.
 
+ghost use Rattle.lab_load.specs.Conserved.{StoodAreDeliveredOrStand, TakenAreDeliveredOrStand};
 ghost use Rattle.lab_load.specs.Laws.{ChipsAndDimensionsAgree, FaultsComeInOrder, LatenciesAreToldSo, LoadsAreToldSo};
 ghost use Rattle.lab_load.specs.Laws.{PatternsAimSo, SpreadsAreToldSo};
 
@@ -33,4 +34,10 @@ pub fn faults_come_in_order()
 /// Under every load all chips together and all dimensions together have the same crossings, referrals and refusals.
 pub fn chips_and_dimensions_agree()
     ensures { ChipsAndDimensionsAgree }
+{}
+
+/// Under every load no message is lost: what is taken in is delivered, or stands in a router at the end.
+pub fn messages_are_delivered_or_stand()
+    ensures taken { TakenAreDeliveredOrStand }
+    ensures stood { StoodAreDeliveredOrStand }
 {}

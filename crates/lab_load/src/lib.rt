@@ -20,7 +20,7 @@ pub use lab_counts::{ChipCrossings, chip_table};
 pub use latencies::{Latencies, latency_table};
 pub use laws::{
     chips_and_dimensions_agree, faults_come_in_order, latencies_are_told_so, loads_are_told_so,
-    patterns_aim_so, spreads_are_told_so,
+    messages_are_delivered_or_stand, patterns_aim_so, spreads_are_told_so,
 };
 pub use offers::{Load, Pattern};
 pub use spreads::{Column, Spread, Spreads};

@@ -95,7 +95,7 @@ pub enum LoadFault {
     #[error("a load has 1 to 1000000 petit cycles, not {0}")]
     Cycles(u32),
     /// More petit cycles are to be left out than the load has, or all.
-    #[error("of {1} petit cycles {0} cannot be left out")]
+    #[error("a load leaves out fewer petit cycles than it has, not {0} of {1}")]
     Skip(u32, u32),
     #[error("a load has 1 to 1000 seeds, not {0}")]
     Seeds(u16),
@@ -111,8 +111,8 @@ pub enum LoadFault {
 }
 
 impl Trial {
-    /// The first fault of it, of cut wires, and of rates, which are hundredths of a message that a chip offers in a petit
-    /// cycle.
+    /// The first fault of it, of cut wires, and of rates, which are hundredths of a message that a chip offers in a
+    /// petit cycle.
     pub fn fault(&self, cuts: &[WireEnd], rates: &[u16]) -> Option<LoadFault>
         ensures value { result ≡ trial_fault self.now cuts.now rates.now }
         ensures sizes { MatchOption result (AreSizes self.now.n self.now.room) (λ fault. Unit {0}) }
