@@ -81,14 +81,7 @@ pub number_is_not : (limit : ℕ) (operand : Operand) (word : Text)
 number_is_not limit operand word wrong =
     ap (λ (o : Option ℕ). ok_or o (Wanted operand word)) (digits_are_not limit (without_leading_plus word) wrong)
 
--- a word that begins with a plus is not digits
-pub plus_is_no_digit : (limit : ℕ) (word : Text) → (slice_index word 0 == 43) ≡ true → digits_below limit word ≡ None
-plus_is_no_digit limit [] is = refl
-plus_is_no_digit limit (c ∷ cs) is =
-    let plus : c ≡ 43 = grind (arith, nat_tests, is) in
-    ap (λ (b : ℕ). digits_below limit (b ∷ cs)) plus
-
--- and one that does not begins with no sign
+-- a word that does not begin with a plus begins with no sign
 pub no_plus : (word : Text) → (slice_index word 0 == 43) ≡ false → without_leading_plus word ≡ word
 no_plus word is = ap (λ (b : Bool). drop (cond b 1 0) word) is ∙ drop_none word where
   drop_none : (w : Text) → drop 0 w ≡ w

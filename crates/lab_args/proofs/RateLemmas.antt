@@ -52,13 +52,6 @@ uncut_rate known word none =
       alone (Ok first) = refl
       alone (Err refusal) = refl
 
--- no rates are known before the first
-pub none_known : (word : Text) → behind [] word ≡ rates word
-none_known word = by (rates word) where
-  by : (found : Result (List ℕ) Refusal) → (found >>= λ others. Ok ([] ++ others)) ≡ found
-  by (Ok others) = refl
-  by (Err refusal) = refl
-
 -- the first rate that is read goes to those that are known
 pub one_known : (known more : List ℕ) (word part after : Text) → IsSplitAtComma word part after
     → with_rate known part ≡ Ok more → behind more after ≡ behind known word

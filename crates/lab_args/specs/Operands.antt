@@ -1,5 +1,6 @@
 -- What the words say that commands take: ours.
-use Rattle.std.specs.Prelude.{ℕ, ◌^◌, ◌==◌, ◌&&◌, Bool, slice_index, nat_lt, if◌then◌else◌, Option, Some, None, Result, Ok, Err, ◌++◌, codes, bytes_eq}
+use Rattle.std.specs.Prelude.{ℕ, ◌^◌, ◌==◌, ◌&&◌, Bool, slice_index, nat_lt, if◌then◌else◌}
+use Rattle.std.specs.Prelude.{Option, Some, None, Result, Ok, Err, ◌++◌, codes, bytes_eq}
 use Rattle.std.specs.List.{list_all}
 use Rattle.std.specs.Char.{is_digit}
 use Rattle.std.specs.Option.{ok_or}

@@ -70,7 +70,8 @@ cm1lab fresh N CAP [--cut CHIP DIM].. [--cut-random K] [--seed S] [--rule R] FIL
     1 to 15, into FILE; the wire of CHIP over dimension DIM is cut, by whichever end it is
     named, and K wires are that are drawn, others by another S; rule 0, who came first goes
     first, or rule 1, the oldest
-cm1lab load N CAP RATE,.. CYCLES [--cut CHIP DIM].. [--cut-random K] [--seed S] [--rule R] [--pattern P | --places FILE] [--background H] [--until T] [--skip T] [--seeds K] [--table NAME]
+cm1lab load N CAP RATE,.. CYCLES [--cut CHIP DIM].. [--cut-random K] [--seed S] [--rule R] \
+    [--pattern P | --places FILE] [--background H] [--until T] [--skip T] [--seeds K] [--table NAME]
     tells a table, a line for each RATE of messages that the processors of a chip offer in a
     petit cycle, as 0.5: what was offered, taken in and delivered on such a blank machine, and
     how many petit cycles that took; S draws other messages too; P is uniform, transpose,
