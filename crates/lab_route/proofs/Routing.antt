@@ -24,12 +24,6 @@ pub route_preceded_by-twice : (first second : List ℕ) (rest : Result (List ℕ
 route_preceded_by-twice first second (Ok rest) = ap (λ xs. Ok xs) (sym (append_assoc first second rest))
 route_preceded_by-twice first second (Err fault) = refl
 
--- the same, where the bytes are what they are
-pub preceded_so : (first second both : List ℕ) (rest : Result (List ℕ) RouteFault) → both ≡ first ++ second
-    → route_preceded_by first (route_preceded_by second rest) ≡ route_preceded_by both rest
-preceded_so first second both rest is =
-    route_preceded_by-twice first second rest ∙ ap (λ xs. route_preceded_by xs rest) (sym is)
-
 -- what comes of an act, by whether its petit cycle is past and whether the counter has room
 abbrev told_by : LabView → Excerpt → Tag → Act → List Act → Bool → Bool → Result (List ℕ) RouteFault
 told_by lab excerpt tag act acts past full =
