@@ -147,10 +147,14 @@ fn has_near_run(alloc: Global) -> Option<bool> {
 
 /// The full adder three times over. The list of its instructions grows at lines 1, 7 and 12.
 static NINE: &[u8] =
-    b"nano 0 0 8 0 8 0 0xff 0xff n\n\nnano 0 1 0 7 8 0 0x96 0xe8 n\nnano 5 0 7 8 8 0 0xaa 0x00 n\nnano 0 0 8 0 8 0 0xff 0xff n\n;\nnano 0 1 0 7 8 0 0x96 0xe8 n\nnano 5 0 7 8 8 0 0xaa 0x00 n\nnano 0 0 8 0 8 0 0xff 0xff n\nnano 0 1 0 7 8 0 0x96 0xe8 n\n\nnano 5 0 7 8 8 0 0xaa 0x00 n\n";
+    b"nano 0 0 8 0 8 0 0xff 0xff n\n\nnano 0 1 0 7 8 0 0x96 0xe8 n\nnano 5 0 7 8 8 0 0xaa 0x00 n\n\
+      nano 0 0 8 0 8 0 0xff 0xff n\n;\nnano 0 1 0 7 8 0 0x96 0xe8 n\nnano 5 0 7 8 8 0 0xaa 0x00 n\n\
+      nano 0 0 8 0 8 0 0xff 0xff n\nnano 0 1 0 7 8 0 0x96 0xe8 n\n\nnano 5 0 7 8 8 0 0xaa 0x00 n\n";
 
 static ANSWER: &[u8] =
-    b"flag 0 ffff\nflag 1 0000\nflag 2 0000\nflag 3 0000\nflag 4 0000\nflag 5 0000\nflag 6 0000\nflag 7 ffff\nflag 8 0000\nflag 9 0000\nflag 10 0000\nflag 11 0000\nflag 12 0000\nflag 13 0000\nflag 14 0000\nflag 15 0000\nplane 5 ffff\n";
+    b"flag 0 ffff\nflag 1 0000\nflag 2 0000\nflag 3 0000\nflag 4 0000\nflag 5 0000\nflag 6 0000\nflag 7 ffff\n\
+      flag 8 0000\nflag 9 0000\nflag 10 0000\nflag 11 0000\nflag 12 0000\nflag 13 0000\nflag 14 0000\n\
+      flag 15 0000\nplane 5 ffff\n";
 
 /// What of a source is taken, in pieces.
 fn taken(alloc: Global) -> Result<Vec<u8>, TakeFault> {

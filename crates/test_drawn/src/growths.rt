@@ -9,14 +9,15 @@ use cm_debug::{SessionFault, session};
 use std::alloc::Global;
 
 /// The processor whose flag 0 is 1 sends a message to processor 5 of the other of two chips.
-static PROGRAM: &[u8] =
-    b"field rel 3968 16\nfield proc 3984 4\nfield data 3988 32\nif 0\nconst rel 1\nconst proc 5\nconst data 0xDEADBEEF\nset 12\nalways\ncycle\n";
+static PROGRAM: &[u8] = b"field rel 3968 16\nfield proc 3984 4\nfield data 3988 32\n\
+      if 0\nconst rel 1\nconst proc 5\nconst data 0xDEADBEEF\nset 12\nalways\ncycle\n";
 
-static COMMANDS: &[u8] =
-    b"pokeflag 0 0 0 1\nrun\nfield 1 5 4032 32\nflag 0 0 12\nflag 0 0 13\nflag 1 5 14\nfind 0 0 0\nevents 0\nevents 1\nbuf 1\n";
+static COMMANDS: &[u8] = b"pokeflag 0 0 0 1\nrun\n\
+      field 1 5 4032 32\nflag 0 0 12\nflag 0 0 13\nflag 1 5 14\nfind 0 0 0\nevents 0\nevents 1\nbuf 1\n";
 
-static ANSWERS: &[u8] =
-    b"ok\nend\nfield 3735928559\nflag 0\nflag 1\nflag 1\ndelivered 1 5\nevents 1\nin 1 5 0xdeadbeef 0 0 0\nevents 1\nout 0 5 0xdeadbeef 0 0 0\nbuf 0\n";
+static ANSWERS: &[u8] = b"ok\nend\n\
+      field 3735928559\nflag 0\nflag 1\nflag 1\ndelivered 1 5\nevents 1\nin 1 5 0xdeadbeef 0 0 0\n\
+      events 1\nout 0 5 0xdeadbeef 0 0 0\nbuf 0\n";
 
 /// How a session ends: with all answers, for want of memory behind a front of them, or in another way.
 #[derive(Clone, Copy)]

@@ -40,8 +40,8 @@ static ALL_SEND: &str = "set 12\ncycle\n";
 
 static CYCLES: &str = "cycle,taken,delivered,referred,standing,full,asking\n0,4,1,0,3,0,12\n";
 
-static MESSAGES: &str =
-    "chip,processor,taken,to chip,to processor,delivered,crossed,referred\n0,0,0,0,0,0,0,0\n0,1,0,0,0,,0,0\n0,2,0,0,0,,0,0\n0,3,0,0,0,,0,0\n";
+static MESSAGES: &str = "chip,processor,taken,to chip,to processor,delivered,crossed,referred\n\
+     0,0,0,0,0,0,0,0\n0,1,0,0,0,,0,0\n0,2,0,0,0,,0,0\n0,3,0,0,0,,0,0\n";
 
 /// Then they wait in the full router for the processor to fetch what it received.
 static ALL_WAIT: &str = "set 12\ncycle\ncycle\ncycle\n";
@@ -299,8 +299,9 @@ pub(crate) fn plain(format: Format) -> Look {
     }
 }
 
-/// Whether a picture of eight by eight dots, in colours, has as many bytes as its parts: 8 first ones, chunks of 13 and 768,
-/// the two bytes of zlib, a block of 8 rows with a filter each, 4 bytes of a checksum, and no bytes, each with 12 of its own.
+/// Whether a picture of eight by eight dots, in colours, has as many bytes as its parts: 8 first ones, chunks of 13 and
+/// 768, the two bytes of zlib, a block of 8 rows with a filter each, 4 bytes of a checksum, and no bytes, each with 12
+/// of its own.
 fn is_for_a_slide(alloc: Global) -> Option<bool> {
     let shown = Shown::Number(Field::new(0, 8).ok()?);
     let look = Look {

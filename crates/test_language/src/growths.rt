@@ -67,7 +67,8 @@ static SUM: &[u8] =
     b"field x 0 2 ; two bits\nfield y 2 2\n\nif 3\nadd x y\ncycle\nsense\nnano 4095 1 2 3 4 1 255 016 w";
 
 static SUM_LISTED: &[u8] =
-    b"field x 0 2\nfield y 2 2\nnano 0 0 8 7 3 1 0xf0 0x00 n ; 0\nnano 0 2 7 7 3 1 0x96 0xe8 n ; 1\nnano 1 3 7 7 3 1 0x96 0xe8 n ; 2\ncycle ; 3\nsense ; 4\nnano 4095 1 2 3 4 1 0xff 0x10 w ; 5\n";
+    b"field x 0 2\nfield y 2 2\nnano 0 0 8 7 3 1 0xf0 0x00 n ; 0\nnano 0 2 7 7 3 1 0x96 0xe8 n ; 1\n\
+      nano 1 3 7 7 3 1 0x96 0xe8 n ; 2\ncycle ; 3\nsense ; 4\nnano 4095 1 2 3 4 1 0xff 0x10 w ; 5\n";
 
 /// How many acts a text has, or why it is refused.
 fn assembled(alloc: Global, text: &[u8]) -> Result<usize, AsmFault> {

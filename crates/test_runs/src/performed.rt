@@ -268,7 +268,8 @@ static TABLES: [Table; 27] = [
             "run one sets --out full => words, open one, open sets, ready full, flush, fill full 20: 4 cm1: 31 Write",
             "run two sets --split 1 --workers 2 --out full => \
              words, open two, open sets, ready full, flush, fill full 20: 4 cm1: 31 Write",
-            "run one sets --out scarce => words, open one, open sets, ready scarce, flush, fill scarce 0: 3 cm1: 33 Memory",
+            "run one sets --out scarce => \
+             words, open one, open sets, ready scarce, flush, fill scarce 0: 3 cm1: 33 Memory",
         ],
     },
     // one that is refused, the first of its faults told: nothing is read of standard input, and nothing else is touched
