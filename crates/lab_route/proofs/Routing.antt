@@ -1,6 +1,6 @@
 -- How a route goes on, act by act.
-use Rattle.std.proofs.Common.{◌≡◌, ℕ, Bool, true, false, List, [], ◌∷◌, ◌++◌, Result, Ok, Err, refl, sym, ap, ◌∙◌}
-use Rattle.std.proofs.Common.{append_assoc, if◌then◌else◌}
+use Rattle.std.proofs.Common.{◌≡◌, ℕ, Bool, true, false, List, [], ◌∷◌, Result, Ok, Err, refl, sym, ap, ◌∙◌}
+use Rattle.std.proofs.Common.{if◌then◌else◌}
 use Rattle.std.specs.Prelude.{nat_lt}
 use Rattle.cm_model.specs.declared.act.Act.{Act}
 use Rattle.cm_model.specs.declared.message.Tag.{Tag}
@@ -17,12 +17,6 @@ use Rattle.lab_route.specs.Routes.{route_preceded_by, act_then, route_end_text, 
 pub route_preceded_by-nothing : (rest : Result (List ℕ) RouteFault) → route_preceded_by [] rest ≡ rest
 route_preceded_by-nothing (Ok rest) = refl
 route_preceded_by-nothing (Err fault) = refl
-
--- bytes before bytes
-pub route_preceded_by-twice : (first second : List ℕ) (rest : Result (List ℕ) RouteFault)
-    → route_preceded_by first (route_preceded_by second rest) ≡ route_preceded_by (first ++ second) rest
-route_preceded_by-twice first second (Ok rest) = ap (λ xs. Ok xs) (sym (append_assoc first second rest))
-route_preceded_by-twice first second (Err fault) = refl
 
 -- what comes of an act, by whether its petit cycle is past and whether the counter has room
 abbrev told_by : LabView → Excerpt → Tag → Act → List Act → Bool → Bool → Result (List ℕ) RouteFault
