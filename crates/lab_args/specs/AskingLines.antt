@@ -84,28 +84,64 @@ pub record LinesAreRequests : Type 0 where
   pub load : typed_request "cm1lab load 8 7 0.5,1,1.75 400"
       ≡ Ok (Load (record {
         trial = record {
-          n = 8; room = 7; rule = 0; pattern = pattern.Uniform; background = 0; until = 400; seed = 1; cycles = 400;
-          skip = 0; seeds = 1; table = load_table.Plain;
+          n = 8;
+          room = 7;
+          rule = 0;
+          pattern = pattern.Uniform;
+          background = 0;
+          until = 400;
+          seed = 1;
+          cycles = 400;
+          skip = 0;
+          seeds = 1;
+          table = load_table.Plain;
         };
-        cuts = []; drawn = 0; rates = 50 ∷ 100 ∷ 175 ∷ []; places = None;
+        cuts = [];
+        drawn = 0;
+        rates = 50 ∷ 100 ∷ 175 ∷ [];
+        places = None;
       }))
   pub load_with_options : request_of (words_in
       (codes "cm1lab load 8 7 2 400 --until 10 --pattern hotspot --background 10 --cut 5 0 --seed 9 "
       ++ codes "--cut-random 6 --skip 50 --rule 1 --seeds 5 --table dimensions"))
       ≡ Ok (Load (record {
         trial = record {
-          n = 8; room = 7; rule = 1; pattern = pattern.HotSpot; background = 10; until = 10; seed = 9; cycles = 400;
-          skip = 50; seeds = 5; table = load_table.Dimensions;
+          n = 8;
+          room = 7;
+          rule = 1;
+          pattern = pattern.HotSpot;
+          background = 10;
+          until = 10;
+          seed = 9;
+          cycles = 400;
+          skip = 50;
+          seeds = 5;
+          table = load_table.Dimensions;
         };
-        cuts = record { chip = 5; dim = 0 } ∷ []; drawn = 6; rates = 200 ∷ []; places = None;
+        cuts = record { chip = 5; dim = 0 } ∷ [];
+        drawn = 6;
+        rates = 200 ∷ [];
+        places = None;
       }))
   pub load_with_places : typed_request "cm1lab load 4 1 2 60 --places own.txt --table latencies"
       ≡ Ok (Load (record {
         trial = record {
-          n = 4; room = 1; rule = 0; pattern = pattern.Own; background = 0; until = 60; seed = 1; cycles = 60;
-          skip = 0; seeds = 1; table = load_table.Latencies;
+          n = 4;
+          room = 1;
+          rule = 0;
+          pattern = pattern.Own;
+          background = 0;
+          until = 60;
+          seed = 1;
+          cycles = 60;
+          skip = 0;
+          seeds = 1;
+          table = load_table.Latencies;
         };
-        cuts = []; drawn = 0; rates = 200 ∷ []; places = Some (codes "own.txt");
+        cuts = [];
+        drawn = 0;
+        rates = 200 ∷ [];
+        places = Some (codes "own.txt");
       }))
   pub plot : typed_request "cm1lab plot" ≡ Ok (Plot None (record { from = 0; to = 2 ^ 64 - 1 }))
   pub plot_part : typed_request "cm1lab plot --from 5 --to 9 a.txt"
