@@ -1,13 +1,8 @@
 //! Laws over the definitions: what each function is named for holds, for every source.
 
-ghost use Rattle.std.specs.Prelude.{◌≡◌, codes, None};
-ghost use Rattle.cm_bits.specs.Text.{words_of};
-ghost use Rattle.cm_bits.specs.declared.plane.Dir.TheVariants as dir;
-ghost use Rattle.lab_phrases.specs.declared.phrase.Phrase.TheVariants as phrase;
-ghost use Rattle.lab_source.specs.Says.{phrase_verb_of};
 ghost use Rattle.lab_meaning.specs.Laws.{ExpansionsArePrograms, FaultsAreOfPrograms, PlainSourcesArePrograms};
 ghost use Rattle.lab_meaning.specs.Laws.{PhrasesStandInTheirProgram, ExpansionsDoPhrases, SourcesMacrosStand};
-ghost use Rattle.lab_meaning.specs.SaidLines.{high, low, LineSays};
+ghost use Rattle.lab_meaning.specs.SaidLines.{LinesSayPhrases};
 
 /// What comes out of a source is accepted, and read as the program that the source says: the same fields, in
 /// their order, and the same acts.
@@ -45,15 +40,5 @@ pub fn sources_macros_stand()
 
 /// These lines say these phrases of two fields, a and b: the first that is named is the one that a phrase writes.
 pub fn lines_say_phrases()
-    ensures news { LineSays (codes "news a b e") (phrase.News low high dir.East) }
-    ensures chain { LineSays (codes "chain a b ; a comment") (phrase.Chain low high) }
-    ensures both { LineSays (codes "and a b") (phrase.And low high) }
-    ensures either { LineSays (codes "or b a") (phrase.Or high low) }
-    ensures differ { LineSays (codes "xor a b") (phrase.Xor low high) }
-    ensures turned { LineSays (codes "not b") (phrase.Not high) }
-    ensures number { LineSays (codes "add a 5") (phrase.AddNumber low 5) }
-    ensures test { LineSays (codes "test 3 b") (phrase.Test 3 high) }
-    ensures keep { LineSays (codes "keep a 7") (phrase.Keep low 7) }
-    ensures sum { phrase_verb_of (words_of (codes "add a b")) ≡ None }
-    ensures no_phrase { phrase_verb_of (words_of (codes "set 3")) ≡ None }
+    ensures { LinesSayPhrases }
 {}
