@@ -1,4 +1,4 @@
--- No message of a load is lost: what stood and is taken in is delivered or stands.
+-- As many messages as stood or are taken in are delivered or stand at the end.
 use Rattle.std.proofs.Common.{◌≡◌, ℕ, zero, suc, ◌+◌, ◌<◌, ◌^◌, Bool, true, cond, List, [], ◌∷◌, ◌++◌}
 use Rattle.std.proofs.Common.{length, map, drop, sum_by, count_by, filter_map, flat_map, refl, sym, ap, ◌∙◌, arith}
 use Rattle.std.proofs.Common.{length-append, subst, ◌-◌}

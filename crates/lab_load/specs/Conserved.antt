@@ -1,4 +1,4 @@
--- No message of a load is lost: laws, each a clause of the contract of one function. Ours.
+-- How many messages of a load are delivered or stand: laws, each a clause of the contract of one function. Ours.
 use Rattle.std.specs.Prelude.{◌≡◌, ℕ, ◌+◌, length}
 use Rattle.cm_model.specs.Wiring.{Routing}
 use Rattle.cm_model.specs.Deliveries.{standing_lines}

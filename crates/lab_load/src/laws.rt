@@ -36,7 +36,7 @@ pub fn chips_and_dimensions_agree()
     ensures { ChipsAndDimensionsAgree }
 {}
 
-/// Under every load no message is lost: what is taken in is delivered, or stands in a router at the end.
+/// Under every load as many messages are taken in as are delivered or stand in a router at the end.
 pub fn messages_are_delivered_or_stand()
     ensures taken { TakenAreDeliveredOrStand }
     ensures stood { StoodAreDeliveredOrStand }
