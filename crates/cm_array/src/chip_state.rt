@@ -1,4 +1,4 @@
-//! What a machine is kept as, and what acts do to it.
+//! The state of some chips of a machine, or of all, and what acts do to it.
 
 ghost use Rattle.std.specs.Prelude.{◌≡◌, ◌+◌, ◌*◌, ◌^◌, ◌<◌, ◌≤◌, [], ◌∷◌, IfOk, IsOk, IsFalse, IsTrue, OnErr};
 ghost use Rattle.std.specs.Prelude.{OnOk};

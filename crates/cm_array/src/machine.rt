@@ -142,8 +142,8 @@ impl<const N: usize, const CAP: usize> Machine<N, CAP> {
         self.part_in(alloc, first, count, cycles, None)
     }
 
-    /// The same in the room of a part that is not needed any more, if it has as many chips: then memory is taken for
-    /// the logs alone, as far as they have to grow.
+    /// The same in the room of a part that is not needed any more, if that part has as many chips and is of a machine
+    /// of the same sizes: then memory is taken for the logs alone, as far as they have to grow.
     pub fn part_in(
         &self,
         alloc: Global,

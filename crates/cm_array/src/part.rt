@@ -190,7 +190,7 @@ pub(crate) fn room_for(
 }
 
 impl ChipState {
-    /// Becomes the state of so many chips of a whole machine, from `first` on, with its shape.
+    /// Becomes the state of so many chips of a whole machine of the same shape, from `first` on.
     pub(crate) fn lay(&mut self, from: &ChipState, first: u16, count: u16) -> Result<(), NoMemory>
         requires from { AreParts from.now.shape.dims from.now.shape.room from.now }
         requires there { first + count ≤ 2 ^ from.now.shape.dims }
