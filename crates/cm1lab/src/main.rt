@@ -15,7 +15,8 @@ use crate::loads::{cuts_of, measure_all};
 use crate::progress::Progress;
 use cm_bits::{Std, write_all};
 use cm_host::Host;
-use cm_system::{LineFault, System, TakeFault, take};
+use cm_sizes::IMAGE_LIMIT;
+use cm_system::{LineFault, PROGRAM_LIMIT, System, TakeFault, take};
 use lab_args::{Asked, Blank, Command, CommandFault, Given, HELP, Loads, VERSION, read_words};
 use lab_data::{LabFault, RouteFault, perform_watched};
 use lab_fresh::{FreshFault, fresh};
@@ -28,17 +29,11 @@ use std::io::Write;
 use std::process::ExitCode;
 use std::rt::{Clock, Env, Files};
 
-/// Most bytes of an image's file.
-const IMAGE_LIMIT: u64 = 134217728;
-
 /// Most bytes of a text of numbers.
 const NUMBERS_LIMIT: u64 = 16777216;
 
 /// Most bytes of a picture.
 const PICTURE_LIMIT: u64 = 16777216;
-
-/// Most bytes of a program's text.
-const PROGRAM_LIMIT: u64 = 16777216;
 
 /// Most bytes of a table.
 const TABLE_LIMIT: u64 = 16777216;

@@ -19,12 +19,9 @@ use cm_element::Run;
 use cm_message::Event;
 use cm_model::Act;
 use cm_petit::{cycle, is_at_rest};
-use cm_router::Routing;
+use cm_router::{MOST_INJECTED, Routing};
 use cm_router_engine::{RouterEngine, Shape};
 use std::alloc::Global;
-
-/// Most events of a chip in one petit cycle, beside one for each message that its router has room for.
-const MOST_INJECTED: usize = 4;
 
 /// The state of some chips of a machine, or of all, and the working room of instructions and petit cycles, so that
 /// these take no memory.

@@ -16,7 +16,7 @@ pub use edge::Edge;
 pub use ends::{Failed, Sink, Source, Std, WriteFault, write_all};
 pub use field::{Field, FieldFault, Meets};
 pub use no_memory::NoMemory;
-pub use number::{Addr, FlagNo, Proc};
+pub use number::{ADDRESSES, Addr, FLAGS, FlagNo, PROCESSORS, Proc};
 pub use place::Place;
 pub use plane::{Dir, Plane};
 pub use text::{Lines, Words, read_number};

@@ -4,6 +4,15 @@ ghost use Rattle.std.specs.Prelude.{◌≡◌, ℕ, ◌<◌, ◌↔◌, IsSome, 
 
 use std::marker::Model;
 
+/// The addresses of a processor's memory: so many bits it has (Hillis 1985).
+pub const ADDRESSES: u16 = 4096;
+
+/// The flags of a processor (Hillis 1985).
+pub const FLAGS: u8 = 16;
+
+/// The processors of a chip (Hillis 1985).
+pub const PROCESSORS: u8 = 16;
+
 /// The address of a memory bit of a processor, 0 to 4095 (Hillis 1985).
 #[derive(Clone, Copy, Debug, Default, PartialEq, Eq)]
 pub struct Addr {

@@ -10,13 +10,8 @@ ghost use Rattle.cm_debug.specs.State.{stops_at};
 ghost use Rattle.cm_debug.specs.Longest.{IsLongest};
 
 use crate::debugger::{Debugger, Stops};
+use cm_array::{LAST_CLOCK, LONGEST, MOST_CYCLES};
 use cm_model::Act;
-
-const LONGEST: usize = 4096;
-
-const MOST_CYCLES: u64 = 64;
-
-const LAST_CLOCK: u64 = u64::MAX >> 1;
 
 /// Whether the act is a petit cycle for which the counter has no room.
 pub fn lacks_room(clock: u64, act: &Act) -> bool
@@ -94,7 +89,7 @@ fn ends_at(
         return true;
     }
     let cycles = cycles + cycle_count(act);
-    cycles > MOST_CYCLES || clock + cycles > LAST_CLOCK
+    cycles > MOST_CYCLES as u64 || clock + cycles > LAST_CLOCK
 }
 
 fn cycle_count(act: &Act) -> u64

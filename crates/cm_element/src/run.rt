@@ -27,9 +27,9 @@ use std::alloc::Global;
 use std::marker::Model;
 pub use view::ChipView;
 
-const ADDRESSES: usize = 4096;
+const ADDRESSES: usize = cm_bits::ADDRESSES as usize;
 
-const FLAGS: usize = 16;
+const FLAGS: usize = cm_bits::FLAGS as usize;
 
 /// From so many chips on, rows lie some words further apart than they are long: a power of two would
 /// put all bits of a processor into the same few sets of the cache.

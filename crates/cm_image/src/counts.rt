@@ -7,11 +7,9 @@ ghost use Rattle.cm_image_format.specs.Whole.{memory_plane_of};
 ghost use Rattle.cm_image.specs.Planes.{AreCounted, AreInUse};
 
 use cm_array::Machine;
-use cm_bits::{Addr, NoMemory, Plane};
+use cm_bits::{ADDRESSES, Addr, NoMemory, Plane};
 use cm_image_fields::chip_count;
 use std::alloc::Global;
-
-pub(crate) const ADDRESSES: u16 = 4096;
 
 /// The addresses at which memory has rows, rising: at the others no plane is listed.
 pub(crate) fn addresses_in_use<const N: usize, const CAP: usize>(

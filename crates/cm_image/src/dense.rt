@@ -10,10 +10,9 @@ ghost use Rattle.cm_image_format.specs.Whole.{memory_plane_of, image_of_chip, im
 ghost use Rattle.cm_image.specs.Planes.{AreCounted, chips_text, plane_listing, listings, planes_below};
 ghost use Rattle.cm_image.specs.Sending.{GoesOut, GoesOutInPart, is_dump_write};
 
-use crate::counts::ADDRESSES;
 use crate::dumps::{push_flags, push_messages, push_plane};
 use cm_array::Machine;
-use cm_bits::{NoMemory, Plane};
+use cm_bits::{ADDRESSES, NoMemory, Plane};
 use cm_element::{ChipView, PITCH};
 use cm_image_fields::{push, push_u8, push_u16};
 use cm_message::Message;

@@ -18,7 +18,7 @@ ghost use Rattle.cm_image.specs.Sending.{front_text, GoesOut, GoesOutInPart, is_
 
 use crate::sending::{DumpRoom, ListedMachine, sizes};
 use cm_array::Machine;
-use cm_bits::{Addr, Failed, FlagNo, NoMemory, Plane, Sink};
+use cm_bits::{Addr, FLAGS, Failed, FlagNo, NoMemory, Plane, Sink};
 use cm_element::ChipView;
 use cm_image_fields::{
     chip_count, cuts_len, push, push_cuts, push_head, push_u8, push_u16, push_u64, version_of,
@@ -27,8 +27,6 @@ use cm_image_format::texts_leave_out_logs;
 use cm_message::{Message, bytes};
 use cm_model::cuts_are_few;
 use std::alloc::Global;
-
-const FLAGS: u8 = 16;
 
 const HEADER_LEN: usize = 16;
 

@@ -20,6 +20,6 @@ pub use cm_image_format::ImageFault;
 pub use dumps::dump;
 pub use laws::texts_are_short;
 pub use loads::load;
-pub use pieces::{SourceFault, take_rest};
+pub use pieces::{PIECE, SourceFault, take_rest};
 pub use sending::{DumpFault, DumpRoom, dump_into};
 pub use sourced::{load_source, shapes_go_on};

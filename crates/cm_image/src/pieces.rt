@@ -12,8 +12,9 @@ use std::alloc::Global;
 use std::marker::Model;
 use thiserror::Error;
 
-/// So many bytes are read at a time: their room is written whole before the first, and is small beside any machine.
-const PIECE: usize = 16384;
+/// So many bytes of an image are read at a time: their room is written whole before the first, and is small beside any
+/// machine.
+pub const PIECE: usize = 16384;
 
 /// Room for so many times the bytes that came first is taken with them, so that the list grows seldom.
 const AHEAD: usize = 16;

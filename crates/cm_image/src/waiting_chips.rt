@@ -10,17 +10,14 @@ ghost use Rattle.cm_image_format.specs.Image.{listed_part, memory_part};
 ghost use Rattle.cm_image_format.specs.Whole.{planes_of};
 ghost use Rattle.cm_image.specs.WaitingChips.{with_waiting, AreListedFrom};
 
-use crate::counts::ADDRESSES;
 use cm_array::Builder;
-use cm_bits::{NoMemory, Plane};
+use cm_bits::{ADDRESSES, FLAGS, NoMemory, Plane};
 use cm_element::PITCH;
 use std::alloc::Global;
 use std::marker::Model;
 
 /// So many chips wait at most: their planes are 2 MB, which a cache holds.
 const WIDTH: u16 = 256;
-
-const FLAGS: usize = 16;
 
 /// The bytes that list the planes of all addresses, behind their count.
 pub(crate) const FULL_MEMORY_LEN: usize = 16386;
@@ -55,7 +52,7 @@ impl WaitingChips {
         ensures value { IfOk result (λ waiting. waiting ≡ []) }
     {
         let memory = Vec::with_capacity(alloc, usize::from(WIDTH) * PITCH)?;
-        let flags = Vec::with_capacity(alloc, usize::from(WIDTH) * FLAGS)?;
+        let flags = Vec::with_capacity(alloc, usize::from(WIDTH) * usize::from(FLAGS))?;
         Ok(WaitingChips {
             memory,
             flags,
@@ -114,8 +111,8 @@ impl WaitingChips {
         if !take_full_memory(&mut self.memory, place, bytes) {
             return false;
         }
-        let at = usize::from(self.count) * FLAGS;
-        lengthen(&mut self.flags, at + FLAGS);
+        let at = usize::from(self.count) * usize::from(FLAGS);
+        lengthen(&mut self.flags, at + usize::from(FLAGS));
         put_planes(&mut self.flags, at, flags);
         self.count += 1;
         true
@@ -152,7 +149,8 @@ fn take_full_memory(memory: &mut [Plane], place: usize, bytes: &[u8]) -> bool
 /// Whether the first chip of bytes seems to list the memory planes of all addresses: whether its flag planes and this
 /// count stand there.
 pub(crate) fn lists_all(bytes: &[u8]) -> bool {
-    bytes.len() >= 2 * FLAGS + 2 && count_at(&bytes[2 * FLAGS..]) == ADDRESSES
+    let flags_len = 2 * usize::from(FLAGS);
+    bytes.len() >= flags_len + 2 && count_at(&bytes[flags_len..]) == ADDRESSES
 }
 
 /// The count at the front of bytes.
@@ -201,7 +199,7 @@ fn put_planes(planes: &mut [Plane], place: usize, flags: &[Plane; 16])
     ensures value { (f : ℕ) → f < 16 → slice_index planes.new (place + f) ≡ slice_index flags.now f }
     ensures below { (i : ℕ) → i < place → slice_index planes.new i ≡ slice_index planes.old i }
 {
-    for f in 0..FLAGS {
+    for f in 0..usize::from(FLAGS) {
         planes[place + f] = flags[f];
     }
 }

@@ -11,8 +11,8 @@ ghost use Rattle.cm_model.specs.Letters.{senders, message_sent, is_among, proces
 ghost use Rattle.cm_model.specs.Letters.{chip_after_injection, is_for, with_field, processor_after_delivery};
 ghost use Rattle.cm_model.specs.Letters.{chip_after_delivery};
 
-use crate::machine::{PROCESSORS, PlainChip, PlainMachine, PlainProcessor, put};
-use cm_bits::{FlagNo, NoMemory, Proc};
+use crate::machine::{PlainChip, PlainMachine, PlainProcessor, put};
+use cm_bits::{FlagNo, NoMemory, PROCESSORS, Proc};
 use cm_model::{Message, RECEIVED_PAYLOAD, SENT_PAYLOAD, SENT_PROC, SENT_REL, Tag};
 use std::alloc::Global;
 

@@ -8,14 +8,10 @@ ghost use Rattle.cm_model.specs.Instruction.{memory_output, flag_output, takes_i
 ghost use Rattle.cm_model.specs.Chip.{each_processor, processor_at, chip_after, with_memory_bit, with_flag};
 ghost use Rattle.cm_model.specs.Array.{Chips, each_chip, chip_at, incoming, after_nano};
 
-use cm_bits::{Addr, FlagNo, NoMemory, Place, Proc};
+use cm_bits::{Addr, FLAGS, FlagNo, NoMemory, PROCESSORS, Place, Proc};
 use cm_model::{Nano, PlainGrid, opposite};
 use std::alloc::Global;
 use std::marker::Model;
-
-pub(crate) const PROCESSORS: u8 = 16;
-
-const FLAGS: usize = 16;
 
 /// A machine of `2 ^ N` chips, kept bit by bit.
 ///
@@ -220,7 +216,7 @@ impl PlainProcessor {
             ≡ record { memory = replicate addresses false; flags = replicate 16 false }) }
     {
         let memory = vec![in alloc; false; usize::from(addresses)]?;
-        let flags = vec![in alloc; false; FLAGS]?;
+        let flags = vec![in alloc; false; usize::from(FLAGS)]?;
         Ok(PlainProcessor { memory, flags })
     }
 

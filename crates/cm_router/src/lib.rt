@@ -19,4 +19,4 @@ pub use letters::{
 };
 pub use node::Node;
 pub use routing::Routing;
-pub use senders::{Senders, with_one};
+pub use senders::{MOST_INJECTED, Senders, with_one};

@@ -9,8 +9,8 @@ ghost use Rattle.cm_model.specs.Letters.{senders_taken};
 use cm_bits::{Plane, Proc};
 use std::marker::Model;
 
-/// Most messages that a chip takes in at once.
-const MOST: usize = 4;
+/// Most messages that a chip takes in during one petit cycle (Hillis 1985).
+pub const MOST_INJECTED: usize = 4;
 
 /// The processors of a chip whose messages are still to be taken in.
 ///
@@ -44,7 +44,7 @@ impl Senders {
     {
         Senders {
             asking,
-            left: MOST.min(room),
+            left: MOST_INJECTED.min(room),
         }
     }
 

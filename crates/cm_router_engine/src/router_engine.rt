@@ -26,7 +26,8 @@ use cm_bits::{NoMemory, Plane};
 use cm_element::{ChipView, Run};
 use cm_message::{Event, Message, Rule};
 use cm_router::{
-    Deliveries, Routing, Senders, acknowledge, asking, chip_asks, chip_is_acknowledged, take_none,
+    Deliveries, MOST_INJECTED, Routing, Senders, acknowledge, asking, chip_asks,
+    chip_is_acknowledged, take_none,
 };
 use cm_slots::{Shape, Ticket, TicketQueues};
 use std::alloc::Global;
@@ -35,9 +36,6 @@ use std::mem;
 
 /// Most places of the row: as many as tickets can tell.
 const MOST_PLACES: usize = 65535;
-
-/// Most messages that a chip takes in at once.
-const MOST_INJECTED: usize = 4;
 
 /// So many dimensions, a petit cycle of the largest machine, are crossed chip by chip before the row is put in the
 /// order of age: this takes twice as long, and a list that ends before has no use for it.

@@ -10,15 +10,12 @@ ghost use Rattle.cm_sizes.specs.ImageSources.{IsRefusedAs, IsUnopenedSource, ope
 use crate::any_machine::AnyMachine;
 use cm_array::Machine;
 use cm_bits::Source;
-use cm_image::{ImageFault, SourceFault, load, load_source, shape, shapes_go_on, take_rest};
+use cm_image::{ImageFault, PIECE, SourceFault, load, load_source, shape, shapes_go_on, take_rest};
 use std::alloc::Global;
 use thiserror::Error;
 
 /// Most bytes of an image's file.
 pub const IMAGE_LIMIT: u64 = 134217728;
-
-/// So many bytes are read at first.
-const PIECE: usize = 16384;
 
 /// Why an image has no machine of the programs' own.
 #[derive(Clone, Copy, Debug, PartialEq, Eq, Error)]

@@ -5,14 +5,10 @@ ghost use Rattle.cm_tools.specs.ChipText.{plane_text, plane_line, flag_plane, me
 ghost use Rattle.cm_language.specs.Listing.{hex_digit};
 ghost use Rattle.cm_tools.specs.ChipText.{memory_line, lines_below, chip_session_text};
 
-use cm_bits::{Addr, FlagNo, Plane};
+use cm_bits::{ADDRESSES, Addr, FLAGS, FlagNo, Plane};
 use cm_element::ChipView;
 use itoa::Buffer;
 use std::alloc::{AllocError, Global};
-
-const FLAGS: u8 = 16;
-
-const ADDRESSES: u16 = 4096;
 
 /// The flag planes, then each plane of memory that is not 0, addresses rising.
 pub fn chip_text(alloc: Global, chip: &ChipView<'_>) -> Result<Vec<u8>, AllocError>

@@ -9,10 +9,8 @@ ghost use Rattle.lab_data.specs.Data.{processors, numbers_of, flags_of, chip_wit
 
 use crate::order::{Order, processors};
 use cm_array::{Machine, pokes_keep_machines};
-use cm_bits::{Addr, Field, FlagNo, NoMemory, Place, Proc};
+use cm_bits::{Addr, Field, FlagNo, NoMemory, PROCESSORS, Place, Proc};
 use std::alloc::Global;
-
-const PROCESSORS: u8 = 16;
 
 /// The number that each processor has in a memory field, in this order.
 pub fn get<const N: usize, const CAP: usize>(

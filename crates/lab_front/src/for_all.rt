@@ -9,11 +9,7 @@ ghost use Rattle.lab_front.specs.ForAll.{get_of_two};
 ghost use Rattle.lab_front.specs.ForAll.{get_of_flag, get_of, put_into, put_words, put_of, asked_by, asked_of};
 
 use cm_asm::AsmKind;
-use cm_bits::{Field, FieldFault, FlagNo, Words, read_number};
-
-const ADDRESSES: u64 = 4096;
-
-const FLAGS: u64 = 16;
+use cm_bits::{ADDRESSES, FLAGS, Field, FieldFault, FlagNo, Words, read_number};
 
 /// What a line asks of all processors, or of the whole machine.
 #[derive(Clone, Copy, Debug, PartialEq, Eq)]
@@ -140,7 +136,7 @@ fn get_of_flag(flag: &[u8]) -> Result<Asked, AsmKind>
     ensures value { result ≡ get_of_flag flag.now }
 {
     let number = number(flag)?;
-    let flag = in_range(number, FLAGS)?;
+    let flag = in_range(number, u64::from(FLAGS))?;
     match FlagNo::new(flag as u8) {
         Some(flag) => Ok(Asked::GetFlag(flag)),
         None => Err(AsmKind::Range),
@@ -264,7 +260,7 @@ fn number(word: &[u8]) -> Result<u64, AsmKind>
 fn field(at: u64, len: u64) -> Result<Field, AsmKind>
     ensures value { result ≡ asked_field at len }
 {
-    let at = in_range(at, ADDRESSES)?;
+    let at = in_range(at, u64::from(ADDRESSES))?;
     if len == 0 || len > 64 {
         return Err(AsmKind::Width);
     }

@@ -22,13 +22,13 @@ use cm_asm::Reader;
 use cm_bits::NoMemory;
 use cm_debug::{Debugger, OutOf, push_bit, push_number, push_word};
 use cm_model::Act;
+use cm_session::CLOCK;
 use lab_data::{Order, put};
 use std::alloc::{AllocError, Global};
 use std::marker::Model;
 
+/// The number of the refusal of acts that are too many for one stretch.
 const LONG: u64 = 6;
-
-const CLOCK: u64 = 7;
 
 /// The fields and the context of the program so far.
 #[derive(Drop)]

@@ -14,15 +14,12 @@ ghost use Rattle.lab_front.specs.Telling.{hex_text};
 ghost use Rattle.lab_front.specs.Telling.{image_lines};
 
 use cm_array::Machine;
-use cm_bits::{Field, FlagNo, NoMemory, Plane};
+use cm_bits::{Field, FlagNo, NoMemory, PROCESSORS, Plane};
 use cm_debug::push_number;
 use cm_image::dump;
 use lab_data::{Order, Shown, flags, get, show, write_numbers};
 use lab_digits::push_words;
 use std::alloc::Global;
-
-/// Processors of a chip.
-const PROCESSORS: usize = 16;
 
 /// Bytes of an image in a line.
 const HEX_BYTES: usize = 32;
@@ -40,7 +37,13 @@ pub fn push_field<const N: usize, const CAP: usize>(
     // For the prover alone: a call brings in what holds of every machine.
     let _dims = machine.dims();
     let numbers = get(alloc, machine, Order::Chips, field)?;
-    push_numbers(alloc, text, &numbers, chip_count::<N>(), PROCESSORS)
+    push_numbers(
+        alloc,
+        text,
+        &numbers,
+        chip_count::<N>(),
+        usize::from(PROCESSORS),
+    )
 }
 
 /// A flag of each processor.
@@ -56,7 +59,13 @@ pub fn push_flags<const N: usize, const CAP: usize>(
     // For the prover alone: a call brings in what holds of every machine.
     let _dims = machine.dims();
     let numbers = flags(alloc, machine, Order::Chips, number)?;
-    push_numbers(alloc, text, &numbers, chip_count::<N>(), PROCESSORS)
+    push_numbers(
+        alloc,
+        text,
+        &numbers,
+        chip_count::<N>(),
+        usize::from(PROCESSORS),
+    )
 }
 
 /// How many messages stand at each chip.

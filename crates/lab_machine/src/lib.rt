@@ -5,4 +5,5 @@ mod copying;
 mod log_room;
 mod machine;
 
-pub use machine::{LAST_CLOCK, LabMachine, RoomFault};
+pub use cm_array::LAST_CLOCK;
+pub use machine::{LabMachine, RoomFault};

@@ -11,25 +11,17 @@ ghost use Rattle.cm_model.specs.Buffers.{machine_after_injection, machine_after_
 
 use crate::copying::{copied_engine, copied_logs, copied_run};
 use crate::log_room::make_room;
-use cm_array::{Machine, step};
+use cm_array::{LAST_CLOCK, MOST_ROOM, Machine, step};
 use cm_bits::{NoMemory, Plane};
 use cm_element::{ChipView, Run};
 use cm_message::{Event, Message, Rule};
 use cm_model::{Act, Nano};
 use cm_petit::{cross_all, deliver, inject};
-use cm_router::Routing;
+use cm_router::{MOST_INJECTED, Routing};
 use cm_router_engine::{RouterEngine, Shape};
 use std::alloc::Global;
 use std::marker::Model;
 use thiserror::Error;
-
-/// The greatest count of petit cycles.
-pub const LAST_CLOCK: u64 = u64::MAX >> 1;
-
-/// Most events of a chip when messages are taken in.
-const EVENTS_OF_INJECTION: usize = 4;
-
-const MOST_ROOM: u16 = 15;
 
 /// Why a machine has not such a room.
 #[derive(Clone, Copy, Debug, PartialEq, Eq, Error)]
@@ -104,7 +96,7 @@ impl LabMachine {
         ensures refused { IfErr result (λ fault. fault ≢ RoomFault.Memory
             → room_fault room machine.now.machine.buffers ≡ Some fault) }
     {
-        if room == 0 || room > MOST_ROOM {
+        if room == 0 || usize::from(room) > MOST_ROOM {
             return Err(RoomFault::Room(room));
         }
         let engine = copied_engine(alloc, machine)?;
@@ -259,10 +251,7 @@ impl LabMachine {
         if self.clock == LAST_CLOCK {
             return Err(NoMemory);
         }
-        make_room(
-            &mut self.logs,
-            EVENTS_OF_INJECTION + usize::from(self.shape.room),
-        )?;
+        make_room(&mut self.logs, MOST_INJECTED + usize::from(self.shape.room))?;
         inject(
             self.shape,
             0,
@@ -290,7 +279,7 @@ impl LabMachine {
           machine = machine_after_injection self.old.n self.old.cap self.old.machine;
         }) }
     {
-        make_room(&mut self.logs, EVENTS_OF_INJECTION)?;
+        make_room(&mut self.logs, MOST_INJECTED)?;
         inject(
             self.shape,
             0,

@@ -14,13 +14,11 @@ ghost use Rattle.lab_study.specs.Traces.{trace_of, referrals};
 
 use crate::counts::Counts;
 use crate::ways::Ways;
-use cm_bits::{FlagNo, NoMemory, Proc};
+use cm_bits::{FlagNo, NoMemory, PROCESSORS, Proc};
 use cm_element::ChipView;
 use cm_model::{Event, Message};
 use lab_machine::LabMachine;
 use std::alloc::Global;
-
-const PROCESSORS: u8 = 16;
 
 /// By chip, how many events its log has.
 pub fn log_lengths(alloc: Global, machine: &LabMachine) -> Result<Vec<usize>, NoMemory>
