@@ -1,6 +1,6 @@
 //! A machine of the laboratory: its sizes are values, so its routers may have any room.
 
-ghost use Rattle.std.specs.Prelude.{◌≡◌, ◌≢◌, ◌^◌, ◌<◌, ◌≤◌, IfOk, IfErr, OnOk, IsTrue, Some, None, length};
+ghost use Rattle.std.specs.Prelude.{◌≡◌, ◌≢◌, ◌^◌, ◌<◌, ◌≤◌, IfOk, IfErr, OnOk, OnErr, IsTrue, Some, None, length};
 ghost use Rattle.std.specs.List.{All};
 ghost use Rattle.cm_model.specs.Keeping.{AreSizes};
 ghost use Rattle.cm_model.specs.Array.{chip_at, nth_or_nil};
@@ -213,9 +213,11 @@ impl LabMachine {
         self.routing.rule
     }
 
-    /// Does one act. It is refused for want of memory, and where the counter has no room for a petit cycle.
+    /// Does one act. It is refused for want of memory, and where the counter has no room for a petit cycle; the
+    /// machine stays as it was then.
     pub fn go_on(&mut self, alloc: Global, act: &Act) -> Result<(), NoMemory>
         ensures ok { OnOk result (self.new ≡ lab_after self.old act.now) }
+        ensures err { OnErr result (self.new ≡ self.old) }
     {
         // For the prover alone: a call brings in what holds of every machine.
         let _dims = self.dims();
@@ -228,6 +230,7 @@ impl LabMachine {
 
     fn instruct(&mut self, alloc: Global, nano: &Nano) -> Result<(), NoMemory>
         ensures ok { OnOk result (self.new ≡ lab_after self.old (act.Nano nano.now)) }
+        ensures err { OnErr result (self.new ≡ self.old) }
     {
         let chips = usize::from(self.chips());
         let mut sent = blank_planes(alloc, chips)?;
@@ -247,6 +250,7 @@ impl LabMachine {
 
     fn cycle(&mut self) -> Result<(), NoMemory>
         ensures ok { OnOk result (self.new ≡ lab_after self.old act.Cycle) }
+        ensures err { OnErr result (self.new ≡ self.old) }
     {
         if self.clock == LAST_CLOCK {
             return Err(NoMemory);
@@ -278,6 +282,7 @@ impl LabMachine {
         ensures ok { OnOk result (self.new ≡ record self.old {
           machine = machine_after_injection self.old.n self.old.cap self.old.machine;
         }) }
+        ensures err { OnErr result (self.new ≡ self.old) }
     {
         make_room(&mut self.logs, MOST_INJECTED)?;
         inject(
@@ -309,6 +314,7 @@ impl LabMachine {
         ensures ok { OnOk result (self.new ≡ record self.old {
           machine = machine_after_delivery self.old.n self.old.machine;
         }) }
+        ensures err { OnErr result (self.new ≡ self.old) }
     {
         if self.clock == LAST_CLOCK {
             return Err(NoMemory);
