@@ -1,6 +1,6 @@
 use Rattle.std.proofs.Common.{◌≡◌, ◌+◌, refl, sym, ap, ◌∙◌, length}
 use Rattle.cm_model.specs.declared.act.Act.TheVariants as act
-use Rattle.cm_model.specs.Buffers.{machine_after_injection, machine_after_delivery, after_act}
+use Rattle.cm_model.specs.Buffers.{machine_after_injection, machine_after_delivery}
 use Rattle.cm_model.proofs.Runs.{run_of-one}
 use Rattle.cm_router.specs.Routes.{routing_of}
 use Rattle.cm_petit.specs.Routers.{machine_from, events_of}
@@ -41,4 +41,5 @@ returns c =
     ∙ sym (run_of-one n cap old act.Cycle c.self.invariant.routers.buffer_count) in
     record {
       ok = (λ i. record lab { machine = is i }) ∙ ap (λ (l : LabView). lab_after l act.Cycle) c.self.view_is;
+      err = tt;
     }

@@ -10,4 +10,5 @@ returns-in-Sense c =
     record {
       ok = sym ((λ i. lab_after lab (c.in-Sense.is i))
           ∙ (λ i. record lab { machine = run_of-one lab.n lab.cap lab.machine act.Sense c.dims-dims.ensures.buffers i }));
+      err = tt;
     }

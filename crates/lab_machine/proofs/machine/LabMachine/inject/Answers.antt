@@ -29,4 +29,5 @@ returns c =
     record {
       ok = (λ i. record lab { machine = is i })
           ∙ ap (λ (l : LabView). record l { machine = machine_after_injection l.n l.cap l.machine }) c.self.view_is;
+      err = tt;
     }
