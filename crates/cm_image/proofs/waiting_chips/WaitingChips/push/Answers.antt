@@ -38,11 +38,25 @@ pub lengthen-requires-2 : goal.lengthen-requires-2
 lengthen-requires-2 c =
     let run = c.self.inside in
     let few = rw (← c.self.view_is, length-chips_beside run.memory.items run.flags.items run.count) at c.requires.room in
-    record { room = omega (arith, few, c.from-at.ensures, c.self.invariant.flag_room) }
+    record { room = omega (
+      arith,
+      few,
+      c.from.ensures,
+      ap (λ (k : ℕ). c.from.result * k) c.from-2.ensures,
+      c.from-3.ensures,
+      c.self.invariant.flag_room,
+    ) }
 
 pub put_planes-requires : goal.put_planes-requires
 put_planes-requires c = record {
-  room = omega (arith, c.from-at.ensures, c.lengthen-2.ensures.long, ap length c.deref_mut-2.ensures.value);
+  room = omega (
+    arith,
+    c.from.ensures,
+    ap (λ (k : ℕ). c.from.result * k) c.from-2.ensures,
+    c.from-3.ensures,
+    c.lengthen-2.ensures.long,
+    ap length c.deref_mut-2.ensures.value,
+  );
 }
 
 -- ---- the planes that were put
@@ -71,14 +85,15 @@ memory_below c i h =
 flags_below : (c : goal.After-self-3-1) (i : ℕ) → i < c.self.inside.count * 16
     → get_or c.put_planes.new.planes i 0 ≡ get_or c.self.inside.flags.items i 0
 flags_below c i h =
-    c.put_planes.ensures.below i (omega (arith, h, c.from-at.ensures))
+    c.put_planes.ensures.below i (omega (arith, h, c.from.ensures, ap (λ (k : ℕ). c.from.result * k) c.from-2.ensures))
     ∙ ap (λ (fs : List ℕ). get_or fs i 0) c.deref_mut-2.ensures.value
     ∙ c.lengthen-2.ensures.below i (omega (arith, h, c.self.invariant.flag_words))
 
 flags_here : (c : goal.After-self-3-1) (f : ℕ) → f < 16
     → get_or c.put_planes.new.planes (c.self.inside.count * 16 + f) 0 ≡ get_or c.args.flags.now f 0
 flags_here c f h =
-    ap (λ (k : ℕ). get_or c.put_planes.new.planes (k * 16 + f) 0) (sym c.from-at.ensures)
+    ap (λ (k : ℕ). get_or c.put_planes.new.planes (k * 16 + f) 0) (sym c.from.ensures)
+    ∙ ap (λ (k : ℕ). get_or c.put_planes.new.planes (c.from.result * k + f) 0) (sym c.from-2.ensures)
     ∙ c.put_planes.ensures.value f h
 
 pub invariant_of-self-2 : goal.invariant_of-self-2
@@ -103,7 +118,9 @@ invariant_of-self-2 c =
     (omega (
       arith,
       c.lengthen-2.ensures.long,
-      c.from-at.ensures,
+      c.from.ensures,
+      ap (λ (k : ℕ). c.from.result * k) c.from-2.ensures,
+      c.from-3.ensures,
       c.put_planes.auto.planes,
       ap length c.deref_mut-2.ensures.value,
     ))
