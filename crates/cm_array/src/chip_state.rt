@@ -41,7 +41,7 @@ pub(crate) struct ChipState {
     pub(crate) sent: Vec<Plane>,
     /// By chip, what comes in there over the grid.
     pub(crate) incoming: Vec<Plane>,
-    /// By chip, the messages that stand in its router; between two lists of acts they are gathered.
+    /// By chip, the messages that stand in its router; in a whole machine they are gathered between two lists of acts.
     pub(crate) crossing: RouterEngine,
     /// Which wires are cut, and by which rule routers choose: no act changes it.
     pub(crate) routing: Routing,

@@ -146,8 +146,8 @@ impl Part {
         );
     }
 
-    /// The second half: each chip takes in what was written down for it, behind all that stand there. Nothing is
-    /// written down then.
+    /// The second half: each chip takes in what was written down for it, behind all that stand there. The list is blank
+    /// afterwards.
     pub fn take_in(&mut self, leavers: &mut [Option<Message>])
         requires lanes { length leavers.old ≡ self.old.part.count }
         requires space { (c : ℕ) → c < self.old.part.count → (slice_index_or leavers.old c None ≡ None)

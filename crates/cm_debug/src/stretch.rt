@@ -30,8 +30,8 @@ pub fn is_look(act: &Act) -> bool
     matches!(act, Act::Sense)
 }
 
-#[tactic(auto, using(crate::proofs::Growing::begins, crate::proofs::Growing::one_more))]
 /// How many of the first acts, of which there is one, a runner takes at once so that nothing is told or stops within.
+#[tactic(auto, using(crate::proofs::Growing::begins, crate::proofs::Growing::one_more))]
 pub fn stretch_len(acts: &[Act], debugger: &Debugger<'_>, stops: Stops, clock: u64) -> usize
     requires some { 0 < length acts.now }
     requires room { lacks_room clock (slice_index_or acts.now 0 act.Cycle) ≡ false }

@@ -38,7 +38,7 @@ pub(crate) fn write_tile<const N: usize, const CAP: usize>(
     machine.write_planes(first, some, planes);
 }
 
-/// What it has of a chip with so many listed planes, all of them among these, and this buffer.
+/// Appends the image's text of a chip with so many listed planes, all of them among these, and this buffer.
 pub(crate) fn push_dense_chip(
     text: &mut Vec<u8>,
     chip: &ChipView<'_>,

@@ -52,7 +52,7 @@ pub struct DumpRoom {
     text: Vec<u8>,
 }
 
-/// Where some chips at a time stand near.
+/// A copy of up to 64 chips, which a cache holds while they are written.
 #[derive(Drop)]
 pub(crate) enum Near {
     Chips(Run),
@@ -201,7 +201,8 @@ impl<'a, const N: usize, const CAP: usize> ListedMachine<'a, N, CAP> {
         Ok(())
     }
 
-    /// What it has of so many chips, from `first` on, which are near.
+    /// Appends the image's text of so many chips, from `first` on, and sends the text out whenever it is as long as a
+    /// piece. The chips stand in `near`.
     fn send_tile<O: Sink>(
         &self,
         text: &mut Vec<u8>,
@@ -240,7 +241,7 @@ impl<'a, const N: usize, const CAP: usize> ListedMachine<'a, N, CAP> {
         Ok(())
     }
 
-    /// What it has of the chip of a number, which is near at this place.
+    /// Appends the image's text of the chip of a number, which stands in `near` at this place.
     fn push_chip(
         &self,
         text: &mut Vec<u8>,

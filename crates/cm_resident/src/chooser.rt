@@ -21,8 +21,8 @@ use std::alloc::Global;
 use std::sync::Wait;
 use std::thread::Threads;
 
-/// The runner that chooses for each list: the thread of the caller goes through one that it has done before it was
-/// shared out, workers that run on, as those of `Resident`, through all others.
+/// The runner that chooses for each list of acts: the thread of the caller runs a list that it has done sooner than the
+/// list could be shared out (`is_soon_done`); workers that run on, as those of `Resident`, run all others.
 #[derive(Drop)]
 pub struct Chooser<'a, R> {
     /// The parts of the last list that was shared out, whose room the next takes.

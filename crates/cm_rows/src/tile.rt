@@ -1,4 +1,4 @@
-//! Some words of rows by tables that are not known: each step goes over all of them before the next.
+//! Some words of rows by tables that are known only at run time: each step goes over all of the words before the next.
 
 ghost use Rattle.std.specs.Prelude.{◌≡◌, ℕ, ◌+◌, ◌<◌, ◌≤◌, cond, length, slice_index};
 ghost use Rattle.cm_bits.specs.Bit.{bit};

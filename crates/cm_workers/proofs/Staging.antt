@@ -1,4 +1,4 @@
--- Blocks from turn to turn of a run.
+-- One block from turn to turn of a run, with what it has sent.
 use Rattle.std.proofs.Common.{◌≡◌, ℕ, suc, ◌+◌, ◌-◌, ◌*◌, ◌/◌, ◌<◌, ◌≤◌, ◌^◌, Bool, true, false}
 use Rattle.std.proofs.Common.{List, [], ◌∷◌, cond, Option, Some, None, length, refl, ap, sym}
 use Rattle.std.proofs.Common.{subst, ◌∙◌, arith}
@@ -266,12 +266,14 @@ pub record HasSentAt (n k room : ℕ) (machine : Machine) (acts : List Act) (t b
   pub log_room : HaveLogRoom (events_in room (steps_after_round n k acts t)) kept.kept.log_rooms
   pub clock : kept.kept.part.clock + deliveries (steps_after_round n k acts t) < 2 ^ 63
 
+-- what is left of a part after it has sent is the same by the worker's rounds and by the definitions' phases
 left_as_phase : (n k room t : ℕ) (acts : List Act) (one : Option Phase) (s : Part) → slice_get (rounds n k acts) t ≡ one
     → left_in room (option_map round_of one) s ≡ without_sent room one s
 left_as_phase n k room t acts None s is = refl
 left_as_phase n k room t acts (Some phase) s is =
     ap (λ (step : Step). less room step s) (round_is_followed n k t acts phase is).step
 
+-- and what it has sent
 sent_as_phase : (n k room t : ℕ) (acts : List Act) (one : Option Phase) (s : Part) → slice_get (rounds n k acts) t ≡ one
     → sent_by n k room (option_map round_of one) s ≡ sent_at n k room one s
 sent_as_phase n k room t acts None s is = refl

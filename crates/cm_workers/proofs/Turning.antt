@@ -1,4 +1,4 @@
--- Turns of blocks.
+-- One turn of one block: what it needs, and what the block is afterwards.
 use Rattle.std.proofs.Common.{◌≡◌, ℕ, ◌+◌, ◌<◌, ◌^◌, Bool, List, Option, None, Some, length, get_or, refl, ap, sym}
 use Rattle.std.proofs.Common.{subst, ◌∙◌, arith}
 use Rattle.cm_model.specs.declared.act.Act.{Act}

@@ -38,7 +38,8 @@ pub enum ForkFault {
 }
 
 /// The runner of many threads: it cuts a copy of a machine into blocks, which workers run, each in a thread of its own,
-/// and puts them together again when all acts are done. So it does with every list that is not empty.
+/// and puts them together again when all acts are done. So it does with every list that is not empty: each list starts
+/// and ends threads of its own.
 #[derive(Drop)]
 pub struct Forked<'a, R> {
     rt: &'a R,
