@@ -1,3 +1,5 @@
 pub mod Standing
 pub mod Ranking
 pub mod Routed
+pub mod Free
+pub mod Engine

@@ -3,6 +3,7 @@
 #![tactic(auto)]
 
 mod choosing;
+mod free_places;
 mod ranking;
 mod routed;
 mod router_engine;

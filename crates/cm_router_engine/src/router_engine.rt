@@ -1,7 +1,7 @@
 //! The messages of a run of chips.
 
 ghost use Rattle.std.specs.Prelude.{◌≡◌, ◌↔◌, ℕ, ◌+◌, ◌*◌, ◌%◌, ◌^◌, ◌<◌, ◌≤◌, ◌++◌, ◌⊎◌, [], ◌∷◌, IfOk, IsTrue};
-ghost use Rattle.std.specs.Prelude.{length, map, min, None, true, false};
+ghost use Rattle.std.specs.Prelude.{IsFalse, length, map, min, None, true, false};
 ghost use Rattle.std.specs.Prelude.{slice_set, slice_index_or, bit_xor, vec_len, vec_capacity};
 ghost use Rattle.std.specs.List.{All, list_any};
 ghost use Rattle.std.specs.Option.{option_to_list};
@@ -19,6 +19,7 @@ ghost use Rattle.cm_router.specs.Idle.{IsPassedOver};
 ghost use Rattle.cm_router.specs.Logs.{log_room};
 ghost use Rattle.cm_router.specs.Routes.{routing_of};
 
+use crate::free_places::{find_free, words_for};
 use crate::ranking::{rearrange, renumber, risen_to, sort_numbers};
 use crate::routed::{cross, leave};
 use crate::row::{collect, compact, deliver_at, read_out, stand, store_injected};
@@ -42,13 +43,15 @@ const MOST_PLACES: usize = 65535;
 const PATIENCE: u8 = 12;
 
 /// The messages of a run of chips, for as long as these live (ours). A message stays where it is kept; what
-/// crosses is a ticket, the relative address and the place of the message. Where its chip's messages are to
-/// be read as one slice, and where places run out, all are gathered into a second row, which takes the
-/// place of the first.
+/// crosses is a ticket, the relative address and the place of the message. Where places run out, those of messages that
+/// were delivered are given again. Where its chip's messages are to be read as one slice, and where no place is left,
+/// all are gathered into a second row, which takes the place of the first.
 #[derive(Debug, Drop)]
 pub struct RouterEngine {
     /// The messages as they were when they got their tickets; some may have been delivered.
     row: Vec<Message>,
+    /// Numbers of places of the row that no ticket tells: these are given first, from the last on.
+    free: Vec<u16>,
     /// Room for as many, for the next time that all are gathered.
     spare: Vec<Message>,
     /// Most messages that the row may have.
@@ -68,22 +71,25 @@ pub struct RouterEngine {
     keys: Vec<u128>,
     /// Room for where each message goes when they are put in order.
     moved: Vec<u16>,
+    /// Room for a mark for each place, which tells whether it has a ticket.
+    marks: Vec<u64>,
 }
 
 impl Model for RouterEngine {
-    ghost use Rattle.std.specs.Prelude.{◌-◌, vec_len};
-    ghost use Rattle.cm_router_engine.specs.Standing.{InFlight, all_standing, IsRouterEngine};
+    ghost use Rattle.std.specs.Prelude.{◌+◌, ◌-◌, length, vec_len};
+    ghost use Rattle.cm_router_engine.specs.Standing.{InFlight, all_standing};
+    ghost use Rattle.cm_router_engine.specs.Engine.{IsRouterEngine};
 
     ghost Value = { InFlight };
 
     ghost view = { λ crossing. record {
       buffers = all_standing crossing.row.items crossing.slots;
-      free = crossing.places - vec_len crossing.row;
+      free = length crossing.free.items + (crossing.places - vec_len crossing.row);
       gathered = crossing.gathered;
     } };
 
-    ghost invariant = { λ crossing. IsRouterEngine crossing.row crossing.spare crossing.places crossing.slots
-        crossing.leavers crossing.gathered crossing.risen };
+    ghost invariant = { λ crossing. IsRouterEngine crossing.row crossing.free crossing.spare crossing.places
+        crossing.slots crossing.leavers crossing.gathered crossing.risen };
 }
 
 impl RouterEngine {
@@ -97,13 +103,16 @@ impl RouterEngine {
     {
         let places = MOST_PLACES.min(32 * chips + MOST_INJECTED);
         let row = Vec::with_capacity(alloc, places)?;
+        let free = Vec::with_capacity(alloc, places)?;
         let spare = Vec::with_capacity(alloc, places)?;
         let slots = TicketQueues::new(alloc, chips)?;
         let leavers = no_leavers(alloc, chips)?;
         let keys = Vec::with_capacity(alloc, places)?;
         let moved = Vec::with_capacity(alloc, places)?;
+        let marks = Vec::with_capacity(alloc, words_for(places))?;
         Ok(RouterEngine {
             row,
+            free,
             spare,
             places,
             slots,
@@ -113,6 +122,7 @@ impl RouterEngine {
             waited: 0,
             keys,
             moved,
+            marks,
         })
     }
 
@@ -122,13 +132,17 @@ impl RouterEngine {
     {
         let mut row = Vec::with_capacity(alloc, self.places)?;
         row.extend_from_slice(&self.row)?;
+        let mut free = Vec::with_capacity(alloc, self.places)?;
+        free.extend_from_slice(&self.free)?;
         let spare = Vec::with_capacity(alloc, self.places)?;
         let slots = self.slots.copy(alloc)?;
         let leavers = no_leavers(alloc, self.slots.chips())?;
         let keys = Vec::with_capacity(alloc, self.places)?;
         let moved = Vec::with_capacity(alloc, self.places)?;
+        let marks = Vec::with_capacity(alloc, words_for(self.places))?;
         Ok(RouterEngine {
             row,
+            free,
             spare,
             places: self.places,
             slots,
@@ -138,6 +152,7 @@ impl RouterEngine {
             waited: 0,
             keys,
             moved,
+            marks,
         })
     }
 
@@ -200,6 +215,7 @@ impl RouterEngine {
     {
         compact(&self.row, &mut self.spare, &mut self.slots);
         mem::swap(&mut self.row, &mut self.spare);
+        self.free.clear();
         self.gathered = true;
         self.risen = 0;
         self.waited = 0;
@@ -210,9 +226,38 @@ impl RouterEngine {
         ensures value { self.new.buffers ≡ self.old.buffers }
         ensures free { 4 ≤ self.new.free }
     {
-        if self.places - self.row.len() < MOST_INJECTED {
+        if self.has_few_places() {
+            self.make_more_places();
+        }
+    }
+
+    /// The same where there are few.
+    fn make_more_places(&mut self)
+        ensures value { self.new.buffers ≡ self.old.buffers }
+        ensures free { 4 ≤ self.new.free }
+    {
+        self.find_free();
+        if self.has_few_places() {
             self.gather_anew();
         }
+    }
+
+    /// Whether there are fewer places than a chip may need at once.
+    fn has_few_places(&self) -> bool
+        ensures few { IsFalse result → 4 ≤ self.now.free }
+    {
+        self.free.len() + (self.places - self.row.len()) < MOST_INJECTED
+    }
+
+    /// Finds out which places of the row no ticket tells. But where messages have crossed by age since all were
+    /// gathered, new ones stand behind all others for as long as there are places, so that the row stays in that order.
+    fn find_free(&mut self)
+        ensures value { self.new.buffers ≡ self.old.buffers }
+    {
+        if self.risen > 0 || self.waited > 0 {
+            return;
+        }
+        find_free(&self.slots, self.row.len(), &mut self.marks, &mut self.free);
     }
 
     /// Takes out all messages.
@@ -221,6 +266,7 @@ impl RouterEngine {
         ensures gathered { IsTrue self.new.gathered }
     {
         self.row.clear();
+        self.free.clear();
         self.slots.clear();
         self.gathered = true;
         self.risen = 0;
@@ -246,7 +292,13 @@ impl RouterEngine {
         ensures value { self.new.buffers
             ≡ slice_set self.old.buffers chip (nth_or_nil self.old.buffers chip ++ message.now ∷ []) }
     {
-        stand(&mut self.row, &mut self.slots, chip, message);
+        stand(
+            &mut self.row,
+            &mut self.free,
+            &mut self.slots,
+            chip,
+            message,
+        );
         self.gathered = false;
     }
 
@@ -278,6 +330,7 @@ impl RouterEngine {
         self.gathered = false;
         store_injected(
             &mut self.row,
+            &mut self.free,
             &mut self.slots,
             at,
             senders,
@@ -416,10 +469,12 @@ impl RouterEngine {
         }
     }
 
-    /// Looks how many of the first messages of the row stand in the order of age.
+    /// Looks how many of the first messages of the row stand in the order of age. So that they stay in it, no place
+    /// among them is given again.
     fn look_at_order(&mut self)
-        ensures value { self.new ≡ self.old }
+        ensures value { self.new.buffers ≡ self.old.buffers }
     {
+        self.free.clear();
         self.risen = risen_to(&self.row, self.risen);
     }
 
@@ -431,6 +486,7 @@ impl RouterEngine {
         if rearrange(&self.row, &self.keys, &mut self.spare, &mut self.moved) {
             renumber(&mut self.slots, &self.moved);
             mem::swap(&mut self.row, &mut self.spare);
+            self.free.clear();
             self.gathered = false;
             self.risen = 0;
         }
