@@ -30,7 +30,7 @@ has_to_go_is d x = ap (λ (n : ℕ). n % 2 == 1)
 abbrev pub flip : ℕ → ℕ → ℕ
 flip d x = bit_xor x (2 ^ (16 + d))
 
-power : (d : ℕ) → 2 ^ (16 + d) ≡ 2 ^ d * 2 ^ 16
+pub power : (d : ℕ) → 2 ^ (16 + d) ≡ 2 ^ d * 2 ^ 16
 power d = ap (λ (n : ℕ). 2 ^ n) (omega arith) ∙ pow-add 2 d 16
 
 rel-flip : (d x : ℕ) → bit_xor (x / 2 ^ 16) (2 ^ d) ≡ flip d x / 2 ^ 16

@@ -1,16 +1,17 @@
 -- What stands in slots is one list, and who leaves them is who leaves that list.
 use Rattle.std.proofs.Common.{◌≡◌, ◌≢◌, ℕ, zero, suc, ◌+◌, ◌-◌, ◌<◌, ◌≤◌, ◌==◌, ◌↔◌, Bool, true, false, map, min}
 use Rattle.std.proofs.Common.{List, [], ◌++◌, length, get_or, replicate, Some, None, refl, sym, ◌∙◌, ap}
-use Rattle.std.proofs.Common.{⊎_elim, arith}
+use Rattle.std.proofs.Common.{⊎_elim, arith, Option, slice_index}
 use Rattle.std.specs.List.{position_or_len}
 use Rattle.std.proofs.lemmas.Bool.{cases_eq, cases_lt, lt-ltb, le-ltb, eq-eqb, ne_eqb}
 use Rattle.std.proofs.lemmas.List.{get_or_past, get_or-replicate, length-replicate, nil_from_length}
+use Rattle.std.proofs.lemmas.List.{length-append, length-take, length-drop}
 use Rattle.std.proofs.lemmas.List.Sums.{fails_before_first, passes_at_first}
 use Rattle.std.proofs.lemmas.List.Edits.{length-remove, get_or-remove_below, get_or-remove_above}
 use Rattle.std.proofs.lemmas.Option.{slice_get-get_or}
 use Rattle.cm_model.proofs.Bits.{bit-zero}
 use Rattle.cm_model.proofs.Each.{is_each}
-use Rattle.cm_model.specs.Buffers.{element_at}
+use Rattle.cm_model.specs.Buffers.{element_at, without}
 use Rattle.cm_slots.specs.declared.order.Order.{Order}
 use Rattle.cm_slots.specs.declared.order.Order.TheVariants.{Arrival, Number}
 use Rattle.cm_slots.specs.Queues.{place_of_leaver}
@@ -19,7 +20,7 @@ use Rattle.cm_slots.specs.Choice.{place_by, IsFound}
 use Rattle.cm_slots.specs.Slots.{crosses, is_taken, slot_across, comers, first_of, slot_behind, leaver_in, AreSlots}
 use Rattle.cm_slots.specs.Slots.{IsCarried}
 use Rattle.cm_slots.specs.declared.tile.Tile.{Tile}
-use Rattle.cm_slots.specs.Tiles.{slots_of, numbers_standing_at, IsTile, HasTicketLeft}
+use Rattle.cm_slots.specs.Tiles.{slots_of, numbers_standing_at, stayers_by, IsTile, HasTicketLeft}
 use Rattle.cm_slots.proofs.Carrying.{first_of-is}
 use Rattle.cm_slots.proofs.Choosing.{Goes, NobodyGoes, chosen_is, place_by-nobody}
 use Rattle.cm_slots.proofs.Numbers.{going_is, going_taken, same_place}
@@ -104,6 +105,10 @@ module _ (order : Order) (d room at : ℕ) (slots : ℕ → ℕ) (xs : List ℕ)
         stay = rw who (grind (arith, get_or_past));
       }
 
+length-without : (xs : List ℕ) (who : Option ℕ) → length (without xs who) ≤ length xs
+length-without xs None = omega arith
+length-without xs (Some i) = grind (arith, length-append, length-take, length-drop)
+
 -- slots of which so many are looked at: all for which there is room, or more than are taken
 module _ (d room reach : ℕ) (slots : ℕ → ℕ) (xs : List ℕ) (are : AreSlots slots xs) (some : 0 < reach)
     (less : reach ≤ room) (most : room ≤ 15) (fits : length xs ≤ reach) (full : length xs ≡ reach → reach ≡ room) where
@@ -138,6 +143,14 @@ module _ (d room reach : ℕ) (slots : ℕ → ℕ) (xs : List ℕ) (are : AreSl
       (cases_eq (length xs) room))
       (cases_lt q (length xs))
 
+  -- fewer stay than are looked at
+  pub few_stay : (order : Order) → length (stayers_by order room d xs) < room
+      → length (stayers_by order room d xs) ≤ reach - 1
+  few_stay order few =
+      let fewer = length-without xs (place_by order room d (map ticket_of xs)) in
+      ⊎_elim (λ (e : length xs ≡ reach). omega (arith, few, full e)) (λ (e : length xs ≢ reach). omega (arith, fewer, fits, e))
+      (cases_eq (length xs) reach)
+
   -- by number
   pub has_gone_by_number : (place here leaver : ℕ) (left : ℕ → ℕ) → IsFound d (reach - 1) slots place
       → IsCarried (min place (reach - 1)) slots here left → leaver ≡ slot_across d here
@@ -154,9 +167,15 @@ module _ (d room reach : ℕ) (slots : ℕ → ℕ) (xs : List ℕ) (are : AreSl
 
 -- nobody leaves where nobody stands
 pub nobody_goes : (order : Order) (d room : ℕ) (tile : Tile) (i : ℕ) → AreSlots (slots_of tile i) [] → 0 < room
-    → HasTicketLeft order room d (numbers_standing_at tile i) 0 (slot_behind tile.rest i)
+    → HasTicketLeft order room d (numbers_standing_at tile i) (slot_across d (slice_index tile.first i))
+    (slot_behind tile.rest i)
 nobody_goes order d room tile i are some =
     rw (standing_is tile i [] are)
-    (all_stay order d room 0 (slots_of tile i) [] are (omega arith) 0 0 (slot_behind tile.rest i)
-    (record { here = sym (are.each 0); earlier = λ j h. absurd (omega (arith, h)); later = λ j h. refl }) refl
+    (all_stay order d room 0 (slots_of tile i) [] are (omega arith) (slice_index tile.first i)
+    (slot_across d (slice_index tile.first i)) (slot_behind tile.rest i)
+    (record { here = refl; earlier = λ j h. absurd (omega (arith, h)); later = λ j h. refl }) refl
     (omega arith) some (place_by-nobody order d room some))
+
+pub nobody_stays : (order : Order) (d room : ℕ) (tile : Tile) (i : ℕ) → AreSlots (slots_of tile i) []
+    → length (stayers_by order room d (numbers_standing_at tile i)) ≤ 0
+nobody_stays order d room tile i are = rw (standing_is tile i [] are) (length-without [] (place_by order room d []))

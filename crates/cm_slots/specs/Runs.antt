@@ -6,10 +6,12 @@ use Rattle.std.specs.Global.{Vec}
 use Rattle.cm_model.specs.Each.{tabulate}
 use Rattle.cm_slots.specs.declared.ticket.Ticket.{Ticket}
 use Rattle.cm_slots.specs.declared.order.Order.{Order}
+use Rattle.cm_slots.specs.declared.order.Order.TheVariants.{Arrival}
 use Rattle.cm_slots.specs.declared.tile.Tile.{Tile}
 use Rattle.cm_slots.specs.Tickets.{ticket_of, ticket_in}
 use Rattle.cm_slots.specs.Slots.{is_taken, leaver_at}
-use Rattle.cm_slots.specs.Tiles.{slots_of, numbers_standing_at, IsShaped, IsTile, HasLeft, HasTakenIn}
+use Rattle.cm_slots.specs.Choice.{staying_by, going_by, exchanged_by}
+use Rattle.cm_slots.specs.Tiles.{slots_of, numbers_standing_at, IsShaped, IsTile}
 
 -- what is read where there is no tile
 abbrev pub no_tile : Tile
@@ -31,10 +33,6 @@ tile_across d t = bit_xor t (2 ^ d / 64)
 abbrev pub place_across : ℕ → ℕ → ℕ
 place_across d i = bit_xor i (2 ^ d % 64)
 
--- what arrives across dimension d at place i of tile t, where these leave each tile
-abbrev pub arriving : ℕ → List (Option (List ℕ)) → ℕ → ℕ → ℕ
-arriving d leaving t i = leaver_at (leavers_at leaving (tile_across d t)) (place_across d i)
-
 -- the number of who leaves a chip; 0 where nobody does
 abbrev pub number_leaving : List (Option (List ℕ)) → ℕ → ℕ
 number_leaving leaving c = leaver_at (leavers_at leaving (c / 64)) (c % 64)
@@ -43,16 +41,26 @@ number_leaving leaving c = leaver_at (leavers_at leaving (c / 64)) (c % 64)
 abbrev pub ticket_leaving_chip : List (Option (List ℕ)) → ℕ → Option Ticket
 ticket_leaving_chip leaving c = ticket_in (number_leaving leaving c)
 
--- who leaves has been taken out of all tiles
-pub record HaveLeft (order : Order) (room d : ℕ) (old new : List Tile) (leaving : List (Option (List ℕ))) : Type 0 where
-  pub long : length new ≡ length old
-  pub rows : length leaving ≡ length old
-  pub each : (t : ℕ) → t < length old → HasLeft order room d (tile_at old t) (tile_at new t) (leavers_at leaving t)
+-- the tickets of the chip at a place of a tile, from the front
+abbrev pub tickets_standing_at : Tile → ℕ → List Ticket
+tickets_standing_at tile i = map ticket_of (numbers_standing_at tile i)
 
--- who comes, by tile and place, has been taken in at all tiles
-pub record HaveTakenIn (room : ℕ) (coming : ℕ → ℕ → ℕ) (old new : List Tile) : Type 0 where
-  pub long : length new ≡ length old
-  pub each : (t : ℕ) → t < length old → HasTakenIn room (coming t) (tile_at old t) (tile_at new t)
+-- the tickets of each chip of a tile, with room for so many, have crossed dimension d, across which is this other tile
+pub record HasCrossed (order : Order) (room d : ℕ) (here there new : Tile) : Type 0 where
+  pub whole : IsTile new
+  pub within : (i : ℕ) → i < 64 → length (numbers_standing_at new i) ≤ room
+  pub each : (i : ℕ) → i < 64 → tickets_standing_at new i
+      ≡ exchanged_by order room d (tickets_standing_at here i) (tickets_standing_at there (place_across d i))
+
+-- who leaves each chip of a tile in dimension d is among these leavers, as a ticket arrives across, and who stays has
+-- closed up
+pub record HasDeparted (room d : ℕ) (old new : Tile) (leavers : Option (List ℕ)) : Type 0 where
+  pub whole : IsTile new
+  pub long : IfSome leavers (λ row. length row ≡ 64)
+  pub going : (i : ℕ) → i < 64 → ticket_in (leaver_at leavers i) ≡ going_by Arrival room d (tickets_standing_at old i)
+  pub taken : (i : ℕ) → i < 64 → leaver_at leavers i ≢ 0 → is_taken (leaver_at leavers i) ≡ true
+  pub stay : (i : ℕ) → i < 64 → tickets_standing_at new i ≡ staying_by Arrival room d (tickets_standing_at old i)
+  pub space : (i : ℕ) → i < 64 → length (numbers_standing_at new i) < room
 
 -- the numbers that stand at a chip, from the front
 abbrev pub numbers_at : List Tile → ℕ → List ℕ

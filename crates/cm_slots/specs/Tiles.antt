@@ -1,10 +1,10 @@
 -- Tiles: 64 chips that stand side by side, and what a dimension's two passes make of one. Ours.
-use Rattle.std.specs.Prelude.{ℕ, ◌<◌, ◌≡◌, ◌≢◌, ◌++◌, true, false, List, [], length, map, Option, None, IfSome}
+use Rattle.std.specs.Prelude.{ℕ, ◌<◌, ◌≤◌, ◌≡◌, ◌≢◌, ◌++◌, true, false, List, [], length, map, slice_index}
 use Rattle.cm_slots.specs.declared.tile.Tile.{Tile}
 use Rattle.cm_model.specs.Buffers.{without}
 use Rattle.cm_slots.specs.declared.order.Order.{Order}
 use Rattle.cm_slots.specs.Tickets.{ticket_of, ticket_in}
-use Rattle.cm_slots.specs.Slots.{is_taken, comers, leaver_at, slot_in, slot_behind, standing_in}
+use Rattle.cm_slots.specs.Slots.{is_taken, comers, slot_across, slot_in, slot_behind, standing_in}
 use Rattle.cm_slots.specs.Choice.{place_by, going_by}
 use Rattle.cm_slots.specs.Slots.{AreSlotRows, AreSlots}
 
@@ -41,19 +41,19 @@ pub record IsTile (tile : Tile) : Type 0 where
   pub queues : (i : ℕ) → i < 64 → AreSlots (slots_of tile i) (numbers_standing_at tile i)
   pub quiet : tile.awake ≡ false → IsQuiet tile
 
--- of each chip with room for so many who leaves in dimension d is among the leavers, and the slots behind
--- the first hold who stays; where there are no leavers, nobody stood there
-pub record HasLeft (order : Order) (room d : ℕ) (old new : Tile) (leavers : Option (List ℕ)) : Type 0 where
+-- of each chip with room for so many the first slot holds who leaves in dimension d, and the slots behind it who stays,
+-- of whom there are this many at most
+pub record HasLeft (order : Order) (room d most : ℕ) (old new : Tile) : Type 0 where
   pub shape : IsShaped new
-  pub long : IfSome leavers (λ row. length row ≡ 64)
-  pub gone : (i : ℕ) → i < 64
-      → HasTicketLeft order room d (numbers_standing_at old i) (leaver_at leavers i) (slot_behind new.rest i)
-  pub quiet : leavers ≡ None → IsQuiet new
+  pub gone : (i : ℕ) → i < 64 → HasTicketLeft order room d (numbers_standing_at old i)
+      (slot_across d (slice_index new.first i)) (slot_behind new.rest i)
+  pub few : (i : ℕ) → i < 64 → length (stayers_by order room d (numbers_standing_at old i)) ≤ most
 
--- at each chip the slots hold who stood in those behind the first, and behind them who comes, by its place
-pub record HasTakenIn (room : ℕ) (coming : ℕ → ℕ) (old new : Tile) : Type 0 where
+-- at each chip the slots hold who stood in those behind the first, where these were this many at most, and behind them
+-- who comes, by its place
+pub record HasTakenIn (most : ℕ) (coming : ℕ → ℕ) (old new : Tile) : Type 0 where
   pub shape : IsShaped new
-  pub came : (i : ℕ) (numbers : List ℕ) → i < 64 → length numbers < room
+  pub came : (i : ℕ) (numbers : List ℕ) → i < 64 → length numbers ≤ most
       → AreSlots (slot_behind old.rest i) numbers → AreSlots (slots_of new i) (numbers ++ comers (coming i))
   pub quiet : new.awake ≡ false → IsQuiet new
 

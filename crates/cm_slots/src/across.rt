@@ -54,18 +54,16 @@ fn flip(going: &mut Row, row: &Row, dim: u8)
     }
 }
 
-/// Puts down what arrives at a tile, of what leaves the one across.
-pub(crate) fn put_arrivals(lanes: &mut Row, leavers: &Option<Row>, dim: u8)
+/// Puts down who leaves the tile across, as they arrive.
+pub(crate) fn put_across(lanes: &mut Row, row: &Row, dim: u8)
     requires dimension { dim < 12 }
-    requires long { IfSome leavers.now (λ row. length row ≡ 64) }
+    requires long { length row.now ≡ 64 }
     requires wide { length lanes.old ≡ 64 }
-    ensures value { (i : ℕ) → i < 64 → slice_index lanes.new i ≡ leaver_at leavers.now (place_across dim i) }
+    ensures value { (i : ℕ) → i < 64
+        → slice_index lanes.new i ≡ slot_across dim (slice_index row.now (place_across dim i)) }
     ensures wide { length lanes.new ≡ 64 }
 {
-    match leavers {
-        Some(row) => put_across(lanes, row, dim),
-        None => *lanes = [0; WIDTH],
-    }
+    put_over(lanes, row, 1 << dim);
 }
 
 /// Puts down who leaves as they arrive across the dimensions d of which bit d is set.
@@ -130,47 +128,5 @@ fn over(slot: u32, dims: u16) -> u32
         0
     } else {
         slot ^ u32::from(dims) * 65536
-    }
-}
-
-/// Puts down a row of which each lane stands at the place across.
-fn put_across(lanes: &mut Row, row: &Row, dim: u8)
-    requires dimension { dim < 12 }
-    requires long { length row.now ≡ 64 }
-    requires wide { length lanes.old ≡ 64 }
-    ensures value { (i : ℕ) → i < 64 → slice_index lanes.new i ≡ slice_index row.now (place_across dim i) }
-    ensures wide { length lanes.new ≡ 64 }
-{
-    match dim {
-        0 => put_swapped::<1>(lanes, row),
-        1 => put_swapped::<2>(lanes, row),
-        2 => put_swapped::<4>(lanes, row),
-        3 => put_swapped::<8>(lanes, row),
-        4 => put_swapped::<16>(lanes, row),
-        5 => put_swapped::<32>(lanes, row),
-        _ => *lanes = *row,
-    }
-}
-
-/// Puts down a row of which the lanes whose numbers differ in this bit have changed places: four that stand side by
-/// side come from four that do.
-#[inline(never)]
-fn put_swapped<const BIT: usize>(lanes: &mut Row, row: &Row)
-    requires bit { BIT < 64 }
-    requires long { length row.now ≡ 64 }
-    requires wide { length lanes.old ≡ 64 }
-    ensures value { (i : ℕ) → i < 64 → slice_index lanes.new i ≡ slice_index row.now (bit_xor i BIT) }
-    ensures wide { length lanes.new ≡ 64 }
-{
-    for k in 0..WIDTH / 4 {
-        let from = (k ^ BIT / 4) * 4;
-        let first = row[from + BIT % 4];
-        let second = row[from + (BIT % 4 ^ 1)];
-        let third = row[from + (BIT % 4 ^ 2)];
-        let fourth = row[from + (BIT % 4 ^ 3)];
-        lanes[k * 4] = first;
-        lanes[k * 4 + 1] = second;
-        lanes[k * 4 + 2] = third;
-        lanes[k * 4 + 3] = fourth;
     }
 }

@@ -1,16 +1,13 @@
-//! The first pass by itself: who leaves a run of chips goes elsewhere, and the others close up.
+//! Half of a dimension by itself: who leaves a run of chips goes elsewhere, and the others close up.
 
-ghost use Rattle.std.specs.Prelude.{◌≡◌, ℕ, ◌-◌, ◌*◌, ◌/◌, ◌<◌, ◌≤◌, length, None};
+ghost use Rattle.std.specs.Prelude.{◌≡◌, ℕ, ◌-◌, ◌*◌, ◌/◌, ◌<◌, ◌≤◌, length};
 ghost use Rattle.std.specs.List.{All};
 ghost use Rattle.cm_model.specs.Each.{tabulate};
 ghost use Rattle.cm_slots.specs.Queues.{stayers_of};
 ghost use Rattle.cm_slots.specs.Tickets.{has_to_go, ticket_going};
-ghost use Rattle.cm_slots.specs.Tiles.{IsShaped, IsQuiet, IsTile};
-ghost use Rattle.cm_slots.specs.Runs.{HaveTakenIn, tile_at, leavers_at, tickets_of, ticket_leaving_chip, AreWithin};
-ghost use Rattle.cm_slots.specs.Runs.{AreLeavers};
+ghost use Rattle.cm_slots.specs.Tiles.{IsTile};
+ghost use Rattle.cm_slots.specs.Runs.{tickets_of, ticket_leaving_chip, AreWithin, AreLeavers};
 
-use crate::order::Order;
-use crate::passes::leave;
 use crate::rows::{Row, WIDTH};
 use crate::shape::Shape;
 use crate::ticket::{Ticket, ticket_in};
@@ -30,22 +27,8 @@ pub(crate) fn take_out(tiles: &mut [Tile], leaving: &mut [Option<Row>], sizes: S
     ensures whole { All IsTile tiles.new }
     ensures space { AreWithin (sizes.room - 1) tiles.new }
 {
-    leave(tiles, leaving, sizes, dim, Order::Arrival);
-    close_up(tiles, leaving, sizes);
-}
-
-/// Lets those who stay at each tile close up to its first slot.
-fn close_up(tiles: &mut [Tile], leaving: &[Option<Row>], sizes: Shape)
-    requires rows { length leaving.now ≡ length tiles.old }
-    requires shape { All IsShaped tiles.old }
-    requires quiet { (t : ℕ) → t < length tiles.old → leavers_at leaving.now t ≡ None
-        → IsQuiet (tile_at tiles.old t) }
-    ensures value { HaveTakenIn sizes.room (λ t i. 0) tiles.old tiles.new }
-{
     for t in 0..tiles.len() {
-        if leaving[t].is_some() {
-            tiles[t].close_up(sizes);
-        }
+        tiles[t].depart(&mut leaving[t], sizes, dim);
     }
 }
 

@@ -1,30 +1,20 @@
-//! A dimension in two passes over all tiles: all leave, and then all come.
+//! A dimension over all tiles, of which each crosses it with the tile across before the next ones do: who stands at two
+//! tiles is kept near the processor meanwhile.
 
-ghost use Rattle.std.specs.Prelude.{◌≡◌, ◌≢◌, ℕ, ◌/◌, ◌^◌, ◌<◌, ◌≤◌, true, length, bit_xor, None};
-ghost use Rattle.std.specs.Prelude.{IfSome, IsTrue};
+ghost use Rattle.std.specs.Prelude.{◌≡◌, ◌≢◌, ℕ, ◌/◌, ◌^◌, ◌<◌, ◌≤◌, length, bit_xor};
 ghost use Rattle.std.specs.List.{All};
-ghost use Rattle.cm_slots.specs.Slots.{is_taken};
 ghost use Rattle.cm_slots.specs.Choice.{exchanged_by};
-ghost use Rattle.cm_slots.specs.Tiles.{IsShaped, IsQuiet, IsTile};
-ghost use Rattle.cm_slots.specs.Runs.{HaveLeft, HaveTakenIn, tile_at, leavers_at, tile_across, arriving, tickets_of};
-ghost use Rattle.cm_slots.specs.Runs.{AreWithin};
+ghost use Rattle.cm_slots.specs.Tiles.{numbers_standing_at, IsTile};
+ghost use Rattle.cm_slots.specs.Runs.{tile_at, tile_across, tickets_of, AreWithin, HasCrossed};
 
 use crate::across::tile_across;
 use crate::order::Order;
-use crate::rows::Row;
 use crate::shape::Shape;
 use crate::tile::Tile;
 
-/// The tickets of all chips cross a dimension, for which who leaves each tile is put down here.
-pub(crate) fn cross(
-    tiles: &mut [Tile],
-    leaving: &mut [Option<Row>],
-    sizes: Shape,
-    dim: u8,
-    order: Order,
-)
+/// The tickets of all chips cross a dimension.
+pub(crate) fn cross(tiles: &mut [Tile], sizes: Shape, dim: u8, order: Order)
     requires dimension { dim < 12 }
-    requires rows { length leaving.old ≡ length tiles.old }
     requires across { (t : ℕ) → t < length tiles.old → tile_across dim t < length tiles.old }
     requires whole { All IsTile tiles.old }
     requires within { AreWithin sizes.room tiles.old }
@@ -33,56 +23,33 @@ pub(crate) fn cross(
     ensures whole { All IsTile tiles.new }
     ensures within { AreWithin sizes.room tiles.new }
 {
-    leave(tiles, leaving, sizes, dim, order);
-    take_in(tiles, leaving, sizes, dim);
-}
-
-/// Takes out of each tile who leaves in a dimension.
-pub(crate) fn leave(
-    tiles: &mut [Tile],
-    leaving: &mut [Option<Row>],
-    sizes: Shape,
-    dim: u8,
-    order: Order,
-)
-    requires dimension { dim < 12 }
-    requires rows { length leaving.old ≡ length tiles.old }
-    requires whole { All IsTile tiles.old }
-    requires within { AreWithin sizes.room tiles.old }
-    ensures value { HaveLeft order sizes.room dim tiles.old tiles.new leaving.new }
-{
-    for t in 0..tiles.len() {
-        tiles[t].leave(&mut leaving[t], sizes, dim, order);
-    }
-}
-
-/// Takes in at each tile who comes across a dimension. Where nobody stood and nobody comes there is
-/// nothing to do.
-fn take_in(tiles: &mut [Tile], leaving: &[Option<Row>], sizes: Shape, dim: u8)
-    requires dimension { dim < 12 }
-    requires rows { length leaving.now ≡ length tiles.old }
-    requires across { (t : ℕ) → t < length tiles.old → tile_across dim t < length tiles.old }
-    requires shape { All IsShaped tiles.old }
-    requires long { All (λ leavers. IfSome leavers (λ row. length row ≡ 64)) leaving.now }
-    requires quiet { (t : ℕ) → t < length tiles.old → leavers_at leaving.now t ≡ None
-        → IsQuiet (tile_at tiles.old t) }
-    requires taken { (t i : ℕ) → t < length tiles.old → i < 64 → arriving dim leaving.now t i ≢ 0
-        → is_taken (arriving dim leaving.now t i) ≡ true }
-    ensures value { HaveTakenIn sizes.room (arriving dim leaving.now) tiles.old tiles.new }
-{
     for t in 0..tiles.len() {
         let across = tile_across(t, dim);
-        if !are_idle(leaving, t, across) {
-            tiles[t].take_in(&leaving[across], sizes, dim);
+        if t == across {
+            tiles[t].cross_alone(sizes, dim, order);
+        } else if t < across {
+            cross_pair(tiles, t, across, sizes, dim, order);
         }
     }
 }
 
-/// Whether nobody stood at either of two tiles.
-fn are_idle(leaving: &[Option<Row>], here: usize, there: usize) -> bool
-    requires here { here < length leaving.now }
-    requires there { there < length leaving.now }
-    ensures none { IsTrue result → (leavers_at leaving.now here ≡ None) × (leavers_at leaving.now there ≡ None) }
+/// The tickets of two tiles cross a dimension, across which the chips of each are those of the other.
+fn cross_pair(tiles: &mut [Tile], low: usize, high: usize, sizes: Shape, dim: u8, order: Order)
+    requires dimension { dim < 12 }
+    requires order { low < high }
+    requires inside { high < length tiles.old }
+    requires low { IsTile (tile_at tiles.old low) }
+    requires low_within { (i : ℕ) → i < 64
+        → length (numbers_standing_at (tile_at tiles.old low) i) ≤ sizes.room }
+    requires high { IsTile (tile_at tiles.old high) }
+    requires high_within { (i : ℕ) → i < 64
+        → length (numbers_standing_at (tile_at tiles.old high) i) ≤ sizes.room }
+    ensures low { HasCrossed order sizes.room dim
+        (tile_at tiles.old low) (tile_at tiles.old high) (tile_at tiles.new low) }
+    ensures high { HasCrossed order sizes.room dim
+        (tile_at tiles.old high) (tile_at tiles.old low) (tile_at tiles.new high) }
+    ensures others { (t : ℕ) → t ≢ low → t ≢ high → tile_at tiles.new t ≡ tile_at tiles.old t }
 {
-    leaving[here].is_none() && leaving[there].is_none()
+    let (front, back) = tiles.split_at_mut(high);
+    front[low].cross_with(&mut back[0], sizes, dim, order);
 }

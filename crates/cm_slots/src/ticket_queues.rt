@@ -37,7 +37,7 @@ pub struct TicketQueues {
     /// Chip c stands at place c % 64 of tile c / 64. There are none as long as nobody has stood anywhere. Each ticket
     /// stands where it stood before it crossed what is noted.
     tiles: Vec<Tile>,
-    /// Between the two passes of a dimension, who leaves each tile that is made; else anything.
+    /// While tickets are taken out of all tiles, who leaves each tile that is made; else anything.
     leaving: Vec<Option<Row>>,
     /// Bit d is set where all have crossed dimension d and have not been moved.
     noted: u16,
@@ -286,7 +286,7 @@ impl TicketQueues {
             self.note(span, dim);
         } else {
             settle(&mut self.tiles, &mut self.leaving, &mut self.noted);
-            cross(&mut self.tiles, &mut self.leaving, sizes, dim, order);
+            cross(&mut self.tiles, sizes, dim, order);
         }
     }
 

@@ -1,19 +1,19 @@
 //! Tiles of chips.
 
 ghost use Rattle.std.specs.Prelude.{◌≡◌, ◌↔◌, ◌≢◌, ℕ, ◌<◌, ◌≤◌, ◌++◌, [], ◌∷◌, IsFalse, IsTrue, true, length, remove};
-ghost use Rattle.std.specs.Prelude.{List, slice_index, slice_set, None, false, IfSome};
+ghost use Rattle.std.specs.Prelude.{slice_index, slice_set, None, false, IfSome, unwrap_or};
 ghost use Rattle.std.specs.Prelude.{map};
 ghost use Rattle.std.specs.List.{list_any, slice_get};
 ghost use Rattle.cm_slots.specs.Tickets.{ticket_of};
 ghost use Rattle.cm_slots.specs.declared.order.Order.TheVariants.{Arrival, Number};
-ghost use Rattle.cm_slots.specs.Slots.{is_taken, is_arrival, leaver_at, slot_behind, AreSlots, IsBlank, AreTaken};
+ghost use Rattle.cm_slots.specs.Slots.{is_taken, is_arrival, leaver_at, slot_across, IsBlank, AreTaken};
 ghost use Rattle.cm_slots.specs.Tiles.{slots_of, numbers_standing_at, IsShaped, IsQuiet, IsTile, HasLeft, HasTakenIn};
 ghost use Rattle.cm_slots.specs.Tiles.{IsPut};
 ghost use Rattle.cm_slots.specs.Tiles.{HasChanged};
-ghost use Rattle.cm_slots.specs.Runs.{place_across};
+ghost use Rattle.cm_slots.specs.Runs.{place_across, HasCrossed, HasDeparted};
 ghost use Rattle.cm_slots.specs.Moves.{AreFirst, HasMoved, slot_over};
 
-use crate::across::{has_arrival_over, put_arrivals, put_leavers, put_over};
+use crate::across::{has_arrival_over, put_across, put_leavers, put_over};
 use crate::choice::{leave_from, places};
 use crate::order::Order;
 use crate::rows::{ROOM, Row, WIDTH, has_arrival, is_blank, leave, take_in};
@@ -55,52 +55,107 @@ impl Tile {
         }
     }
 
-    /// Takes out of each chip, where there is room for so many tickets, who leaves in a dimension, and
-    /// puts them down as they arrive across; of a tile at which nobody stands, none. The slots hold nothing
-    /// that counts until who comes has been taken in.
-    pub fn leave(&mut self, leavers: &mut Option<Row>, sizes: Shape, dim: u8, order: Order)
+    /// The tickets of its chips, where there is room for so many at each, cross a dimension: the chips across stand in
+    /// this tile.
+    pub fn cross_alone(&mut self, sizes: Shape, dim: u8, order: Order)
         requires dimension { dim < 12 }
         requires whole { IsTile self.old }
         requires within { (i : ℕ) → i < 64 → length (numbers_standing_at self.old i) ≤ sizes.room }
-        ensures value { HasLeft order sizes.room dim self.old self.new leavers.new }
+        ensures value { HasCrossed order sizes.room dim self.old self.old self.new }
+    {
+        if let Some(rows) = self.leave(sizes, dim, order) {
+            let going = self.first;
+            self.take_in(&going, rows, dim);
+        }
+    }
+
+    /// The same, where the chips across stand in another tile, whose tickets cross too.
+    pub fn cross_with(&mut self, other: &mut Tile, sizes: Shape, dim: u8, order: Order)
+        requires dimension { dim < 12 }
+        requires whole { IsTile self.old }
+        requires within { (i : ℕ) → i < 64 → length (numbers_standing_at self.old i) ≤ sizes.room }
+        requires other_whole { IsTile other.old }
+        requires other_within { (i : ℕ) → i < 64 → length (numbers_standing_at other.old i) ≤ sizes.room }
+        ensures value { HasCrossed order sizes.room dim self.old other.old self.new }
+        ensures other { HasCrossed order sizes.room dim other.old self.old other.new }
+    {
+        let here = self.leave(sizes, dim, order);
+        let there = other.leave(sizes, dim, order);
+        if here.is_none() && there.is_none() {
+            return;
+        }
+        let leaving = self.first;
+        self.take_in(&other.first, here.unwrap_or(0), dim);
+        other.take_in(&leaving, there.unwrap_or(0), dim);
+    }
+
+    /// Takes out of each chip, where there is room for so many tickets, who leaves in a dimension, and puts them down
+    /// as they arrive across; of a tile at which nobody stands, none. Those who stay close up.
+    pub fn depart(&mut self, leavers: &mut Option<Row>, sizes: Shape, dim: u8)
+        requires dimension { dim < 12 }
+        requires whole { IsTile self.old }
+        requires within { (i : ℕ) → i < 64 → length (numbers_standing_at self.old i) ≤ sizes.room }
+        ensures value { HasDeparted sizes.room dim self.old self.new leavers.new }
+    {
+        match self.leave(sizes, dim, Order::Arrival) {
+            Some(rows) => {
+                put_leavers(leavers, &self.first, dim);
+                self.close_up(rows);
+            }
+            None => forget(leavers),
+        }
+    }
+
+    /// Takes out of each chip, where there is room for so many tickets, who leaves in a dimension: the first slots hold
+    /// them, and the slots behind those who stay. The result is how many rows behind the first those who stay may need,
+    /// or nothing, where nobody stood.
+    fn leave(&mut self, sizes: Shape, dim: u8, order: Order) -> Option<usize>
+        requires dimension { dim < 12 }
+        requires whole { IsTile self.old }
+        requires within { (i : ℕ) → i < 64 → length (numbers_standing_at self.old i) ≤ sizes.room }
+        ensures value { HasLeft order sizes.room dim (unwrap_or result 0) self.old self.new }
+        ensures most { unwrap_or result 0 < sizes.room }
+        ensures quiet { result ≡ None → IsQuiet self.new }
     {
         if self.is_quiet() {
             self.awake = false;
-            forget(leavers);
-        } else {
-            match order {
-                Order::Arrival => self.let_leave(leavers, sizes, dim),
-                Order::Number => self.let_leave_by_number(leavers, sizes, dim),
-            }
+            return None;
         }
+        let rows = match order {
+            Order::Arrival => self.let_leave(sizes, dim),
+            Order::Number => self.let_leave_by_number(sizes, dim),
+        };
+        Some(rows)
     }
 
     /// The same where somebody stands, in the order of arrival. It stands apart so that a tile at which nobody does
     /// costs no more than a look.
     #[inline(never)]
-    fn let_leave(&mut self, leavers: &mut Option<Row>, sizes: Shape, dim: u8)
+    fn let_leave(&mut self, sizes: Shape, dim: u8) -> usize
         requires dimension { dim < 12 }
         requires whole { IsTile self.old }
         requires within { (i : ℕ) → i < 64 → length (numbers_standing_at self.old i) ≤ sizes.room }
-        ensures value { HasLeft Arrival sizes.room dim self.old self.new leavers.new }
+        ensures value { HasLeft Arrival sizes.room dim result self.old self.new }
+        ensures most { result < sizes.room }
     {
-        let reach = self.reach(sizes);
-        leave(&mut self.first, &mut self.rest[..], reach - 1, dim);
-        put_leavers(leavers, &self.first, dim);
+        let rows = self.reach(sizes) - 1;
+        leave(&mut self.first, &mut self.rest[..], rows, dim);
+        rows
     }
 
     /// The same by number.
     #[inline(never)]
-    fn let_leave_by_number(&mut self, leavers: &mut Option<Row>, sizes: Shape, dim: u8)
+    fn let_leave_by_number(&mut self, sizes: Shape, dim: u8) -> usize
         requires dimension { dim < 12 }
         requires whole { IsTile self.old }
         requires within { (i : ℕ) → i < 64 → length (numbers_standing_at self.old i) ≤ sizes.room }
-        ensures value { HasLeft Number sizes.room dim self.old self.new leavers.new }
+        ensures value { HasLeft Number sizes.room dim result self.old self.new }
+        ensures most { result < sizes.room }
     {
-        let reach = self.reach(sizes);
-        let places = places(&self.first, &self.rest[..], reach - 1, dim);
-        leave_from(&mut self.first, &mut self.rest[..], reach - 1, &places);
-        put_leavers(leavers, &self.first, dim);
+        let rows = self.reach(sizes) - 1;
+        let places = places(&self.first, &self.rest[..], rows, dim);
+        leave_from(&mut self.first, &mut self.rest[..], rows, &places);
+        rows
     }
 
     /// How much room is enough to find who leaves: where no chip is full, that for one more than stand at any, since
@@ -125,37 +180,41 @@ impl Tile {
         room
     }
 
-    /// Takes in at each chip who comes across a dimension, of those who leave the tile there.
-    pub fn take_in(&mut self, leavers: &Option<Row>, sizes: Shape, dim: u8)
+    /// Takes in at each chip who comes across a dimension, of those who leave the tile there, behind those who stay: no
+    /// more at a chip than there are of these rows.
+    fn take_in(&mut self, leavers: &Row, rows: usize, dim: u8)
         requires dimension { dim < 12 }
+        requires rows { rows ≤ 14 }
         requires shape { IsShaped self.old }
-        requires long { IfSome leavers.now (λ row. length row ≡ 64) }
-        requires taken { (i : ℕ) → i < 64 → leaver_at leavers.now (place_across dim i) ≢ 0
-            → is_taken (leaver_at leavers.now (place_across dim i)) ≡ true }
-        ensures value { HasTakenIn sizes.room (λ i. leaver_at leavers.now (place_across dim i)) self.old self.new }
+        requires long { length leavers.now ≡ 64 }
+        requires taken { (i : ℕ) → i < 64 → slot_across dim (slice_index leavers.now i) ≢ 0
+            → is_taken (slot_across dim (slice_index leavers.now i)) ≡ true }
+        ensures value { HasTakenIn rows
+            (λ i. slot_across dim (slice_index leavers.now (place_across dim i))) self.old self.new }
     {
-        put_arrivals(&mut self.first, leavers, dim);
-        self.take_in_first(sizes);
+        put_across(&mut self.first, leavers, dim);
+        self.take_in_first(rows);
     }
 
     /// Lets those who stay at each chip close up: nobody comes.
-    pub fn close_up(&mut self, sizes: Shape)
+    fn close_up(&mut self, rows: usize)
+        requires rows { rows ≤ 14 }
         requires shape { IsShaped self.old }
-        ensures value { HasTakenIn sizes.room (λ i. 0) self.old self.new }
+        ensures value { HasTakenIn rows (λ i. 0) self.old self.new }
     {
         self.first = [0; WIDTH];
-        self.take_in_first(sizes);
+        self.take_in_first(rows);
     }
 
     /// Takes in at each chip who has been put down in the first slot.
-    fn take_in_first(&mut self, sizes: Shape)
+    fn take_in_first(&mut self, rows: usize)
+        requires rows { rows ≤ 14 }
         requires shape { IsShaped self.old }
         requires taken { AreTaken self.old.first }
-        ensures value { HasTakenIn sizes.room (λ i. slice_index self.old.first i) self.old self.new }
+        ensures value { HasTakenIn rows (λ i. slice_index self.old.first i) self.old self.new }
     {
         self.awake = true;
-        let reach = self.reach_behind(sizes);
-        take_in(&mut self.first, &mut self.rest[..], reach - 1);
+        take_in(&mut self.first, &mut self.rest[..], rows);
     }
 
     /// Writes down who stands in the first slots, if anybody stands there.
@@ -188,27 +247,6 @@ impl Tile {
                 self.awake = false;
             }
         }
-    }
-
-    /// How much room is enough to take in who comes: where no chip is full but for him, that for one more than stand
-    /// behind the first slot of any.
-    fn reach_behind(&self, sizes: Shape) -> usize
-        requires shape { IsShaped self.now }
-        ensures some { 0 < result }
-        ensures most { result ≤ sizes.room }
-        ensures few { (i : ℕ) (numbers : List ℕ) → i < 64 → length numbers < sizes.room
-            → AreSlots (slot_behind self.now.rest i) numbers → length numbers < result }
-    {
-        let room = usize::from(sizes.room);
-        if room > 1 && !is_blank(&self.rest[room - 2]) {
-            return room;
-        }
-        for behind in 0..room - 1 {
-            if is_blank(&self.rest[behind]) {
-                return behind + 1;
-            }
-        }
-        room
     }
 
     /// Whether no ticket stands there: the slots are filled from the first on.

@@ -1,25 +1,42 @@
-use Rattle.std.proofs.Common.{◌^◌, ◌/◌, refl}
-use Rattle.std.proofs.lemmas.Nat.{xor_shr, xor_mod}
-use Rattle.cm_slots.proofs.Runs.{arriving_taken, whole_after, chip_after, within_after}
+use Rattle.std.proofs.Common.{ℕ, ◌<◌, inl, length, arith}
+use Rattle.cm_slots.specs.Runs.{tile_at, tile_across, HasCrossed}
+use Rattle.cm_slots.proofs.Runs.{one_more_alone, one_more_pair, one_more_passed, chips_crossed, whole_crossed, within_crossed}
 use Rattle.cm_slots.proofs.passes.cross.Goals as goal
+use Rattle.cm_slots.proofs.passes.cross.Goals.{then-t-across, else-t-across+then-t-across-2, else-t-across+else-t-across-2}
 
-pub take_in-requires-clause-quiet : goal.take_in-requires-clause-quiet
-take_in-requires-clause-quiet c =
-    let gone = c.leave.ensures.value in rw gone.long (λ t h. (gone.each t h).quiet)
-
-pub take_in-requires-clause-taken : goal.take_in-requires-clause-taken
-take_in-requires-clause-taken c =
-    let gone = c.leave.ensures.value in rw gone.long (arriving_taken gone c.requires.across)
+pub loop-t-preserved : goal.loop-t-preserved
+loop-t-preserved c =
+    let t = c.loop-t.t in
+    let old = c.args.tiles.now in
+    let now = c.loop-t.tiles in
+    let was = c.loop-t.invariant in
+    let step = HasCrossed c.args.order c.args.sizes.room c.args.dim in
+    let inside : t < length old = omega (arith, c.loop-t-test.true, was.long) in
+    let across = c.tile_across-across.ensures.value in
+    elim c.if-t-across.branch [
+      | then-t-across w ↦ rw w.tiles-is
+          (one_more_alone c.args.dim step old now t was w.cross_alone.new.self inside
+          (omega (arith, w.if-t-across.true, across)) w.cross_alone.ensures.value)
+      | else-t-across+then-t-across-2 w ↦ rw w.tiles-is
+          (let crossed = w.cross_pair.ensures in
+          one_more_pair c.args.dim step old now t was w.cross_pair.new.tiles w.cross_pair.auto.tiles
+          (omega (arith, w.if-t-across-2.true, across))
+          (rw across at crossed.low) (rw across at crossed.high) (rw across at crossed.others))
+      | else-t-across+else-t-across-2 w ↦ rw w.tiles-is
+          (one_more_passed c.args.dim step old now t was
+          (omega (arith, w.if-t-across.false, w.if-t-across-2.false, across)))
+    ]
 
 pub returns : goal.returns
 returns c =
-    let gone = c.leave.ensures.value in
-    let come = c.take_in.ensures.value in
+    let old = c.args.tiles.now in
+    let new = c.loop-t.tiles in
+    let was = c.loop-t.invariant in
+    let step = HasCrossed c.args.order c.args.sizes.room c.args.dim in
+    let all : (t : ℕ) → t < length old → step (tile_at old t) (tile_at old (tile_across c.args.dim t)) (tile_at new t) =
+    λ t h. was.done t h (inl (omega (arith, h, c.loop-t-test.false, was.long))) in
     record {
-      value = λ k h.
-          let tile = xor_shr k (2 ^ c.args.dim) 6 in
-          let place = xor_mod k (2 ^ c.args.dim) 6 in
-          chip_after gone come k h (rw tile (c.requires.across (k / 64) h)) (rw (tile, place) refl);
-      whole = whole_after gone come;
-      within = within_after gone come;
+      value = chips_crossed c.args.order c.args.sizes.room c.args.dim old new was.long all;
+      whole = whole_crossed c.args.order c.args.sizes.room c.args.dim old new was.long all;
+      within = within_crossed c.args.order c.args.sizes.room c.args.dim old new was.long all;
     }

@@ -1,4 +1,4 @@
-use Rattle.std.proofs.Common.{length, ap, ◌∙◌, arith}
+use Rattle.std.proofs.Common.{length, ap, refl, ◌∙◌, arith}
 use Rattle.cm_slots.proofs.Views.{across_inside, tiles_kept, queues_after, within_view, within_everywhere, items-lent}
 use Rattle.cm_slots.proofs.Views.{crossed_past}
 use Rattle.cm_slots.proofs.Moves.{crossed_one, one_within, queues_over-none}
@@ -12,9 +12,8 @@ pub cross-requires : goal.cross-requires
 cross-requires c =
     let settled = settled_stand (c.settle.ensures.value c.self.inside.chips c.self.invariant) c.self.view_is in
     let are = settled.kept.are in
-    rw (c.deref_mut.ensures.value, c.deref_mut-else-sizes-eq1.ensures.value) (record {
+    rw c.deref_mut.ensures.value (record {
       dimension = omega (arith, c.requires.dim, c.requires.dimension);
-      rows = are.rows;
       across = across_inside are settled.view c.requires.count c.requires.dim;
       whole = are.whole;
       within = within_everywhere are settled.view c.args.sizes.room c.requires.within;
@@ -25,10 +24,9 @@ invariant_of-self c =
     let settled = settled_stand (c.settle.ensures.value c.self.inside.chips c.self.invariant) c.self.view_is in
     let new = c.cross.new.tiles in
     let long = c.cross.auto.tiles ∙ ap length c.deref_mut.ensures.value in
-    let rows = c.cross.auto.leaving ∙ ap length c.deref_mut-else-sizes-eq1.ensures.value in
     none_noted c.settle.ensures.none (record {
-      are = rw (items-lent c.settle.new.tiles new long, items-lent c.settle.new.leaving c.cross.new.leaving rows)
-          (tiles_kept settled.kept.are settled.view new long rows c.cross.ensures.whole
+      are = rw (items-lent c.settle.new.tiles new long)
+          (tiles_kept settled.kept.are settled.view new long refl c.cross.ensures.whole
           (crossed_past settled.kept.are settled.view new long c.requires.count c.requires.dim c.args.order
           c.args.sizes.room (rw c.deref_mut.ensures.value at c.cross.ensures.value) c.args.sizes.bounds.some_room));
       space = settled.kept.space;

@@ -1,5 +1,5 @@
 use Rattle.cm_slots.specs.Tiles.{slots_of, IsQuiet}
-use Rattle.cm_slots.proofs.Standing.{nobody_goes, nobody}
+use Rattle.cm_slots.proofs.Standing.{nobody_goes, nobody_stays, nobody}
 use Rattle.cm_slots.proofs.tile.Tile.leave.Goals as goal
 
 pub returns-then-is_quiet : goal.returns-then-is_quiet
@@ -8,10 +8,11 @@ returns-then-is_quiet c =
     let quiet : IsQuiet old = λ i h. let are = c.requires.whole.queues i h in
     rw (← nobody (slots_of old i) _ are (c.is_quiet.ensures.none.0 c.if-is_quiet.true i h)) are in
     record {
-      value = rw c.forget.ensures.value (record {
+      value = record {
         shape = c.requires.whole.shape;
-        long = tt;
         gone = λ i h. nobody_goes c.args.order c.args.dim c.args.sizes.room old i (quiet i h) c.args.sizes.bounds.some_room;
-        quiet = λ none. quiet;
-      });
+        few = λ i h. nobody_stays c.args.order c.args.dim c.args.sizes.room old i (quiet i h);
+      };
+      most = c.args.sizes.bounds.some_room;
+      quiet = λ none. quiet;
     }

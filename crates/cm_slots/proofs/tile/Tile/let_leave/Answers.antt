@@ -1,16 +1,24 @@
-use Rattle.cm_slots.proofs.Standing.{has_gone}
+use Rattle.std.proofs.Common.{ℕ, ◌<◌, refl, slice_index}
+use Rattle.cm_slots.specs.declared.order.Order.TheVariants.{Arrival}
+use Rattle.cm_slots.specs.Slots.{slot_across, slot_behind}
+use Rattle.cm_slots.specs.Tiles.{numbers_standing_at, HasTicketLeft}
+use Rattle.cm_slots.proofs.Standing.{has_gone, few_stay}
 use Rattle.cm_slots.proofs.tile.Tile.let_leave.Goals as goal
 
-pub returns : goal.returns
-returns c = record {
-  value = record {
-    shape = c.leave.ensures.shape;
-    long = c.put_leavers.ensures.long;
-    gone = λ i h.
-        let few = c.reach-reach.ensures.few i h (c.requires.within i h) in
-        has_gone c.args.dim c.args.sizes.room c.reach-reach.result _ _ (c.requires.whole.queues i h)
-        c.reach-reach.ensures.some c.reach-reach.ensures.most c.args.sizes.bounds.most_room (few.0) (few.1) _ _ _
-        (c.leave.ensures.value i h) (c.put_leavers.ensures.value i h);
-    quiet = λ none. absurd (c.put_leavers.ensures.some none);
-  };
-}
+pub returns-clause-value : goal.returns-clause-value
+returns-clause-value c =
+    let reach = c.reach-rows in
+    let gone : (i : ℕ) → i < 64 → HasTicketLeft Arrival c.args.sizes.room c.args.dim (numbers_standing_at c.args.self.now i)
+    (slot_across c.args.dim (slice_index c.leave.new.first i)) (slot_behind c.leave.new.rest i) = λ i h.
+    let few = reach.ensures.few i h (c.requires.within i h) in
+    has_gone c.args.dim c.args.sizes.room reach.result _ _ (c.requires.whole.queues i h)
+    reach.ensures.some reach.ensures.most c.args.sizes.bounds.most_room (few.0) (few.1) _ _ _
+    (c.leave.ensures.value i h) refl in
+    record {
+      shape = c.leave.ensures.shape;
+      gone = gone;
+      few = λ i h.
+          let few = reach.ensures.few i h (c.requires.within i h) in
+          few_stay c.args.dim c.args.sizes.room reach.result _ _ (c.requires.whole.queues i h)
+          reach.ensures.some reach.ensures.most c.args.sizes.bounds.most_room (few.0) (few.1) Arrival (gone i h).few;
+    }

@@ -6,7 +6,7 @@ returns c =
     record {
       value = record {
         shape = came.shape;
-        came = λ i numbers h few are. rw (c.put_arrivals.ensures.value i h) at (came.came i numbers h few are);
+        came = λ i numbers h few are. rw (c.put_across.ensures.value i h) at (came.came i numbers h few are);
         quiet = came.quiet;
       };
     }

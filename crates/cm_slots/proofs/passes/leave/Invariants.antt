@@ -1,8 +1,0 @@
-use Rattle.cm_slots.specs.Tiles.{HasLeft}
-use Rattle.cm_slots.specs.Runs.{leavers_at}
-use Rattle.cm_slots.proofs.Runs.{AreDone}
-use Rattle.cm_slots.proofs.passes.leave.Given as goal
-
-abbrev pub invariant-loop-t : goal.invariant-loop-t
-invariant-loop-t l =
-    AreDone (λ t old new. HasLeft l.order l.sizes.room l.dim old new (leavers_at l.leaving t)) l.initial.tiles l.tiles l.t
