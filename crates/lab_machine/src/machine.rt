@@ -1,11 +1,13 @@
 //! A machine of the laboratory: its sizes are values, so its routers may have any room.
 
 ghost use Rattle.std.specs.Prelude.{◌≡◌, ◌≢◌, ◌^◌, ◌<◌, ◌≤◌, IfOk, IfErr, OnOk, OnErr, IsTrue, Some, None, length};
+ghost use Rattle.std.specs.Prelude.{[], IfSome, IsErrOf, IsOk};
 ghost use Rattle.std.specs.List.{All};
 ghost use Rattle.cm_model.specs.Keeping.{AreSizes};
 ghost use Rattle.cm_model.specs.Array.{chip_at, nth_or_nil};
 ghost use Rattle.cm_model.specs.Wiring.{is_cut};
 ghost use Rattle.cm_model.specs.declared.act.Act.TheVariants as act;
+ghost use Rattle.cm_model.specs.declared.act.Act.TheVariants.{Sense};
 ghost use Rattle.lab_machine.specs.Machines.{lab_after, room_fault};
 ghost use Rattle.cm_model.specs.Buffers.{machine_after_injection, machine_after_dimension, machine_after_delivery};
 
@@ -95,6 +97,7 @@ impl LabMachine {
         ensures fits { IfOk result (λ lab. room_fault room machine.now.machine.buffers ≡ None) }
         ensures refused { IfErr result (λ fault. fault ≢ RoomFault.Memory
             → room_fault room machine.now.machine.buffers ≡ Some fault) }
+        ensures room { IfSome (room_fault room []) (λ fault. IsErrOf result fault) }
     {
         if room == 0 || usize::from(room) > MOST_ROOM {
             return Err(RoomFault::Room(room));
@@ -217,6 +220,7 @@ impl LabMachine {
     /// machine stays as it was then.
     pub fn go_on(&mut self, alloc: Global, act: &Act) -> Result<(), NoMemory>
         ensures ok { OnOk result (self.new ≡ lab_after self.old act.now) }
+        ensures sense { act.now ≡ Sense → IsOk result }
         ensures err { OnErr result (self.new ≡ self.old) }
     {
         // For the prover alone: a call brings in what holds of every machine.
