@@ -38,6 +38,12 @@ use std::mem;
 /// Most places of the row: as many as tickets can tell.
 const MOST_PLACES: usize = 65535;
 
+/// So many messages for each chip the row has before places are looked for.
+const FIRST_LIMIT: usize = 4;
+
+/// Where fewer places are found than this part of the limit, looking for them cost too much: the limit is doubled.
+const WORTH: usize = 8;
+
 /// So many dimensions, a petit cycle of the largest machine, are crossed chip by chip before the row is put in the
 /// order of age: this takes twice as long, and a list that ends before has no use for it.
 const PATIENCE: u8 = 12;
@@ -56,6 +62,8 @@ pub struct RouterEngine {
     spare: Vec<Message>,
     /// Most messages that the row may have.
     places: usize,
+    /// From so many messages of the row on, places are looked for before the row gets longer, so that it stays near.
+    limit: usize,
     /// By chip, the tickets of the messages that stand there.
     slots: TicketQueues,
     /// Between the halves of a dimension that leads out of these chips, who leaves each; else anything.
@@ -115,6 +123,7 @@ impl RouterEngine {
             free,
             spare,
             places,
+            limit: FIRST_LIMIT * chips,
             slots,
             leavers,
             gathered: true,
@@ -145,6 +154,7 @@ impl RouterEngine {
             free,
             spare,
             places: self.places,
+            limit: self.limit,
             slots,
             leavers,
             gathered: self.gathered,
@@ -226,17 +236,19 @@ impl RouterEngine {
         ensures value { self.new.buffers ≡ self.old.buffers }
         ensures free { 4 ≤ self.new.free }
     {
-        if self.has_few_places() {
+        if self.free.len() < MOST_INJECTED {
             self.make_more_places();
         }
     }
 
-    /// The same where there are few.
+    /// The same where few are known to be free.
     fn make_more_places(&mut self)
         ensures value { self.new.buffers ≡ self.old.buffers }
         ensures free { 4 ≤ self.new.free }
     {
-        self.find_free();
+        if self.row.len() >= self.limit {
+            self.find_free();
+        }
         if self.has_few_places() {
             self.gather_anew();
         }
@@ -254,10 +266,12 @@ impl RouterEngine {
     fn find_free(&mut self)
         ensures value { self.new.buffers ≡ self.old.buffers }
     {
-        if self.risen > 0 || self.waited > 0 {
-            return;
+        if self.risen == 0 && self.waited == 0 {
+            find_free(&self.slots, self.row.len(), &mut self.marks, &mut self.free);
         }
-        find_free(&self.slots, self.row.len(), &mut self.marks, &mut self.free);
+        if self.free.len() < self.limit / WORTH {
+            self.limit = self.places.min(self.limit * 2);
+        }
     }
 
     /// Takes out all messages.
