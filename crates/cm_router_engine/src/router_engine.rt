@@ -270,7 +270,7 @@ impl RouterEngine {
             find_free(&self.slots, self.row.len(), &mut self.marks, &mut self.free);
         }
         if self.free.len() < self.limit / WORTH {
-            self.limit = self.places.min(self.limit * 2);
+            self.limit = self.places.min(self.limit.saturating_mul(2));
         }
     }
 
