@@ -8,6 +8,7 @@ mod Planes
 mod Poking
 mod Putting
 mod Spreading
+mod Squares
 mod Filling
 mod Stepping
 mod Replacing
