@@ -1,5 +1,5 @@
 mod Columns
-mod Fields
+pub mod Fields
 mod Flagged
 mod Halves
 mod Lanes

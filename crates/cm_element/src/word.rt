@@ -1,6 +1,6 @@
 //! The words of the rows: one bit for each processor of a chip.
 
-ghost use Rattle.std.specs.Prelude.{◌≡◌, ℕ, ◌+◌, ◌*◌, ◌^◌, ◌<◌, ◌≤◌, ◌==◌, cond, if◌then◌else◌, length, map};
+ghost use Rattle.std.specs.Prelude.{◌≡◌, ℕ, ◌+◌, ◌*◌, ◌^◌, ◌<◌, ◌==◌, cond, if◌then◌else◌, length, map};
 ghost use Rattle.std.specs.Prelude.{slice_index};
 ghost use Rattle.std.specs.Bool.{beq};
 ghost use Rattle.cm_bits.specs.Bit.{bit};
@@ -64,10 +64,11 @@ pub(crate) fn bits_in(planes: &[Plane], proc: Proc) -> u64
 /// The value of a memory field of sixteen bits, whose planes these are.
 pub fn sixteen_bits_in(planes: &[Plane], proc: Proc) -> u64
     requires sixteen { length planes.now ≡ 16 }
-    ensures value { (processor : Processor) (at : ℕ) → at + 16 ≤ length processor.memory
+    ensures value { (processor : Processor) (at : ℕ)
         → ((k : ℕ) → k < 16 → bit (slice_index planes.now k) proc ≡ memory_bit processor (at + k))
         → result ≡ field_value processor at 16 }
     ensures below { result < 65536 }
+    ensures in_range { proc < 16 }
 {
     bits_in(planes, proc)
 }

@@ -6,8 +6,8 @@ use Rattle.cm_element.proofs.Fields.{sixteen_planes}
 use Rattle.cm_element.proofs.word.sixteen_bits_in.Goals as goal
 
 pub returns-clause-value : goal.returns-clause-value
-returns-clause-value c = λ processor at inside are.
-    c.bits_in.ensures.value ∙ sixteen_planes processor c.args.planes.now c.args.proc at c.requires.sixteen inside are
+returns-clause-value c = λ processor at are.
+    c.bits_in.ensures.value ∙ sixteen_planes processor c.args.planes.now c.args.proc at c.requires.sixteen are
 
 pub returns-clause-below : goal.returns-clause-below
 returns-clause-below c =
