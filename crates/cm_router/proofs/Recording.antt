@@ -1,11 +1,10 @@
 -- The records of eight chips: what their planes hold, and that an injection leaves them right.
-use Rattle.std.proofs.Common.{◌≡◌, ◌≢◌, ℕ, ◌+◌, ◌*◌, ◌<◌, ◌≤◌, Bool, None, Some, IfSome, Option, List, [], length, set, get_or}
+use Rattle.std.proofs.Common.{◌≡◌, ◌≢◌, ℕ, ◌+◌, ◌<◌, Bool, None, Some, IfSome, Option, List, [], length, set, get_or}
 use Rattle.std.proofs.Common.{sym, ap, ◌∙◌, ⊎_elim, arith, get_or-set_same, get_or-set_other, length-set}
 use Rattle.std.proofs.lemmas.Bool.{cases_eq}
-use Rattle.cm_bits.specs.Bit.{bit}
 use Rattle.cm_model.specs.declared.letters.TheConstants.{SENT_REL}
 use Rattle.cm_model.specs.Processor.{Processor, memory_bit}
-use Rattle.cm_model.specs.Chip.{processor_at, no_processor, IsPlane}
+use Rattle.cm_model.specs.Chip.{processor_at, no_processor}
 use Rattle.cm_model.specs.Array.{Chips, chip_at}
 use Rattle.cm_model.proofs.Each.{get_or-each_below}
 use Rattle.cm_element.specs.Wide.{with_flag_plane}
