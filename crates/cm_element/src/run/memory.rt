@@ -515,7 +515,7 @@ fn put_bits(
 {
     let at = usize::from(field.at());
     let len = usize::from(field.len());
-    let put = put_sixteens(words, slots, spot, proc, at, len, value);
+    let put = put_sixteens(words, slots, spot, proc, field, value);
     for i in put..len {
         let bit = bit_of(value, i);
         let slot = usize::from(slots[at + i]);
@@ -536,20 +536,20 @@ fn put_sixteens(
     slots: &[u16],
     spot: Spot,
     proc: Proc,
-    at: usize,
-    len: usize,
-    value: u64,
+    field: Field,
+    number: u64,
 ) -> usize
     requires slots { length slots.now ≡ 4096 }
     requires few { spot.stride < 2 ^ 20 }
     requires rows { (i : ℕ) → i < 4096 → slice_index slots.now i * spot.stride + spot.stride ≤ length words.old }
     requires place { spot.place < spot.stride }
-    requires field { at + len ≤ 4096 }
-    ensures value { ArePut words.old slots.now spot.stride spot.place proc at result value words.new }
-    ensures within { result ≤ len }
+    ensures value { ArePut words.old slots.now spot.stride spot.place proc field.at result number words.new }
+    ensures within { result ≤ field.len }
 {
+    let at = usize::from(field.at());
+    let len = usize::from(field.len());
     let mut put = 0;
-    let mut rest = value;
+    let mut rest = number;
     while put + SIXTEEN <= len && are_in_use(slots, at + put) {
         let bits = (rest % 65536) as u16;
         put_sixteen(words, slots, spot, proc, at + put, bits);
