@@ -17,6 +17,7 @@ ghost use Rattle.cm_model.specs.OneChip.{taken_here, sent_here, delivered_here, 
 ghost use Rattle.cm_router.specs.Deliveries.{run_after, AreBefore};
 ghost use Rattle.cm_router.specs.Idle.{IsPassedOver};
 ghost use Rattle.cm_router.specs.Logs.{log_room};
+ghost use Rattle.cm_router.specs.Records.{AreRecords};
 ghost use Rattle.cm_router.specs.Routes.{routing_of};
 
 use crate::free_places::{find_free, words_for};
@@ -24,11 +25,11 @@ use crate::ranking::{rearrange, renumber, risen_to, sort_numbers};
 use crate::routed::{cross, leave};
 use crate::row::{collect, compact, deliver_at, read_out, stand, store_injected};
 use cm_bits::{NoMemory, Plane};
-use cm_element::{ChipView, Run};
+use cm_element::Run;
 use cm_message::{Event, Message, Rule};
 use cm_router::{
-    Deliveries, MOST_INJECTED, Routing, Senders, acknowledge, asking, chip_asks,
-    chip_is_acknowledged, take_none,
+    ChipRecords, Deliveries, MOST_INJECTED, Records, Routing, Senders, acknowledge, asking,
+    chip_asks, chip_is_acknowledged, take_none,
 };
 use cm_slots::{Shape, Ticket, TicketQueues};
 use std::alloc::Global;
@@ -37,6 +38,12 @@ use std::mem;
 
 /// Most places of the row: as many as tickets can tell.
 const MOST_PLACES: usize = 65535;
+
+/// So many messages for each chip the row has before places are looked for.
+const FIRST_LIMIT: usize = 4;
+
+/// Where fewer places are found than this part of the limit, looking for them cost too much: the limit is doubled.
+const WORTH: usize = 8;
 
 /// So many dimensions, a petit cycle of the largest machine, are crossed chip by chip before the row is put in the
 /// order of age: this takes twice as long, and a list that ends before has no use for it.
@@ -56,6 +63,8 @@ pub struct RouterEngine {
     spare: Vec<Message>,
     /// Most messages that the row may have.
     places: usize,
+    /// From so many messages of the row on, places are looked for before the row gets longer, so that it stays near.
+    limit: usize,
     /// By chip, the tickets of the messages that stand there.
     slots: TicketQueues,
     /// Between the halves of a dimension that leads out of these chips, who leaves each; else anything.
@@ -115,6 +124,7 @@ impl RouterEngine {
             free,
             spare,
             places,
+            limit: FIRST_LIMIT * chips,
             slots,
             leavers,
             gathered: true,
@@ -145,6 +155,7 @@ impl RouterEngine {
             free,
             spare,
             places: self.places,
+            limit: self.limit,
             slots,
             leavers,
             gathered: self.gathered,
@@ -226,17 +237,19 @@ impl RouterEngine {
         ensures value { self.new.buffers ≡ self.old.buffers }
         ensures free { 4 ≤ self.new.free }
     {
-        if self.has_few_places() {
+        if self.free.len() < MOST_INJECTED {
             self.make_more_places();
         }
     }
 
-    /// The same where there are few.
+    /// The same where few are known to be free.
     fn make_more_places(&mut self)
         ensures value { self.new.buffers ≡ self.old.buffers }
         ensures free { 4 ≤ self.new.free }
     {
-        self.find_free();
+        if self.row.len() >= self.limit {
+            self.find_free();
+        }
         if self.has_few_places() {
             self.gather_anew();
         }
@@ -254,10 +267,12 @@ impl RouterEngine {
     fn find_free(&mut self)
         ensures value { self.new.buffers ≡ self.old.buffers }
     {
-        if self.risen > 0 || self.waited > 0 {
-            return;
+        if self.risen == 0 && self.waited == 0 {
+            find_free(&self.slots, self.row.len(), &mut self.marks, &mut self.free);
         }
-        find_free(&self.slots, self.row.len(), &mut self.marks, &mut self.free);
+        if self.free.len() < self.limit / WORTH {
+            self.limit = self.places.min(self.limit.saturating_mul(2));
+        }
     }
 
     /// Takes out all messages.
@@ -308,7 +323,7 @@ impl RouterEngine {
         &mut self,
         at: usize,
         senders: Senders,
-        chip: &ChipView<'_>,
+        chip: &ChipRecords<'_>,
         here: u16,
         dims: u8,
         clock: u64,
@@ -396,11 +411,12 @@ impl RouterEngine {
 
     /// At one chip, takes in messages of the processors that ask to send, by number, at most four and
     /// at most as many as there is room for. The log tells of each. The chip stands at place `chip` here and in
-    /// the run; `here` is its number in the machine.
+    /// the run; `here` is its number in the machine. The records go from chip to chip.
     pub fn inject(
         &mut self,
         sizes: Shape,
         run: &mut Run,
+        records: &mut Records,
         chip: u16,
         here: u16,
         clock: u64,
@@ -408,6 +424,7 @@ impl RouterEngine {
     )
         requires chip { chip < length self.old.buffers }
         requires run { length run.old ≡ length self.old.buffers }
+        requires records { AreRecords records.old run.old }
         requires within { All (λ ms. length ms ≤ sizes.room) self.old.buffers }
         requires log_room { 4 ≤ log_room log.old }
         ensures value { self.new.buffers ≡ slice_set self.old.buffers chip (nth_or_nil self.old.buffers chip
@@ -416,6 +433,7 @@ impl RouterEngine {
             (taken_here sizes.room (nth_or_nil self.old.buffers chip) (chip_at run.old chip)) (chip_at run.old chip)) }
         ensures log { log.new.items ≡ log.old.items ++ map event.Injected
             (sent_here sizes.dims sizes.room clock here (nth_or_nil self.old.buffers chip) (chip_at run.old chip)) }
+        ensures records { AreRecords records.new run.new }
         ensures len { vec_len log.new ≤ vec_len log.old + 4 }
         ensures capacity { vec_capacity log.old ≤ vec_capacity log.new }
         ensures within { All (λ ms. length ms ≤ sizes.room) self.new.buffers }
@@ -429,7 +447,9 @@ impl RouterEngine {
         let asking = asking(run, chip);
         let senders = Senders::first(asking, room);
         self.make_places();
-        let taken = self.store_injected(at, senders, &run.view(chip), here, sizes.dims, clock, log);
+        records.look(run, chip);
+        let chip_records = records.of(run, chip);
+        let taken = self.store_injected(at, senders, &chip_records, here, sizes.dims, clock, log);
         acknowledge(run, chip, asking, taken);
     }
 

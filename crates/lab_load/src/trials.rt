@@ -1,7 +1,7 @@
 //! Loads as they are asked for, and which there are.
 
 ghost use Rattle.std.specs.Prelude.{◌≡◌, ◌≢◌, ℕ, ◌∷◌, [], ◌++◌, ◌<◌, ◌≤◌, None, Some, MatchOption, IfOk, IfErr, OnOk};
-ghost use Rattle.std.specs.Prelude.{get_or, length, nat_lt};
+ghost use Rattle.std.specs.Prelude.{IfSome, IsErrOf, get_or, length, nat_lt};
 ghost use Rattle.std.specs.List.{find};
 ghost use Rattle.cm_model.specs.Keeping.{AreSizes};
 ghost use Rattle.cm_router.specs.Routes.{routing_of};
@@ -185,6 +185,7 @@ impl Trial {
         ensures accepted { IfOk result (λ figures. trial_fault self.now cuts.now (rate ∷ []) ≡ None) }
         ensures refused { IfErr result (λ fault. fault ≢ LoadFault.Memory
             → trial_fault self.now cuts.now (rate ∷ []) ≡ Some fault) }
+        ensures trial { IfSome (trial_fault self.now cuts.now (rate ∷ [])) (λ fault. IsErrOf result fault) }
     {
         match self.fault(cuts, &[rate]) {
             Some(fault) => Err(fault),
@@ -207,6 +208,7 @@ impl Trial {
         ensures accepted { IfOk result (λ latencies. trial_fault self.now cuts.now (rate ∷ []) ≡ None) }
         ensures refused { IfErr result (λ fault. fault ≢ LoadFault.Memory
             → trial_fault self.now cuts.now (rate ∷ []) ≡ Some fault) }
+        ensures trial { IfSome (trial_fault self.now cuts.now (rate ∷ [])) (λ fault. IsErrOf result fault) }
     {
         match self.fault(cuts, &[rate]) {
             Some(fault) => Err(fault),
@@ -229,6 +231,7 @@ impl Trial {
         ensures accepted { IfOk result (λ chips. trial_fault self.now cuts.now (rate ∷ []) ≡ None) }
         ensures refused { IfErr result (λ fault. fault ≢ LoadFault.Memory
             → trial_fault self.now cuts.now (rate ∷ []) ≡ Some fault) }
+        ensures trial { IfSome (trial_fault self.now cuts.now (rate ∷ [])) (λ fault. IsErrOf result fault) }
     {
         match self.fault(cuts, &[rate]) {
             Some(fault) => Err(fault),
@@ -252,6 +255,7 @@ impl Trial {
         ensures accepted { IfOk result (λ spreads. trial_fault self.now cuts.now (rate ∷ []) ≡ None) }
         ensures refused { IfErr result (λ fault. fault ≢ LoadFault.Memory
             → trial_fault self.now cuts.now (rate ∷ []) ≡ Some fault) }
+        ensures trial { IfSome (trial_fault self.now cuts.now (rate ∷ [])) (λ fault. IsErrOf result fault) }
     {
         match self.fault(cuts, &[rate]) {
             Some(fault) => Err(fault),
