@@ -13,8 +13,8 @@ use crate::row::put_last;
 use cm_message::Message;
 use cm_slots::TicketQueues;
 
-/// How many marks a word has.
-const WIDTH: usize = 64;
+/// A word has so many marks.
+const MARKS: usize = 64;
 
 /// Numbers of places, of the first so many, that no ticket tells; those of the last incomplete word are left out.
 pub(crate) fn find_free(
@@ -31,7 +31,7 @@ pub(crate) fn find_free(
     free.clear();
     if has_blank_marks(marks, words_for(count)) {
         mark_all(slots, marks);
-        list_unmarked(marks, count / WIDTH, free);
+        list_unmarked(marks, count / MARKS, free);
     }
 }
 
@@ -39,7 +39,7 @@ pub(crate) fn find_free(
 pub(crate) fn words_for(places: usize) -> usize
     ensures value { result ≡ places / 64 + 1 }
 {
-    places / WIDTH + 1
+    places / MARKS + 1
 }
 
 /// Takes away the marks of so many words, and tells whether there is room for these.
@@ -89,7 +89,7 @@ fn mark(marks: &mut [u64], number: u16)
     ensures len { length marks.new ≡ length marks.old }
 {
     let number = usize::from(number);
-    marks[number / WIDTH] |= 1 << (number % WIDTH);
+    marks[number / MARKS] |= 1 << (number % MARKS);
 }
 
 /// Lists the numbers of the places without a mark, of so many words, in rising order.
@@ -114,7 +114,7 @@ fn list_word(marks: &[u64], word: usize, free: &mut Vec<u16>)
     ensures free { AreFree (64 * (word + 1)) free.new.items }
     ensures unmarked { AreUnmarked marks.now free.new.items }
 {
-    let first = (word * WIDTH) as u16;
+    let first = (word * MARKS) as u16;
     let mut left = !marks[word];
     while left != 0 && free.len() < free.capacity() {
         let at = left.trailing_zeros() as u16;
