@@ -117,6 +117,11 @@ module _ (d : ℕ) (far : 6 ≤ d) where
   pub place-far : (i : ℕ) → place_across d i ≡ i
   place-far i = let none : 2 ^ d % 64 ≡ 0 = omega (arith, power_far) in ap (bit_xor i) none ∙ xor_zero_r i
 
+-- a bit within the width of a tile: the tile is the same
+pub tile-near : (d : ℕ) → d < 6 → (t : ℕ) → tile_across d t ≡ t
+tile-near d near t =
+    let none : 2 ^ d / 64 ≡ 0 = omega (arith, pow_below d 6 near) in ap (bit_xor t) none ∙ xor_zero_r t
+
 -- as many tiles as a cube of chips fills
 pub tiles_of_cube : (dims : ℕ) → (2 ^ dims + 63) / 64 ≡ 2 ^ (dims - 6)
 tiles_of_cube dims =
@@ -143,6 +148,15 @@ quiet_stays most coming tile shape quiet none = record {
   came = λ i numbers h few are. nobody_comes (slots_of tile i) numbers (coming i) are
       ((quiet i h).each 0) ((quiet i h).each 1) (none i h);
   quiet = λ asleep. quiet;
+}
+
+-- what the first slots held before who comes was put down there does not matter
+pub come_behind : {most : ℕ} {coming : ℕ → ℕ} {put left new : Tile} → put.rest ≡ left.rest
+    → HasTakenIn most coming put new → HasTakenIn most coming left new
+come_behind same come = record {
+  shape = come.shape;
+  came = λ i numbers h few are. come.came i numbers h few (rw same are);
+  quiet = come.quiet;
 }
 
 -- who comes, by place, is taken in behind who stays

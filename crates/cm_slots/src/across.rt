@@ -49,8 +49,33 @@ fn flip(going: &mut Row, row: &Row, dim: u8)
     ensures long { length going.new ≡ 64 }
 {
     for i in 0..WIDTH {
-        let slot = row[i];
-        going[i] = if slot == 0 { 0 } else { slot ^ 1 << (16 + dim) };
+        going[i] = across(row[i], dim);
+    }
+}
+
+/// What arrives at a slot across a dimension.
+fn across(slot: u32, dim: u8) -> u32
+    requires dimension { dim < 12 }
+    ensures value { result ≡ slot_across dim slot }
+{
+    if slot == 0 { 0 } else { slot ^ 1 << (16 + dim) }
+}
+
+/// Puts down who leaves each of two tiles at the other, as they arrive. The chips across stand at the same places.
+#[inline(never)]
+pub(crate) fn trade(here: &mut Row, there: &mut Row, dim: u8)
+    requires dimension { dim < 12 }
+    requires here { length here.old ≡ 64 }
+    requires there { length there.old ≡ 64 }
+    ensures here { (i : ℕ) → i < 64 → slice_index here.new i ≡ slot_across dim (slice_index there.old i) }
+    ensures there { (i : ℕ) → i < 64 → slice_index there.new i ≡ slot_across dim (slice_index here.old i) }
+    ensures here_wide { length here.new ≡ 64 }
+    ensures there_wide { length there.new ≡ 64 }
+{
+    for i in 0..WIDTH {
+        let going = across(here[i], dim);
+        here[i] = across(there[i], dim);
+        there[i] = going;
     }
 }
 

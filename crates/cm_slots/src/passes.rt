@@ -36,6 +36,7 @@ pub(crate) fn cross(tiles: &mut [Tile], sizes: Shape, dim: u8, order: Order)
 /// The tickets of two tiles cross a dimension, across which the chips of each are those of the other.
 fn cross_pair(tiles: &mut [Tile], low: usize, high: usize, sizes: Shape, dim: u8, order: Order)
     requires dimension { dim < 12 }
+    requires far { 6 ≤ dim }
     requires order { low < high }
     requires inside { high < length tiles.old }
     requires low { IsTile (tile_at tiles.old low) }

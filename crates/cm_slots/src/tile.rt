@@ -13,7 +13,7 @@ ghost use Rattle.cm_slots.specs.Tiles.{HasChanged};
 ghost use Rattle.cm_slots.specs.Runs.{place_across, HasCrossed, HasDeparted};
 ghost use Rattle.cm_slots.specs.Moves.{AreFirst, HasMoved, slot_over};
 
-use crate::across::{has_arrival_over, put_across, put_leavers, put_over};
+use crate::across::{has_arrival_over, put_across, put_leavers, put_over, trade};
 use crate::choice::{leave_from, places};
 use crate::order::Order;
 use crate::rows::{ROOM, Row, WIDTH, has_arrival, is_blank, leave, take_in};
@@ -65,13 +65,15 @@ impl Tile {
     {
         if let Some(rows) = self.leave(sizes, dim, order) {
             let going = self.first;
-            self.take_in(&going, rows, dim);
+            put_across(&mut self.first, &going, dim);
+            self.take_in(rows);
         }
     }
 
     /// The same, where the chips across stand in another tile, whose tickets cross too.
     pub fn cross_with(&mut self, other: &mut Tile, sizes: Shape, dim: u8, order: Order)
         requires dimension { dim < 12 }
+        requires far { 6 ≤ dim }
         requires whole { IsTile self.old }
         requires within { (i : ℕ) → i < 64 → length (numbers_standing_at self.old i) ≤ sizes.room }
         requires other_whole { IsTile other.old }
@@ -84,9 +86,9 @@ impl Tile {
         if here.is_none() && there.is_none() {
             return;
         }
-        let leaving = self.first;
-        self.take_in(&other.first, here.unwrap_or(0), dim);
-        other.take_in(&leaving, there.unwrap_or(0), dim);
+        trade(&mut self.first, &mut other.first, dim);
+        self.take_in(here.unwrap_or(0));
+        other.take_in(there.unwrap_or(0));
     }
 
     /// Takes out of each chip, where there is room for so many tickets, who leaves in a dimension, and puts them down
@@ -180,22 +182,6 @@ impl Tile {
         room
     }
 
-    /// Takes in at each chip who comes across a dimension, of those who leave the tile there, behind those who stay: no
-    /// more at a chip than there are of these rows.
-    fn take_in(&mut self, leavers: &Row, rows: usize, dim: u8)
-        requires dimension { dim < 12 }
-        requires rows { rows ≤ 14 }
-        requires shape { IsShaped self.old }
-        requires long { length leavers.now ≡ 64 }
-        requires taken { (i : ℕ) → i < 64 → slot_across dim (slice_index leavers.now i) ≢ 0
-            → is_taken (slot_across dim (slice_index leavers.now i)) ≡ true }
-        ensures value { HasTakenIn rows
-            (λ i. slot_across dim (slice_index leavers.now (place_across dim i))) self.old self.new }
-    {
-        put_across(&mut self.first, leavers, dim);
-        self.take_in_first(rows);
-    }
-
     /// Lets those who stay at each chip close up: nobody comes.
     fn close_up(&mut self, rows: usize)
         requires rows { rows ≤ 14 }
@@ -203,11 +189,12 @@ impl Tile {
         ensures value { HasTakenIn rows (λ i. 0) self.old self.new }
     {
         self.first = [0; WIDTH];
-        self.take_in_first(rows);
+        self.take_in(rows);
     }
 
-    /// Takes in at each chip who has been put down in the first slot.
-    fn take_in_first(&mut self, rows: usize)
+    /// Takes in at each chip who has been put down in the first slot, behind those who stay: no more at a chip than
+    /// there are of these rows.
+    fn take_in(&mut self, rows: usize)
         requires rows { rows ≤ 14 }
         requires shape { IsShaped self.old }
         requires taken { AreTaken self.old.first }

@@ -1,8 +1,15 @@
-use Rattle.std.proofs.Common.{ℕ, ◌<◌, inl, length, arith}
+use Rattle.std.proofs.Common.{ℕ, ◌<◌, ◌≤◌, inl, length, ⊎_elim, arith}
+use Rattle.std.proofs.lemmas.Bool.{cases_lt}
 use Rattle.cm_slots.specs.Runs.{tile_at, tile_across, HasCrossed}
-use Rattle.cm_slots.proofs.Runs.{one_more_alone, one_more_pair, one_more_passed, chips_crossed, whole_crossed, within_crossed}
+use Rattle.cm_slots.proofs.Runs.{one_more_alone, one_more_pair, one_more_passed, tile-near, chips_crossed, whole_crossed, within_crossed}
 use Rattle.cm_slots.proofs.passes.cross.Goals as goal
 use Rattle.cm_slots.proofs.passes.cross.Goals.{then-t-across, else-t-across+then-t-across-2, else-t-across+else-t-across-2}
+
+pub cross_pair-requires-clause-far : goal.cross_pair-requires-clause-far
+cross_pair-requires-clause-far c = ⊎_elim
+    (λ (near : c.args.dim < 6).
+    absurd (omega (arith, tile-near c.args.dim near c.loop-t.t, c.tile_across-across.ensures.value, c.if-t-across-2.true)))
+    (λ (far : 6 ≤ c.args.dim). far) (cases_lt c.args.dim 6)
 
 pub loop-t-preserved : goal.loop-t-preserved
 loop-t-preserved c =

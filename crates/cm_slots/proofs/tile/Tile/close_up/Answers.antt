@@ -1,12 +1,12 @@
 use Rattle.cm_slots.proofs.Standing.{get_or-zeros}
 use Rattle.cm_slots.proofs.tile.Tile.close_up.Goals as goal
 
-pub take_in_first-requires-clause-taken : goal.take_in_first-requires-clause-taken
-take_in_first-requires-clause-taken c = λ i h some. absurd (some (get_or-zeros 64 i))
+pub take_in-requires-clause-taken : goal.take_in-requires-clause-taken
+take_in-requires-clause-taken c = λ i h some. absurd (some (get_or-zeros 64 i))
 
 pub returns : goal.returns
 returns c =
-    let came = c.take_in_first.ensures.value in
+    let came = c.take_in.ensures.value in
     record {
       value = record {
         shape = came.shape;
