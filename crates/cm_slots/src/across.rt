@@ -58,11 +58,7 @@ fn across(slot: u32, dim: u8) -> u32
     requires dimension { dim < 12 }
     ensures value { result ≡ slot_across dim slot }
 {
-    if slot == 0 {
-        0
-    } else {
-        slot ^ 1 << (16 + dim)
-    }
+    if slot == 0 { 0 } else { slot ^ 1 << (16 + dim) }
 }
 
 /// Puts down who leaves each of two tiles at the other, as they arrive. The chips across stand at the same places.

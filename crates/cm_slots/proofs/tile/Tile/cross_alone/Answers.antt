@@ -19,4 +19,4 @@ pub returns-in_default : goal.returns-in_default
 returns-in_default c =
     let gone = c.leave.ensures.value in
     let quiet = c.leave.ensures.quiet c.in_default.is in
-    record { value = none_crossed _ _ _ _ _ _ _ _ _ gone gone quiet quiet; }
+    record { value = none_crossed _ _ _ _ _ _ _ _ _ gone gone quiet quiet }
