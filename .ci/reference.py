@@ -434,7 +434,7 @@ def have_effect_at(machine, place, first, given):
 
 # ---- sessions -------------------------------------------------------------------------------------------------------
 
-COMMANDS = {b"step": "", b"run": "", b"break": "i", b"clear": "i", b"wire": "w", b"field": "cpal", b"flag": "cpf",
+COMMANDS = {b"step": "", b"run": "", b"break": "i", b"clear": "i", b"wire": "w", b"field": "cpll", b"flag": "cpf",
             b"poke": "cpab", b"pokeflag": "cpfb", b"buf": "c", b"find": "cpn", b"events": "c", b"rule": ""}
 
 

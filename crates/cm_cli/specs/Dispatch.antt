@@ -4,7 +4,6 @@ use Rattle.cm_model.specs.declared.act.Act.{Act}
 use Rattle.cm_session.specs.declared.fault.SessionFault.{SessionFault}
 use Rattle.cm_session.specs.declared.fault.SessionFault.TheVariants as session
 use Rattle.cm_session.specs.Ends.{Ends, EndsForSome, is_write}
-use Rattle.cm_system.specs.declared.program_fault.ProgramFault.TheVariants.{Read}
 use Rattle.cm_sizes.specs.Sizes.{SizedMachine}
 use Rattle.cm_system.specs.Streams.{Streams}
 

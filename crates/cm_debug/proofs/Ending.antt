@@ -15,7 +15,8 @@ use Rattle.cm_session.specs.declared.fault.SessionFault.TheVariants.{Read, Write
 use Rattle.cm_session.specs.Session.{Session, opening, after_lines}
 use Rattle.cm_session.specs.Ends.{COMMANDS_LIMIT, ended_lines, open_line, processed_lines, IsAnswered, Ends, EndsForSome}
 use Rattle.cm_session.proofs.Lines.{heard_first, heard_whole}
-use Rattle.cm_debug.specs.Talk.{Talk, Setting, setting, after_all, AreProcessed, IsBroken, AbortsAmong, MayBeLeft, HasEnded, HasTakenAll}
+use Rattle.cm_debug.specs.Talk.{Talk, Setting, setting, after_all, AreProcessed, IsBroken, AbortsAmong}
+use Rattle.cm_debug.specs.Hearing.{PIECE_LIMIT, MayBeLeft, HasEnded, HasTakenAll, ReadsWithin}
 use Rattle.cm_debug.specs.Taking.{HasTaken, HasStopped}
 use Rattle.cm_debug.proofs.Breaking.{among_more, broken_first}
 use Rattle.cm_debug.proofs.Lines.{lines_of-closed, lines_at_last}
@@ -66,6 +67,7 @@ pub ended_first : (n cap : ℕ) (first : Setting) (source : Option (List ℕ))
 ended_first n cap first source = record {
   text = [];
   read = Consumes-nil source;
+  few = omega arith;
   ends = λ more _. broken_first n cap first (processed_lines more);
   end = tt;
   lacked = refl;
@@ -95,6 +97,7 @@ pub ended_read : {n cap : ℕ} {first : Setting} {taken : List ℕ} {a : Talk} (
 ended_read {n} {cap} {first} {taken} {a} source left rest read kept few none told' = record {
   text = taken;
   read = Consumes-kept source left rest taken read kept;
+  few = omega (arith, few);
   ends = λ more _. record { taken = taken; consumed = refl; within = few; answered = all_told none told' };
   end = tt;
   lacked = told'.lacked;
@@ -118,14 +121,16 @@ parted taken buf more room count within =
 
 -- that part breaks off
 pub ended_in_read : {n cap : ℕ} {first : Setting} {c : Talk} {fault : SessionFault}
-    (source left rest : Option (List ℕ)) (taken buf : List ℕ) (count room used : ℕ) → room ≡ min count (COMMANDS_LIMIT - used)
-    → used ≡ length taken → used ≤ COMMANDS_LIMIT → Consumes source left taken → Consumes left rest (take count buf)
+    (source left rest : Option (List ℕ)) (taken buf : List ℕ) (count room used : ℕ) → count ≤ PIECE_LIMIT
+    → room ≡ min count (COMMANDS_LIMIT - used) → used ≡ length taken → used ≤ COMMANDS_LIMIT
+    → Consumes source left taken → Consumes left rest (take count buf)
     → IsBroken n cap first (ended_lines (taken ++ take room buf)) c fault
     → HasEnded n cap first source rest (setting first.acts c.session.machine c.out c.lacked) (Err fault)
-ended_in_read {n} {cap} {first} {c} {fault} source left rest taken buf count room used is so few read more_read off =
+ended_in_read {n} {cap} {first} {c} {fault} source left rest taken buf count room used little is so few read more_read off =
     record {
       text = taken ++ take count buf;
       read = Consumes-trans source left rest taken (take count buf) read more_read;
+      few = omega (arith, so, few, little, length-append taken (take count buf), short count buf);
       ends = λ more _.
           let begins = heard_first (taken ++ take room buf) (drop room (take count buf) ++ more)
           (omega (arith, is, so, few, length-append taken (take room buf), short room buf)) in
@@ -145,11 +150,12 @@ take_all xs ys k is = grind (arith, common_steps)
 
 -- it gave more than there was room for
 pub ended_over : {n cap : ℕ} {first : Setting} {a : Talk} (source left rest : Option (List ℕ))
-    (taken buf : List ℕ) (count room used : ℕ) → count ≤ length buf → room ≡ min count (COMMANDS_LIMIT - used) → room < count
+    (taken buf : List ℕ) (count room used : ℕ) → count ≤ PIECE_LIMIT → count ≤ length buf
+    → room ≡ min count (COMMANDS_LIMIT - used) → room < count
     → used ≡ length taken → used ≤ COMMANDS_LIMIT → Consumes source left taken → Consumes left rest (take count buf)
     → a.kept ≡ [] → AreProcessed n cap first (taken ++ take room buf) a
     → HasEnded n cap first source rest (setting first.acts a.session.machine a.out a.lacked) (Err TooMuch)
-ended_over {n} {cap} {first} {a} source left rest taken buf count room used inside is less so few read more_read none
+ended_over {n} {cap} {first} {a} source left rest taken buf count room used little inside is less so few read more_read none
     told' =
     let fed : length (take room buf) ≡ room = long room buf (omega (arith, less, inside)) in
     let front : List ℕ = taken ++ take room buf in
@@ -157,6 +163,7 @@ ended_over {n} {cap} {first} {a} source left rest taken buf count room used insi
     record {
       text = taken ++ take count buf;
       read = Consumes-trans source left rest taken (take count buf) read more_read;
+      few = omega (arith, so, few, little, length-append taken (take count buf), long count buf inside);
       ends = λ more _.
           let behind : List ℕ = drop room (take count buf) ++ more in
           let whole : (taken ++ take count buf) ++ more ≡ front ++ behind =
@@ -210,6 +217,7 @@ answered_all : {n cap : ℕ} {first : Setting} {source rest : Option (List ℕ)}
 answered_all {n} {cap} {first} {source} {rest} {a} last all is lacked = record {
   text = all.text;
   read = all.read;
+  few = omega (arith, all.within);
   ends = λ more may. subst (λ (t : List ℕ). Ends n cap first.acts t (Some more) first.machine first.out last.machine
       last.out (Ok tt)) (no_more rest all.text more all.end may) (all.within, is);
   end = all.end;
@@ -244,6 +252,7 @@ ended_broken {n} {cap} {first} {source} {rest} {a} {c} {fault} all some stopped 
     record {
       text = all.text;
       read = all.read;
+      few = omega (arith, all.within);
       ends = λ more may. subst (λ (t : List ℕ). Ends n cap first.acts t (Some more) first.machine first.out
           c.session.machine c.out (Err fault)) (no_more rest all.text more all.end may)
           (off_ends n cap first all.text (Some more) c.session.machine c.out fault
@@ -274,6 +283,10 @@ ends_some {n} {cap} {first} {last} {source} {rest} {result} ended = record {
       (append-nil ended.text) (ended.ends [] (inl refl));
   end = ended.end;
 }
+
+pub ends_within : {n cap : ℕ} {first last : Setting} {source rest : Option (List ℕ)}
+    {result : Result (Unit {0}) SessionFault} → HasEnded n cap first source rest last result → ReadsWithin source rest
+ends_within ended = record { text = ended.text; few = ended.few; read = ended.read }
 
 -- a session of the same acts
 pub of_acts : {n cap : ℕ} {first : Setting} {source rest : Option (List ℕ)} {machine : Machine} {out : Option (List ℕ)}

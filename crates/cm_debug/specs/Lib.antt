@@ -4,4 +4,5 @@ pub mod Longest
 pub mod Gathering
 pub mod BufferedOutput
 pub mod Talk
+pub mod Hearing
 pub mod Taking

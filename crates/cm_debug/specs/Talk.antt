@@ -1,14 +1,13 @@
--- Where a session stands between two bytes of its commands, and how it ends. Ours.
-use Rattle.std.specs.Prelude.{◌≡◌, ℕ, ◌+◌, ◌≤◌, ◌⊎◌, Option, Some, Result, Ok, Err, OnOk, List, [], ◌++◌}
-use Rattle.std.specs.Prelude.{length}
-use Rattle.std.specs.Io.KnownBytes.{Appends, Consumes, IsAtEnd, append_known}
+-- Where a session stands between two bytes of its commands, and how it breaks off. Ours.
+use Rattle.std.specs.Prelude.{◌≡◌, ℕ, ◌+◌, Option, List, length}
+use Rattle.std.specs.Io.KnownBytes.{Appends, append_known}
 use Rattle.cm_model.specs.declared.act.Act.{Act}
 use Rattle.cm_model.specs.Machine.{Machine}
-use Rattle.cm_array.specs.Faults.{CountsLacks, lacked_after}
+use Rattle.cm_array.specs.Faults.{lacked_after}
 use Rattle.cm_session.specs.declared.fault.SessionFault.{SessionFault}
 use Rattle.cm_session.specs.declared.fault.SessionFault.TheVariants.{Write, Memory, NoThread}
 use Rattle.cm_session.specs.Session.{Session, Answered, opening, after_lines}
-use Rattle.cm_session.specs.Ends.{COMMANDS_LIMIT, ended_lines, open_line, is_session_no_thread, IsStopped, IsAborted, Ends}
+use Rattle.cm_session.specs.Ends.{ended_lines, open_line, is_session_no_thread, IsStopped, IsAborted}
 use Rattle.cm_debug.specs.declared.console.Console.{Console}
 use Rattle.cm_debug.specs.State.{session_of}
 
@@ -86,34 +85,3 @@ pub record IsBroken (n cap : ℕ) (first : Setting) (lines : List (List ℕ)) (n
     : Type 0 where
   pub breaks : AbortsAmong n cap first lines now.session.machine now.out fault
   pub lacked : now.lacked ≡ lacked_after (is_session_no_thread fault) first.lacked
-
--- ---- a source
-
--- what a source may have left of which this is known: nothing, or what it is known to have
-abbrev pub MayBeLeft : Option (List ℕ) → List ℕ → Type 0
-MayBeLeft rest more = (more ≡ []) ⊎ (rest ≡ Some more)
-
--- the source gave a text, and the session ended so, whatever may be left of it; after Ok nothing is
-pub record HasEnded (n cap : ℕ) (first : Setting) (source rest : Option (List ℕ)) (last : Setting)
-    (result : Result (Unit {0}) SessionFault) : Type 0 where
-  pub text : List ℕ
-  pub read : Consumes source rest text
-  pub ends : (more : List ℕ) → MayBeLeft rest more → Ends n cap first.acts (text ++ more) (Some more) first.machine
-      first.out last.machine last.out result
-  pub end : OnOk result (IsAtEnd rest)
-  pub lacked : CountsLacks is_session_no_thread first.lacked last.lacked result
-
--- the source gave a text to its end, which is taken
-pub record HasTakenAll (n cap : ℕ) (first : Setting) (source rest : Option (List ℕ)) (now : Talk) : Type 0 where
-  pub text : List ℕ
-  pub read : Consumes source rest text
-  pub end : IsAtEnd rest
-  pub within : length text ≤ COMMANDS_LIMIT
-  pub told : AreProcessed n cap first text now
-
--- how a console takes what a source gives
-abbrev pub TakesAll : ℕ → ℕ → Setting → Option (List ℕ) → Option (List ℕ) → Talk → Result (Unit {0}) SessionFault
-    → Type 0
-TakesAll n cap first source rest now (Ok done) = HasTakenAll n cap first source rest now
-TakesAll n cap first source rest now (Err fault) =
-    HasEnded n cap first source rest (setting first.acts now.session.machine now.out now.lacked) (Err fault)

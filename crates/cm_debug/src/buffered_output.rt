@@ -116,6 +116,8 @@ impl BufferedOutput {
             (O.contents out.new) result }
         ensures failed { O.has_failed out.new ≡ is_write (Err result) }
         ensures thread { is_session_no_thread result ≡ is_thread want }
+        ensures none { is_write (Err result) ≡ false → self.new.bytes.items ≡ [] }
+        ensures sent { is_write (Err result) ≡ false → self.new.sent ≡ answered_bytes self.old }
     {
         match self.send(out) {
             Ok(()) => {}

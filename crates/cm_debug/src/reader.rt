@@ -13,7 +13,8 @@ use cm_session::{Command, Refusal};
 
 /// What a line asks for, in our own language of commands; none where it has no words. Chips are those of a cube of that
 /// many dimensions, acts those of a program of so many. Of several faults the first is told: the word, the number of
-/// operands, a word that is no number, then ranges from left to right. It takes no memory.
+/// operands, a word that is no number, then ranges from left to right, but the length of a field before its address. It
+/// takes no memory.
 pub fn read_command(
     line: &[u8],
     dimensions: usize,

@@ -1,5 +1,5 @@
 mod Columns
-pub mod Fields
+mod Fields
 mod Flagged
 mod Halves
 mod Lanes
@@ -8,7 +8,6 @@ mod Planes
 mod Poking
 mod Putting
 mod Spreading
-mod Squares
 mod Filling
 mod Stepping
 mod Replacing

@@ -1,5 +1,7 @@
 //! Files that are put where the user wants them: each is made ready, and then filled or let go.
 
+ghost use Rattle.std.specs.Prelude.{◌≡◌, [], IsErrOf};
+
 use cm_bits::Std;
 use cm_system::{PutFault, Written};
 use std::alloc::Global;
@@ -34,7 +36,9 @@ pub fn make_ready<R: Files + AllocGlobal>(
     rt: &R,
     alloc: Global,
     path: &str,
-) -> Result<PendingFile<R::File>, PutFault> {
+) -> Result<PendingFile<R::File>, PutFault>
+    ensures nowhere { path.now ≡ [] → IsErrOf result PutFault.Write }
+{
     if path.is_empty() {
         return Err(PutFault::Write);
     }
@@ -67,7 +71,9 @@ pub fn put_file<R: Files + AllocGlobal, T: Written>(
     alloc: Global,
     path: &str,
     image: T,
-) -> Result<(), PutFault> {
+) -> Result<(), PutFault>
+    ensures nowhere { path.now ≡ [] → IsErrOf result PutFault.Write }
+{
     match make_ready(rt, alloc, path) {
         Ok(pending) => pending.fill(rt, image),
         Err(fault) => Err(fault),

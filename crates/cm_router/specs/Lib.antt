@@ -3,7 +3,6 @@ pub mod Idle
 pub mod Logs
 pub mod Rows
 pub mod Places
-pub mod Records
 pub mod Cuts
 pub mod Routes
 pub mod Deliveries

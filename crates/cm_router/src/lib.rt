@@ -6,7 +6,6 @@ mod delivery;
 mod leaving;
 mod letters;
 mod node;
-mod records;
 mod routing;
 mod senders;
 
@@ -19,6 +18,5 @@ pub use letters::{
     take_none, tell_injected,
 };
 pub use node::Node;
-pub use records::{ChipRecords, Records};
 pub use routing::Routing;
 pub use senders::{MOST_INJECTED, Senders, with_one};

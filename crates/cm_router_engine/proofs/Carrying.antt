@@ -1,5 +1,5 @@
 -- What tickets do, the messages do that they stand for.
-use Rattle.std.proofs.Common.{◌≡◌, ◌↔◌, ℕ, zero, suc, ◌^◌, List, [], ◌∷◌, length, map, Option, Some, None, IfSome}
+use Rattle.std.proofs.Common.{◌≡◌, ◌↔◌, ℕ, zero, suc, ◌^◌, List, [], ◌∷◌, length, map, Option, Some, None}
 use Rattle.std.proofs.Common.{refl, ap, get_or, ◌<◌, ◌≤◌, ◌++◌, arith}
 use Rattle.std.specs.Prelude.{bit_xor}
 use Rattle.std.specs.List.{All, list_any, range_with_len}
@@ -147,31 +147,27 @@ pub room_for_one : {X : Type 0} (room : ℕ) (xs : List X) (o : Option X) → le
 room_for_one room xs None h = omega (arith, length-append xs [])
 room_for_one room xs (Some x) h = omega (arith, length-append xs (x ∷ []))
 
--- ---- what is true of the numbers of all tickets is still true
+-- ---- each ticket still stands for a message
 
--- tickets with numbers of which this is true
-abbrev pub Have : (ℕ → Type 0) → List Ticket → Type 0
-Have P ts = All (λ t. P t.number) ts
+module _ (count : ℕ) where
+  nobody_kept : HaveMessages count []
+  nobody_kept k d l = absurd (omega arith)
 
-module _ (P : ℕ → Type 0) where
-  pub nobody_has : Have P []
-  nobody_has k d l = absurd (omega arith)
-
-  pub without_have : (ts : List Ticket) (o : Option ℕ) → Have P ts → Have P (without ts o)
-  without_have ts None h = h
-  without_have ts (Some i) h = search (pieces, h)
+  pub without_kept : (ts : List Ticket) (o : Option ℕ) → HaveMessages count ts → HaveMessages count (without ts o)
+  without_kept ts None h = h
+  without_kept ts (Some i) h = search (pieces, h)
 
   -- who leaves, as it arrives across
-  pub leaver_has : (d : ℕ) (ts : List Ticket) (o : Option ℕ) → Have P ts
-      → IfSome (option_map (ticket_across d) (element_at ts o)) (λ t. P t.number)
-  leaver_has d ts None h = tt
-  leaver_has d [] (Some i) h = tt
-  leaver_has d (t ∷ ts) (Some zero) h = h 0 t (omega arith)
-  leaver_has d (t ∷ ts) (Some (suc i)) h = leaver_has d ts (Some i) (λ k e l. h (suc k) e (omega arith))
+  pub leaver_kept : (d : ℕ) (ts : List Ticket) (o : Option ℕ) → HaveMessages count ts
+      → HasMessage count (option_map (ticket_across d) (element_at ts o))
+  leaver_kept d ts None h = tt
+  leaver_kept d [] (Some i) h = tt
+  leaver_kept d (t ∷ ts) (Some zero) h = h 0 t (omega arith)
+  leaver_kept d (t ∷ ts) (Some (suc i)) h = leaver_kept d ts (Some i) (λ k e l. h (suc k) e (omega arith))
 
-  listed_has : (o : Option Ticket) → IfSome o (λ t. P t.number) → Have P (option_to_list o)
-  listed_has None h = nobody_has
-  listed_has (Some t) h = All-cons (λ (x : Ticket). P x.number) t [] h nobody_has
+  listed_kept : (o : Option Ticket) → HasMessage count o → HaveMessages count (option_to_list o)
+  listed_kept None h = nobody_kept
+  listed_kept (Some t) h = All-cons (λ (x : Ticket). x.number < count) t [] h nobody_kept
 
 pub kept_more : (few most : ℕ) (o : Option Ticket) → few ≤ most → HasMessage few o → HasMessage most o
 kept_more few most None h kept = tt
@@ -184,31 +180,31 @@ unfolding tabulate
 All-tabulate P first count f h =
     All-map P f (range_with_len first count) (λ k d l. h (get_or (range_with_len first count) k d))
 
-module _ (cap d : ℕ) (P : ℕ → Type 0) (ways : ℕ → Way) (row : List Message) (old : List (List Ticket))
-    (have : All (Have P) old) where
-  have_at : (c : ℕ) → Have P (nth_or_nil old c)
-  have_at c = all_at (Have P) (nobody_has P) old c have
+module _ (cap d count : ℕ) (ways : ℕ → Way) (row : List Message) (old : List (List Ticket))
+    (kept : All (HaveMessages count) old) where
+  kept_at : (c : ℕ) → HaveMessages count (nth_or_nil old c)
+  kept_at c = all_at (HaveMessages count) (nobody_kept count) old c kept
 
-  pub left_have : (chips : ℕ) → All (Have P) (tabulate 0 chips (λ c. tickets_staying row (ways c) cap d (nth_or_nil old c)))
-  left_have chips = All-tabulate (Have P) 0 chips (λ c. tickets_staying row (ways c) cap d (nth_or_nil old c))
-      (λ c. without_have P (nth_or_nil old c) (place_leaving row (ways c) cap d (nth_or_nil old c)) (have_at c))
+  pub left_kept : (chips : ℕ)
+      → All (HaveMessages count) (tabulate 0 chips (λ c. tickets_staying row (ways c) cap d (nth_or_nil old c)))
+  left_kept chips = All-tabulate (HaveMessages count) 0 chips (λ c. tickets_staying row (ways c) cap d (nth_or_nil old c))
+      (λ c. without_kept count (nth_or_nil old c) (place_leaving row (ways c) cap d (nth_or_nil old c)) (kept_at c))
 
-  pub gone_have : (chips : ℕ) → All (λ o. IfSome o (λ t. P t.number))
-      (tabulate 0 chips (λ c. ticket_leaving row (ways c) cap d (nth_or_nil old c)))
-  gone_have chips = All-tabulate (λ (o : Option Ticket). IfSome o (λ t. P t.number)) 0 chips
-      (λ c. ticket_leaving row (ways c) cap d (nth_or_nil old c))
-      (λ c. leaver_has P d (nth_or_nil old c) (place_leaving row (ways c) cap d (nth_or_nil old c)) (have_at c))
+  pub gone_kept : (chips : ℕ)
+      → All (HasMessage count) (tabulate 0 chips (λ c. ticket_leaving row (ways c) cap d (nth_or_nil old c)))
+  gone_kept chips = All-tabulate (HasMessage count) 0 chips (λ c. ticket_leaving row (ways c) cap d (nth_or_nil old c))
+      (λ c. leaver_kept count d (nth_or_nil old c) (place_leaving row (ways c) cap d (nth_or_nil old c)) (kept_at c))
 
-  pub crossed_have : (n : ℕ) → All (Have P) (each_chip n (λ c. tickets_crossed row (ways c) cap d (nth_or_nil old c)
+  pub crossed_kept : (n : ℕ) → All (HaveMessages count) (each_chip n (λ c. tickets_crossed row (ways c) cap d (nth_or_nil old c)
       (nth_or_nil old (bit_xor c (2 ^ d)))))
-  crossed_have n = All-tabulate (Have P) 0 (2 ^ n)
+  crossed_kept n = All-tabulate (HaveMessages count) 0 (2 ^ n)
       (λ c. tickets_crossed row (ways c) cap d (nth_or_nil old c) (nth_or_nil old (bit_xor c (2 ^ d))))
       (λ c. let there : ℕ = bit_xor c (2 ^ d) in
-      All-append (λ (t : Ticket). P t.number) (tickets_staying row (ways c) cap d (nth_or_nil old c))
+      All-append (λ (t : Ticket). t.number < count) (tickets_staying row (ways c) cap d (nth_or_nil old c))
       (option_to_list (ticket_leaving row (ways c) cap d (nth_or_nil old there)))
-      (without_have P (nth_or_nil old c) (place_leaving row (ways c) cap d (nth_or_nil old c)) (have_at c))
-      (listed_has P (ticket_leaving row (ways c) cap d (nth_or_nil old there))
-      (leaver_has P d (nth_or_nil old there) (place_leaving row (ways c) cap d (nth_or_nil old there)) (have_at there))))
+      (without_kept count (nth_or_nil old c) (place_leaving row (ways c) cap d (nth_or_nil old c)) (kept_at c))
+      (listed_kept count (ticket_leaving row (ways c) cap d (nth_or_nil old there))
+      (leaver_kept count d (nth_or_nil old there) (place_leaving row (ways c) cap d (nth_or_nil old there)) (kept_at there))))
 
 -- ---- nobody stands
 
@@ -220,7 +216,7 @@ module _ (queues : List (List Ticket)) (count : ℕ) (none : queues ≡ tabulate
   none_standing row = rw none (map-tabulate (standing row) 0 count (λ c. []))
 
   pub none_kept : (bound : ℕ) → All (HaveMessages bound) queues
-  none_kept bound = rw none (All-tabulate (HaveMessages bound) 0 count (λ c. []) (λ c. nobody_has (λ n. n < bound)))
+  none_kept bound = rw none (All-tabulate (HaveMessages bound) 0 count (λ c. []) (λ c. nobody_kept bound))
 
   pub none_together : (row : List Message) → All (AreTogether row) queues
   none_together row =

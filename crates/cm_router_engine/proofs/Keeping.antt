@@ -15,14 +15,25 @@ use Rattle.cm_model.specs.Processor.{Processor}
 use Rattle.cm_model.proofs.Leaving.{map-without}
 use Rattle.cm_model.proofs.Scan.{Scan, HandsOver, scan_accepts, scan_keeps}
 use Rattle.cm_slots.specs.declared.ticket.Ticket.{Ticket}
-use Rattle.cm_router_engine.specs.Standing.{no_message, message_of_ticket, standing, HaveMessages, no_ticket}
+use Rattle.cm_router_engine.specs.Standing.{no_message, message_of_ticket, standing, all_standing, HaveMessages, no_ticket}
 use Rattle.cm_router_engine.specs.Standing.{AreTogether, AreLaidOut}
 
--- ---- what is made of each
+-- ---- a longer row
 
-pub map_same : {X Y : Type 0} (f g : X → Y) (xs : List X) → All (λ x. f x ≡ g x) xs → map f xs ≡ map g xs
+map_same : {X Y : Type 0} (f g : X → Y) (xs : List X) → All (λ x. f x ≡ g x) xs → map f xs ≡ map g xs
 map_same f g [] same = refl
 map_same f g (x ∷ xs) same = rw (same 0 x (omega arith), map_same f g xs (All-tail (λ y. f y ≡ g y) x xs same))
+
+pub standing_kept : (row more : List Message) (ts : List Ticket) → HaveMessages (length row) ts
+    → standing (row ++ more) ts ≡ standing row ts
+standing_kept row more ts kept = map_same (message_of_ticket (row ++ more)) (message_of_ticket row) ts
+    (λ k d l. ap (λ (m : Message). record m { rel = (get_or ts k d).rel })
+    (get_or_append_left row more no_message (get_or ts k d).number (kept k d l)))
+
+pub all_standing_kept : (row more : List Message) (queues : List (List Ticket)) → All (HaveMessages (length row)) queues
+    → all_standing (row ++ more) queues ≡ all_standing row queues
+all_standing_kept row more queues kept = map_same (standing (row ++ more)) (standing row) queues
+    (λ k d l. standing_kept row more (get_or queues k d) (kept k d l))
 
 -- ---- messages side by side
 

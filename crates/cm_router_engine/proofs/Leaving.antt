@@ -23,7 +23,7 @@ use Rattle.cm_slots.specs.Tickets.{has_to_go, ticket_going, queue_exchanged}
 use Rattle.cm_router_engine.specs.Standing.{message_of_ticket, standing, all_standing, HaveMessages, HasMessage}
 use Rattle.cm_router_engine.specs.Routed.{ticket_leaving, tickets_staying, tickets_crossed}
 use Rattle.cm_router_engine.proofs.Carrying.{staying-standing, plain_staying, plain_leaving, plain_crossed, mapped_each}
-use Rattle.cm_router_engine.proofs.Carrying.{crossed_standing, left_standing, gone_standing, Have, left_have, gone_have, crossed_have}
+use Rattle.cm_router_engine.proofs.Carrying.{crossed_standing, left_standing, gone_standing, left_kept, gone_kept, crossed_kept}
 use Rattle.cm_router_engine.proofs.Carrying.{All-tabulate, all_at, as_many, room_for_one, standing_at}
 
 -- across a dimension that a run spans a chip stays in it
@@ -180,9 +180,10 @@ module _ (row items : List Message) (same : row ≡ items) (routing : Routing) (
   pub whole_crossed_long : length new ≡ 2 ^ span
   whole_crossed_long = ap length value ∙ length-tabulate 0 (2 ^ span) _
 
-  pub whole_crossed_have : (P : ℕ → Type 0) → All (Have P) old → All (Have P) new
-  whole_crossed_have P have =
-      subst (All (Have P)) (sym kept_value) (crossed_have room d P (λ c. way_of routing (first + c) d) items old have span)
+  pub whole_crossed_kept : All (HaveMessages (length items)) old → All (HaveMessages (length items)) new
+  whole_crossed_kept kept =
+      subst (All (HaveMessages (length items))) (sym kept_value)
+      (crossed_kept room d (length items) (λ c. way_of routing (first + c) d) items old kept span)
 
   pub whole_crossed_within : All (λ ms. length ms ≤ room) buffers → 0 < room
       → All (λ ms. length ms ≤ room) (all_standing items new)
@@ -218,17 +219,17 @@ module _ (row items : List Message) (same : row ≡ items) (routing : Routing) (
       ∙ (λ i. tabulate 0 (many i) (λ c. without (nth_or_nil (are i) c)
       (leaving_place (way_of routing (first + c) d) room d (nth_or_nil (are i) c)))))
 
-  pub whole_left_have : (P : ℕ → Type 0) → All (Have P) old → All (Have P) new
-  whole_left_have P have =
-      subst (All (Have P)) (sym left_value)
-      (left_have room d P (λ c. way_of routing (first + c) d) items old have (length old))
+  pub whole_left_kept : All (HaveMessages (length items)) old → All (HaveMessages (length items)) new
+  whole_left_kept kept =
+      subst (All (HaveMessages (length items))) (sym left_value)
+      (left_kept room d (length items) (λ c. way_of routing (first + c) d) items old kept (length old))
 
   pub whole_gone_kept : (gone : List (Option Ticket)) → gone ≡ tabulate 0 (length old)
       (λ c. ticket_leaving row (way_of routing (first + c) d) room d (nth_or_nil old c)) → All (HaveMessages (length items)) old
       → All (HasMessage (length row)) gone
   whole_gone_kept gone leaving kept =
       subst (All (HasMessage (length row))) (sym leaving)
-      (gone_have room d (λ n. n < length row) (λ c. way_of routing (first + c) d) row old (rw same kept) (length old))
+      (gone_kept room d (length row) (λ c. way_of routing (first + c) d) row old (rw same kept) (length old))
 
   pub whole_gone : (gone : List (Option Ticket)) → gone ≡ tabulate 0 (length old)
       (λ c. ticket_leaving row (way_of routing (first + c) d) room d (nth_or_nil old c))

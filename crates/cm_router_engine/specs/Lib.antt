@@ -1,5 +1,3 @@
 pub mod Standing
 pub mod Ranking
 pub mod Routed
-pub mod Free
-pub mod Engine

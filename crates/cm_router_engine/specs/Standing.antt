@@ -1,7 +1,8 @@
 -- Which messages stand at the chips, where tickets cross in their place. Ours.
-use Rattle.std.specs.Prelude.{◌≡◌, ℕ, ◌+◌, ◌<◌, ◌≤◌, ◌++◌, Bool, true, List, length, map, Option, IfSome}
-use Rattle.std.specs.Prelude.{slice_index_or, slice_set}
+use Rattle.std.specs.Prelude.{◌≡◌, ℕ, ◌+◌, ◌*◌, ◌<◌, ◌≤◌, ◌++◌, Bool, IsTrue, true, List, length, map, Vec, Option, IfSome}
+use Rattle.std.specs.Prelude.{slice_index_or, slice_set, vec_len, vec_capacity}
 use Rattle.std.specs.List.{All, slice_range}
+use Rattle.std.specs.declared.alloc.Global.{Global}
 use Rattle.cm_model.specs.declared.message.Message.{Message}
 use Rattle.cm_model.specs.declared.message.Tag.{Tag}
 use Rattle.cm_model.specs.Router.{is_older}
@@ -80,3 +81,20 @@ tag_at row i = (slice_index_or row i no_message).tag
 pub record AreByAge (row : List Message) (count : ℕ) : Type 0 where
   pub within : count ≤ length row
   pub each : (i j : ℕ) → i < j → j < count → is_older (tag_at row i) (tag_at row j) ≡ true
+
+-- ---- all that is kept
+
+-- at most 4,096 chips, and 15 places of the row for each, and four more, in two rows in turn;
+-- each ticket stands for a message; a row of leavers; and so many first messages stand in the order of age
+pub record IsRouterEngine (row spare : Vec Message Global) (places : ℕ) (queues : List (List Ticket))
+    (leavers : Vec (Option Ticket) Global) (gathered : Bool) (risen : ℕ) : Type 0 where
+  pub few : length queues ≤ 4096
+  pub enough : 15 * length queues + 4 ≤ places
+  pub most : places ≤ 65535
+  pub capacity : places ≤ vec_capacity row
+  pub spare_capacity : places ≤ vec_capacity spare
+  pub filled : vec_len row ≤ places
+  pub rows : length leavers.items ≡ length queues
+  pub kept : All (HaveMessages (length row.items)) queues
+  pub together : IsTrue gathered → All (AreTogether row.items) queues
+  pub rising : AreByAge row.items risen

@@ -3,7 +3,6 @@
 #![tactic(auto)]
 
 mod choosing;
-mod free_places;
 mod ranking;
 mod routed;
 mod router_engine;

@@ -1,7 +1,7 @@
 //! The messages of a run of chips.
 
 ghost use Rattle.std.specs.Prelude.{◌≡◌, ◌↔◌, ℕ, ◌+◌, ◌*◌, ◌%◌, ◌^◌, ◌<◌, ◌≤◌, ◌++◌, ◌⊎◌, [], ◌∷◌, IfOk, IsTrue};
-ghost use Rattle.std.specs.Prelude.{IsFalse, length, map, min, None, true, false};
+ghost use Rattle.std.specs.Prelude.{length, map, min, None, true, false};
 ghost use Rattle.std.specs.Prelude.{slice_set, slice_index_or, bit_xor, vec_len, vec_capacity};
 ghost use Rattle.std.specs.List.{All, list_any};
 ghost use Rattle.std.specs.Option.{option_to_list};
@@ -17,19 +17,17 @@ ghost use Rattle.cm_model.specs.OneChip.{taken_here, sent_here, delivered_here, 
 ghost use Rattle.cm_router.specs.Deliveries.{run_after, AreBefore};
 ghost use Rattle.cm_router.specs.Idle.{IsPassedOver};
 ghost use Rattle.cm_router.specs.Logs.{log_room};
-ghost use Rattle.cm_router.specs.Records.{AreRecords};
 ghost use Rattle.cm_router.specs.Routes.{routing_of};
 
-use crate::free_places::{find_free, words_for};
 use crate::ranking::{rearrange, renumber, risen_to, sort_numbers};
 use crate::routed::{cross, leave};
 use crate::row::{collect, compact, deliver_at, read_out, stand, store_injected};
 use cm_bits::{NoMemory, Plane};
-use cm_element::Run;
+use cm_element::{ChipView, Run};
 use cm_message::{Event, Message, Rule};
 use cm_router::{
-    ChipRecords, Deliveries, MOST_INJECTED, Records, Routing, Senders, acknowledge, asking,
-    chip_asks, chip_is_acknowledged, take_none,
+    Deliveries, MOST_INJECTED, Routing, Senders, acknowledge, asking, chip_asks,
+    chip_is_acknowledged, take_none,
 };
 use cm_slots::{Shape, Ticket, TicketQueues};
 use std::alloc::Global;
@@ -39,32 +37,22 @@ use std::mem;
 /// Most places of the row: as many as tickets can tell.
 const MOST_PLACES: usize = 65535;
 
-/// So many messages for each chip the row has before places are looked for.
-const FIRST_LIMIT: usize = 4;
-
-/// Where fewer places are found than this part of the limit, looking for them cost too much: the limit is doubled.
-const WORTH: usize = 8;
-
 /// So many dimensions, a petit cycle of the largest machine, are crossed chip by chip before the row is put in the
 /// order of age: this takes twice as long, and a list that ends before has no use for it.
 const PATIENCE: u8 = 12;
 
 /// The messages of a run of chips, for as long as these live (ours). A message stays where it is kept; what
-/// crosses is a ticket, the relative address and the place of the message. Where places run out, those of messages that
-/// were delivered are given again. Where its chip's messages are to be read as one slice, and where no place is left,
-/// all are gathered into a second row, which takes the place of the first.
+/// crosses is a ticket, the relative address and the place of the message. Where its chip's messages are to
+/// be read as one slice, and where places run out, all are gathered into a second row, which takes the
+/// place of the first.
 #[derive(Debug, Drop)]
 pub struct RouterEngine {
     /// The messages as they were when they got their tickets; some may have been delivered.
     row: Vec<Message>,
-    /// Numbers of places of the row that no ticket tells: these are given first, from the last on.
-    free: Vec<u16>,
     /// Room for as many, for the next time that all are gathered.
     spare: Vec<Message>,
     /// Most messages that the row may have.
     places: usize,
-    /// From so many messages of the row on, places are looked for before the row gets longer, so that it stays near.
-    limit: usize,
     /// By chip, the tickets of the messages that stand there.
     slots: TicketQueues,
     /// Between the halves of a dimension that leads out of these chips, who leaves each; else anything.
@@ -80,25 +68,22 @@ pub struct RouterEngine {
     keys: Vec<u128>,
     /// Room for where each message goes when they are put in order.
     moved: Vec<u16>,
-    /// Room for a mark for each place, which tells whether it has a ticket.
-    marks: Vec<u64>,
 }
 
 impl Model for RouterEngine {
-    ghost use Rattle.std.specs.Prelude.{◌+◌, ◌-◌, length, vec_len};
-    ghost use Rattle.cm_router_engine.specs.Standing.{InFlight, all_standing};
-    ghost use Rattle.cm_router_engine.specs.Engine.{IsRouterEngine};
+    ghost use Rattle.std.specs.Prelude.{◌-◌, vec_len};
+    ghost use Rattle.cm_router_engine.specs.Standing.{InFlight, all_standing, IsRouterEngine};
 
     ghost Value = { InFlight };
 
     ghost view = { λ crossing. record {
       buffers = all_standing crossing.row.items crossing.slots;
-      free = length crossing.free.items + (crossing.places - vec_len crossing.row);
+      free = crossing.places - vec_len crossing.row;
       gathered = crossing.gathered;
     } };
 
-    ghost invariant = { λ crossing. IsRouterEngine crossing.row crossing.free crossing.spare crossing.places
-        crossing.slots crossing.leavers crossing.gathered crossing.risen };
+    ghost invariant = { λ crossing. IsRouterEngine crossing.row crossing.spare crossing.places crossing.slots
+        crossing.leavers crossing.gathered crossing.risen };
 }
 
 impl RouterEngine {
@@ -112,19 +97,15 @@ impl RouterEngine {
     {
         let places = MOST_PLACES.min(32 * chips + MOST_INJECTED);
         let row = Vec::with_capacity(alloc, places)?;
-        let free = Vec::with_capacity(alloc, places)?;
         let spare = Vec::with_capacity(alloc, places)?;
         let slots = TicketQueues::new(alloc, chips)?;
         let leavers = no_leavers(alloc, chips)?;
         let keys = Vec::with_capacity(alloc, places)?;
         let moved = Vec::with_capacity(alloc, places)?;
-        let marks = Vec::with_capacity(alloc, words_for(places))?;
         Ok(RouterEngine {
             row,
-            free,
             spare,
             places,
-            limit: FIRST_LIMIT * chips,
             slots,
             leavers,
             gathered: true,
@@ -132,7 +113,6 @@ impl RouterEngine {
             waited: 0,
             keys,
             moved,
-            marks,
         })
     }
 
@@ -142,20 +122,15 @@ impl RouterEngine {
     {
         let mut row = Vec::with_capacity(alloc, self.places)?;
         row.extend_from_slice(&self.row)?;
-        let mut free = Vec::with_capacity(alloc, self.places)?;
-        free.extend_from_slice(&self.free)?;
         let spare = Vec::with_capacity(alloc, self.places)?;
         let slots = self.slots.copy(alloc)?;
         let leavers = no_leavers(alloc, self.slots.chips())?;
         let keys = Vec::with_capacity(alloc, self.places)?;
         let moved = Vec::with_capacity(alloc, self.places)?;
-        let marks = Vec::with_capacity(alloc, words_for(self.places))?;
         Ok(RouterEngine {
             row,
-            free,
             spare,
             places: self.places,
-            limit: self.limit,
             slots,
             leavers,
             gathered: self.gathered,
@@ -163,7 +138,6 @@ impl RouterEngine {
             waited: 0,
             keys,
             moved,
-            marks,
         })
     }
 
@@ -226,7 +200,6 @@ impl RouterEngine {
     {
         compact(&self.row, &mut self.spare, &mut self.slots);
         mem::swap(&mut self.row, &mut self.spare);
-        self.free.clear();
         self.gathered = true;
         self.risen = 0;
         self.waited = 0;
@@ -237,41 +210,8 @@ impl RouterEngine {
         ensures value { self.new.buffers ≡ self.old.buffers }
         ensures free { 4 ≤ self.new.free }
     {
-        if self.free.len() < MOST_INJECTED {
-            self.make_more_places();
-        }
-    }
-
-    /// The same where few are known to be free.
-    fn make_more_places(&mut self)
-        ensures value { self.new.buffers ≡ self.old.buffers }
-        ensures free { 4 ≤ self.new.free }
-    {
-        if self.row.len() >= self.limit {
-            self.find_free();
-        }
-        if self.has_few_places() {
+        if self.places - self.row.len() < MOST_INJECTED {
             self.gather_anew();
-        }
-    }
-
-    /// Whether there are fewer places than a chip may need at once.
-    fn has_few_places(&self) -> bool
-        ensures few { IsFalse result → 4 ≤ self.now.free }
-    {
-        self.free.len() + (self.places - self.row.len()) < MOST_INJECTED
-    }
-
-    /// Finds out which places of the row no ticket tells. But where messages have crossed by age since all were
-    /// gathered, new ones stand behind all others for as long as there are places, so that the row stays in that order.
-    fn find_free(&mut self)
-        ensures value { self.new.buffers ≡ self.old.buffers }
-    {
-        if self.risen == 0 && self.waited == 0 {
-            find_free(&self.slots, self.row.len(), &mut self.marks, &mut self.free);
-        }
-        if self.free.len() < self.limit / WORTH {
-            self.limit = self.places.min(self.limit.saturating_mul(2));
         }
     }
 
@@ -281,7 +221,6 @@ impl RouterEngine {
         ensures gathered { IsTrue self.new.gathered }
     {
         self.row.clear();
-        self.free.clear();
         self.slots.clear();
         self.gathered = true;
         self.risen = 0;
@@ -307,13 +246,7 @@ impl RouterEngine {
         ensures value { self.new.buffers
             ≡ slice_set self.old.buffers chip (nth_or_nil self.old.buffers chip ++ message.now ∷ []) }
     {
-        stand(
-            &mut self.row,
-            &mut self.free,
-            &mut self.slots,
-            chip,
-            message,
-        );
+        stand(&mut self.row, &mut self.slots, chip, message);
         self.gathered = false;
     }
 
@@ -323,7 +256,7 @@ impl RouterEngine {
         &mut self,
         at: usize,
         senders: Senders,
-        chip: &ChipRecords<'_>,
+        chip: &ChipView<'_>,
         here: u16,
         dims: u8,
         clock: u64,
@@ -345,7 +278,6 @@ impl RouterEngine {
         self.gathered = false;
         store_injected(
             &mut self.row,
-            &mut self.free,
             &mut self.slots,
             at,
             senders,
@@ -411,12 +343,11 @@ impl RouterEngine {
 
     /// At one chip, takes in messages of the processors that ask to send, by number, at most four and
     /// at most as many as there is room for. The log tells of each. The chip stands at place `chip` here and in
-    /// the run; `here` is its number in the machine. The records go from chip to chip.
+    /// the run; `here` is its number in the machine.
     pub fn inject(
         &mut self,
         sizes: Shape,
         run: &mut Run,
-        records: &mut Records,
         chip: u16,
         here: u16,
         clock: u64,
@@ -424,7 +355,6 @@ impl RouterEngine {
     )
         requires chip { chip < length self.old.buffers }
         requires run { length run.old ≡ length self.old.buffers }
-        requires records { AreRecords records.old run.old }
         requires within { All (λ ms. length ms ≤ sizes.room) self.old.buffers }
         requires log_room { 4 ≤ log_room log.old }
         ensures value { self.new.buffers ≡ slice_set self.old.buffers chip (nth_or_nil self.old.buffers chip
@@ -433,7 +363,6 @@ impl RouterEngine {
             (taken_here sizes.room (nth_or_nil self.old.buffers chip) (chip_at run.old chip)) (chip_at run.old chip)) }
         ensures log { log.new.items ≡ log.old.items ++ map event.Injected
             (sent_here sizes.dims sizes.room clock here (nth_or_nil self.old.buffers chip) (chip_at run.old chip)) }
-        ensures records { AreRecords records.new run.new }
         ensures len { vec_len log.new ≤ vec_len log.old + 4 }
         ensures capacity { vec_capacity log.old ≤ vec_capacity log.new }
         ensures within { All (λ ms. length ms ≤ sizes.room) self.new.buffers }
@@ -447,9 +376,7 @@ impl RouterEngine {
         let asking = asking(run, chip);
         let senders = Senders::first(asking, room);
         self.make_places();
-        records.look(run, chip);
-        let chip_records = records.of(run, chip);
-        let taken = self.store_injected(at, senders, &chip_records, here, sizes.dims, clock, log);
+        let taken = self.store_injected(at, senders, &run.view(chip), here, sizes.dims, clock, log);
         acknowledge(run, chip, asking, taken);
     }
 
@@ -489,12 +416,10 @@ impl RouterEngine {
         }
     }
 
-    /// Looks how many of the first messages of the row stand in the order of age. So that they stay in it, no place
-    /// among them is given again.
+    /// Looks how many of the first messages of the row stand in the order of age.
     fn look_at_order(&mut self)
-        ensures value { self.new.buffers ≡ self.old.buffers }
+        ensures value { self.new ≡ self.old }
     {
-        self.free.clear();
         self.risen = risen_to(&self.row, self.risen);
     }
 
@@ -506,7 +431,6 @@ impl RouterEngine {
         if rearrange(&self.row, &self.keys, &mut self.spare, &mut self.moved) {
             renumber(&mut self.slots, &self.moved);
             mem::swap(&mut self.row, &mut self.spare);
-            self.free.clear();
             self.gathered = false;
             self.risen = 0;
         }

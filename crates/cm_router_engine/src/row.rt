@@ -1,6 +1,6 @@
 //! The row in which messages stay, and the tickets for them.
 
-ghost use Rattle.std.specs.Prelude.{◌≡◌, ℕ, ◌+◌, ◌-◌, ◌*◌, ◌<◌, ◌≤◌, ◌++◌, ◌∷◌, [], length, map, slice_set, vec_len};
+ghost use Rattle.std.specs.Prelude.{◌≡◌, ℕ, ◌+◌, ◌*◌, ◌<◌, ◌≤◌, ◌++◌, ◌∷◌, [], length, map, slice_set, vec_len};
 ghost use Rattle.std.specs.Prelude.{vec_capacity, List, Some, false, IsFalse, if◌then◌else◌};
 ghost use Rattle.std.specs.List.{All, slice_get};
 ghost use Rattle.std.specs.Option.{option_map};
@@ -13,18 +13,16 @@ ghost use Rattle.cm_model.specs.Letters.{can_receive, chip_after_delivery, is_am
 ghost use Rattle.cm_model.specs.Array.{Chips, chip_at, nth_or_nil};
 ghost use Rattle.cm_router_engine.specs.Standing.{message_of_ticket, standing, all_standing, HaveMessages, AreTogether};
 ghost use Rattle.cm_model.specs.OneChip.{delivered_here, kept_here};
-ghost use Rattle.cm_router_engine.specs.Free.{HaveNoneOf, AreFree, HasGiven};
 ghost use Rattle.cm_router_engine.specs.Standing.{HasMessage, IsWritten, AreLaidOut};
 ghost use Rattle.cm_router.specs.Deliveries.{chip_handed, run_after, AreBefore};
 ghost use Rattle.cm_router.specs.Logs.{log_room};
 ghost use Rattle.cm_slots.specs.declared.ticket.Ticket.{Ticket};
 
-use crate::free_places::keep;
 use cm_bits::Plane;
-use cm_element::Run;
+use cm_element::{ChipView, Run};
 use cm_message::{Event, Message};
 use cm_router::{
-    ChipRecords, Deliveries, Senders, receives, tell_injected, who_has_not_arrived_is_kept,
+    Deliveries, Senders, message_sent, receives, tell_injected, who_has_not_arrived_is_kept,
     with_one,
 };
 use cm_slots::{Ticket, TicketQueues};
@@ -61,7 +59,7 @@ fn carry_over(row: &[Message], spare: &mut Vec<Message>, slots: &mut TicketQueue
     let mut place = 0;
     while let Some(ticket) = slots.ticket(here, place) {
         let message = message_of(row, ticket);
-        let number = put_last(spare, &message);
+        let number = keep(spare, &message);
         slots.replace(
             here,
             place,
@@ -91,45 +89,38 @@ pub(crate) fn read_out<'a>(row: &'a [Message], slots: &TicketQueues, here: usize
 /// log tells of each. A message goes to both as it is made: read back from one of them it would wait there.
 pub(crate) fn store_injected(
     row: &mut Vec<Message>,
-    free: &mut Vec<u16>,
     slots: &mut TicketQueues,
     at: usize,
     mut senders: Senders,
-    chip: &ChipRecords<'_>,
+    chip: &ChipView<'_>,
     here: u16,
     dims: u8,
     clock: u64,
     log: &mut Vec<Event>,
 ) -> Plane
     requires at { at < length slots.old }
-    requires most { vec_len row.old ≤ 65535 }
-    requires few { vec_len row.old + length senders ≤ 65535 + length free.old.items }
-    requires capacity { vec_len row.old + length senders ≤ vec_capacity row.old + length free.old.items }
-    requires free { AreFree (length row.old.items) free.old.items }
+    requires few { vec_len row.old + length senders ≤ 65535 }
+    requires capacity { vec_len row.old + length senders ≤ vec_capacity row.old }
     requires kept { HaveMessages (length row.old.items) (nth_or_nil slots.old at) }
-    requires apart { HaveNoneOf free.old.items (nth_or_nil slots.old at) }
     requires room { length (nth_or_nil slots.old at) + length senders ≤ 15 }
     requires dims { dims ≤ 12 }
     requires log_room { length senders ≤ log_room log.old }
     ensures taken { IsPlane result (λ p. is_among p senders) }
-    ensures row { HasGiven row.old.items free.old.items row.new.items free.new.items }
-    ensures free { AreFree (length row.new.items) free.new.items }
+    ensures items { row.new.items ≡ row.old.items ++ messages_sent dims clock here chip.now senders }
     ensures value { standing row.new.items (nth_or_nil slots.new at)
         ≡ standing row.old.items (nth_or_nil slots.old at) ++ messages_sent dims clock here chip.now senders }
     ensures kept { HaveMessages (length row.new.items) (nth_or_nil slots.new at) }
-    ensures apart { HaveNoneOf free.new.items (nth_or_nil slots.new at) }
     ensures others { IsWritten at slots.old slots.new }
     ensures log { log.new.items ≡ log.old.items ++ map event.Injected (messages_sent dims clock here chip.now senders) }
     ensures log_len { vec_len log.new ≡ vec_len log.old + length senders }
     ensures log_capacity { vec_capacity log.old ≤ vec_capacity log.new }
-    ensures len { vec_len row.new ≡ vec_len row.old + (length senders - length free.old.items) }
-    ensures free_len { length free.new.items ≡ length free.old.items - length senders }
+    ensures len { vec_len row.new ≡ vec_len row.old + length senders }
     ensures capacity { vec_capacity row.old ≤ vec_capacity row.new }
 {
     let mut taken: Plane = 0;
     while let Some(proc) = senders.next() {
-        let sent = chip.message_sent(proc, here, dims, clock);
-        stand(row, free, slots, at, &sent);
+        let sent = message_sent(chip, proc, here, dims, clock);
+        stand(row, slots, at, &sent);
         tell_injected(log, &sent);
         taken = with_one(taken, proc);
     }
@@ -139,32 +130,25 @@ pub(crate) fn store_injected(
 /// A message gets a place in the row, and stands last at its chip.
 pub(crate) fn stand(
     row: &mut Vec<Message>,
-    free: &mut Vec<u16>,
     slots: &mut TicketQueues,
     here: usize,
     message: &Message,
 )
     requires here { here < length slots.old }
-    requires most { vec_len row.old ≤ 65535 }
-    requires few { vec_len row.old < 65535 + length free.old.items }
-    requires capacity { vec_len row.old < vec_capacity row.old + length free.old.items }
-    requires free { AreFree (length row.old.items) free.old.items }
+    requires few { vec_len row.old < 65535 }
+    requires capacity { vec_len row.old < vec_capacity row.old }
     requires kept { HaveMessages (length row.old.items) (nth_or_nil slots.old here) }
-    requires apart { HaveNoneOf free.old.items (nth_or_nil slots.old here) }
     requires room { length (nth_or_nil slots.old here) < 15 }
-    ensures row { HasGiven row.old.items free.old.items row.new.items free.new.items }
-    ensures free { AreFree (length row.new.items) free.new.items }
+    ensures items { row.new.items ≡ row.old.items ++ message.now ∷ [] }
     ensures value { standing row.new.items (nth_or_nil slots.new here)
         ≡ standing row.old.items (nth_or_nil slots.old here) ++ message.now ∷ [] }
     ensures kept { HaveMessages (length row.new.items) (nth_or_nil slots.new here) }
-    ensures apart { HaveNoneOf free.new.items (nth_or_nil slots.new here) }
     ensures others { IsWritten here slots.old slots.new }
     ensures long { length (nth_or_nil slots.new here) ≡ length (nth_or_nil slots.old here) + 1 }
-    ensures len { vec_len row.new ≡ vec_len row.old + (1 - length free.old.items) }
-    ensures free_len { length free.new.items ≡ length free.old.items - 1 }
+    ensures len { vec_len row.new ≡ vec_len row.old + 1 }
     ensures capacity { vec_capacity row.old ≤ vec_capacity row.new }
 {
-    let number = keep(row, free, message);
+    let number = keep(row, message);
     slots.arrive(
         here,
         Ticket {
@@ -174,8 +158,8 @@ pub(crate) fn stand(
     );
 }
 
-/// Keeps a message behind all others of the row, and tells its place there.
-pub(crate) fn put_last(row: &mut Vec<Message>, message: &Message) -> u16
+/// Keeps a message in the row, and tells its place there.
+fn keep(row: &mut Vec<Message>, message: &Message) -> u16
     requires few { vec_len row.old < 65535 }
     requires room { vec_len row.old < vec_capacity row.old }
     ensures number { result ≡ length row.old.items }
@@ -222,8 +206,6 @@ pub(crate) fn deliver_at(
     ensures value { standing row.now (nth_or_nil slots.new chip)
         ≡ kept_here (standing row.now (nth_or_nil slots.old chip)) (chip_at (run_after deliveries.old run.now) chip) }
     ensures kept { HaveMessages (length row.now) (nth_or_nil slots.new chip) }
-    ensures apart { (free : List ℕ) → HaveNoneOf free (nth_or_nil slots.old chip)
-        → HaveNoneOf free (nth_or_nil slots.new chip) }
     ensures fewer { length (nth_or_nil slots.new chip) ≤ length (nth_or_nil slots.old chip) }
     ensures others { IsWritten chip slots.old slots.new }
     ensures chip { run_after deliveries.new run.now ≡ slice_set (run_after deliveries.old run.now) chip

@@ -1,7 +1,7 @@
 -- Where a message has to cross a dimension over a whole wire, it crosses or another of its chip does.
-use Rattle.std.proofs.Common.{◌≡◌, ℕ, zero, suc, ◌<◌, ◌≤◌, ◌&&◌, Bool, true, false, not, cond, ltb, List, [], ◌∷◌, Option}
+use Rattle.std.proofs.Common.{◌≡◌, ℕ, zero, suc, ◌<◌, ◌≤◌, ◌&&◌, Bool, true, false, not, cond, List, [], ◌∷◌, Option}
 use Rattle.std.proofs.Common.{Some, None, is_some, IsSomeAnd, length, get_or, slice_get, position, if◌then◌else◌}
-use Rattle.std.proofs.Common.{refl, sym, ap, subst, ◌∙◌, ⊎_elim, arith}
+use Rattle.std.proofs.Common.{refl, sym, ap, ◌∙◌, ⊎_elim, arith}
 use Rattle.std.proofs.lemmas.Bool.{cases_Bool, cases_lt, lt-ltb}
 use Rattle.std.proofs.lemmas.List.Sums.{fails_before_first}
 use Rattle.std.specs.List.{position_or_len}
@@ -18,7 +18,6 @@ use Rattle.cm_model.specs.Buffers.{element_at, one_behind, is_older_one, oldest_
 use Rattle.cm_model.specs.Buffers.{leaving_place, outgoing, sent_across}
 use Rattle.cm_model.specs.Found.{same_tag}
 use Rattle.cm_model.proofs.Places.{element_at-one_behind}
-use Rattle.lab_route.specs.declared.waits.Wait.{Wait}
 use Rattle.lab_route.specs.declared.waits.Wait.TheVariants.{Cut, Behind}
 use Rattle.lab_route.specs.declared.whereabouts.Stand.{Stand}
 use Rattle.lab_route.specs.Waits.{wait_at, wait_behind}

@@ -14,3 +14,8 @@ pub if_err : {A E : Type 0} {P Q : E → Type 0} (result : Result A E) → ((e :
     → IfErr result P
 if_err (Ok x) so q = tt
 if_err (Err e) so q = so e q
+
+-- what holds anyway
+pub ok_anyway : {A E P : Type 0} (result : Result A E) → P → OnOk result P
+ok_anyway (Ok x) p = p
+ok_anyway (Err e) p = tt

@@ -2,3 +2,4 @@ pub mod Crossing
 pub mod Following
 pub mod Routing
 pub mod Searching
+mod Followed

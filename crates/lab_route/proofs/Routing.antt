@@ -4,7 +4,7 @@ use Rattle.std.proofs.Common.{if◌then◌else◌}
 use Rattle.std.specs.Prelude.{nat_lt}
 use Rattle.cm_model.specs.declared.act.Act.{Act}
 use Rattle.cm_model.specs.declared.message.Tag.{Tag}
-use Rattle.cm_model.specs.Machine.{Machine, run_of}
+use Rattle.cm_model.specs.Machine.{run_of}
 use Rattle.lab_route.specs.declared.routes.Excerpt.{Excerpt}
 use Rattle.lab_route.specs.declared.routes.RouteFault.{RouteFault}
 use Rattle.lab_route.specs.declared.routes.RouteFault.TheVariants.{Clock}

@@ -3,3 +3,4 @@ pub mod RouteLines
 pub mod Routes
 pub mod Waits
 pub mod Whereabouts
+pub mod Followed

@@ -1,5 +1,5 @@
 -- Why a message stays at its chip in a petit cycle: step by step of the cycle, from the machine before the step. Ours.
-use Rattle.std.specs.Prelude.{ℕ, ◌&&◌, Bool, Option, Some, None, List, [], ◌∷◌, ◌++◌, map, if◌then◌else◌}
+use Rattle.std.specs.Prelude.{ℕ, ◌&&◌, Bool, Option, Some, None, List, ◌∷◌, ◌++◌, map, if◌then◌else◌}
 use Rattle.std.specs.List.{find, flat_map, range_with_len}
 use Rattle.std.specs.Option.{option_to_list}
 use Rattle.cm_model.specs.declared.message.Message.{Message}

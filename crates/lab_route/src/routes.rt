@@ -1,8 +1,11 @@
 //! The route of one message, petit cycle by petit cycle.
 
-ghost use Rattle.std.specs.Prelude.{◌≡◌, ◌≢◌, ◌≤◌, ◌++◌, ◌∷◌, [], Ok, Err, IfOk, IfErr, OnOk};
+ghost use Rattle.std.specs.Prelude.{◌≡◌, ◌≢◌, ◌≤◌, ◌++◌, ◌∷◌, [], Ok, Err, IfOk, IfErr, OnOk, length};
+ghost use Rattle.std.specs.Option.{is_some};
 ghost use Rattle.cm_model.specs.declared.act.Act.TheVariants as act;
 ghost use Rattle.lab_machine.specs.Machines.{lab_after};
+ghost use Rattle.lab_study.specs.Watching.{WasTold};
+ghost use Rattle.lab_route.specs.Followed.{act_delivers, acts_followed};
 ghost use Rattle.lab_route.specs.RouteLines.{stand_line};
 ghost use Rattle.lab_route.specs.Routes.{route_preceded_by, origin, route_text_then, act_then, TellsRoute};
 ghost use Rattle.lab_route.specs.Routes.{excerpt_line, no_message_fault, waits_told};
@@ -80,6 +83,8 @@ pub fn route<W: Watch>(
         route_of machine.old.n machine.old.cap excerpt tag machine.old.machine acts.now ≡ Ok text.items) }
     ensures refused { IfErr result (λ fault. fault ≢ RouteFault.Memory
         → route_of machine.old.n machine.old.cap excerpt tag machine.old.machine acts.now ≡ Err fault) }
+    ensures told { OnOk result (WasTold W.sees (length acts.now) watch.old
+        (acts_followed machine.old.n machine.old.cap excerpt tag machine.old.machine acts.now) watch.new) }
 {
     let chips = machine.chips();
     if tag.chip >= chips {
@@ -114,6 +119,8 @@ fn follow(
     ensures machine { OnOk result (machine.new ≡ lab_after machine.old act.now) }
     ensures text { IfOk result (TellsRoute (λ rest. act_then machine.old.n machine.old.cap excerpt.now tag.now act.now
         machine.old.machine machine.new.machine rest) text.old.items text.new.items) }
+    ensures over { IfOk result (λ over. over
+        ≡ act_delivers machine.old.n tag.now act.now machine.old.machine machine.new.machine) }
 {
     match act {
         Act::Cycle => follow_cycle(alloc, machine, excerpt, tag, text),
@@ -150,6 +157,8 @@ fn follow_cycle(
     ensures machine { OnOk result (machine.new ≡ lab_after machine.old act.Cycle) }
     ensures text { IfOk result (TellsRoute (λ rest. act_then machine.old.n machine.old.cap excerpt.now tag.now act.Cycle
         machine.old.machine machine.new.machine rest) text.old.items text.new.items) }
+    ensures over { IfOk result (λ over. over
+        ≡ act_delivers machine.old.n tag.now act.Cycle machine.old.machine machine.new.machine) }
 {
     let clock = machine.clock();
     let from = origin(tag, stand_in(machine, tag));
@@ -203,6 +212,7 @@ fn tell(
     requires dims { dims ≤ 12 }
     ensures text { IfOk result (TellsRoute (λ rest. route_text_then dims excerpt.now passage.now.clock passage.now.from
         passage.now.delivery passage.now.stand passage.now.waits.items rest) text.old.items text.new.items) }
+    ensures over { IfOk result (λ over. over ≡ is_some passage.now.delivery) }
 {
     if let Some(place) = passage.delivery {
         push_delivery(text, dims, passage.clock, passage.from, place)?;

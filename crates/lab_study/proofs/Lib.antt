@@ -7,3 +7,4 @@ pub mod Rounds
 pub mod Sending
 pub mod Sums
 pub mod ToldRounds
+pub mod Watched

@@ -8,3 +8,4 @@ pub mod Study
 pub mod StudyLaws
 pub mod Tables
 pub mod Traces
+pub mod Watching

@@ -8,6 +8,7 @@ ghost use Rattle.lab_study.specs.Holdings.{holdings, event_count};
 ghost use Rattle.lab_study.specs.Repeats.{no_calm, times_before, place_of, is_at_its_chip, come_count, round_line};
 ghost use Rattle.lab_study.specs.Repeats.{repeat_text, calm_to, cycle_repeat, calm_after_cycle, act_repeat, calm_after};
 ghost use Rattle.lab_study.specs.Repeats.{repeats_header, repeats_table};
+ghost use Rattle.lab_study.specs.Watching.{WasTold};
 
 use crate::holdings::{Held, are_same_holdings, event_count, holdings};
 use crate::studies::{StudyFault, lacks_room};
@@ -246,6 +247,7 @@ pub fn repeats<W: Watch>(
         repeats_table machine.old.n machine.old.cap machine.old.machine acts.now ≡ Ok text.items) }
     ensures refused { IfErr result (λ fault. fault ≢ StudyFault.Memory
         → repeats_table machine.old.n machine.old.cap machine.old.machine acts.now ≡ Err fault) }
+    ensures told { OnOk result (WasTold W.sees (length acts.now) watch.old (length acts.now) watch.new) }
 {
     let mut text = header(alloc)?;
     let mut calm = Calm::none(alloc);

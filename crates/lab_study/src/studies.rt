@@ -1,8 +1,9 @@
 //! A study of a program.
 
-ghost use Rattle.std.specs.Prelude.{◌≡◌, ◌≢◌, ◌^◌, ◌-◌, Ok, Err, IfOk, IfErr};
+ghost use Rattle.std.specs.Prelude.{◌≡◌, ◌≢◌, ◌^◌, ◌-◌, Ok, Err, IfOk, IfErr, OnOk, length};
 ghost use Rattle.lab_study.specs.Studies.{study_table};
 ghost use Rattle.lab_study.specs.Study.{table_header, act_lacks_room, lines_table};
+ghost use Rattle.lab_study.specs.Watching.{WasTold};
 
 use crate::known::Known;
 use crate::repeating::repeats;
@@ -64,6 +65,7 @@ pub fn study<W: Watch>(
         study_table machine.old.n machine.old.cap table machine.old.machine acts.now ≡ Ok text.items) }
     ensures refused { IfErr result (λ fault. fault ≢ StudyFault.Memory
         → study_table machine.old.n machine.old.cap table machine.old.machine acts.now ≡ Err fault) }
+    ensures told { OnOk result (WasTold W.sees (length acts.now) watch.old (length acts.now) watch.new) }
 {
     match table {
         Table::Cycles => study_lines(alloc, machine, acts, LinesOf::Cycles, watch),
@@ -84,6 +86,7 @@ fn study_lines<W: Watch>(
         lines_table machine.old.n machine.old.cap table machine.old.machine acts.now ≡ Ok text.items) }
     ensures refused { IfErr result (λ fault. fault ≢ StudyFault.Memory
         → lines_table machine.old.n machine.old.cap table machine.old.machine acts.now ≡ Err fault) }
+    ensures told { OnOk result (WasTold W.sees (length acts.now) watch.old (length acts.now) watch.new) }
 {
     let mut text = opening_text(alloc, table)?;
     let mut known = Known::opening(alloc, machine)?;

@@ -1,6 +1,6 @@
 //! Calls of lab_load.
 
-ghost use Rattle.std.specs.Prelude.{◌≡◌, ◌≢◌, ◌∷◌, [], ◌≤◌, None, Some, MatchOption, IfOk, IfErr};
+ghost use Rattle.std.specs.Prelude.{◌≡◌, ◌≢◌, ◌∷◌, [], ◌≤◌, None, Some, MatchOption, IfOk, IfErr, IfSome, IsErrOf};
 ghost use Rattle.cm_model.specs.Keeping.{AreSizes};
 ghost use Rattle.std.specs.List.{find};
 ghost use Rattle.lab_fresh.specs.Fresh.{is_stray};
@@ -36,6 +36,7 @@ pub fn figures(
     ensures accepted { IfOk result (λ figures. trial_fault trial.now cuts.now (rate ∷ []) ≡ None) }
     ensures refused { IfErr result (λ fault. fault ≢ LoadFault.Memory
         → trial_fault trial.now cuts.now (rate ∷ []) ≡ Some fault) }
+    ensures trial { IfSome (trial_fault trial.now cuts.now (rate ∷ [])) (λ fault. IsErrOf result fault) }
 {
     trial.figures(alloc, targets, cuts, rate)
 }

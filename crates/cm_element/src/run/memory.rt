@@ -16,7 +16,6 @@ use crate::run::flags::has_ones;
 use crate::run::lay::{Band, turn_row, write_row};
 use crate::run::outputs::store_row;
 use crate::run::rows::put_row;
-use crate::run::square::{EIGHT, SQUARE, put_eight, put_square, transpose};
 use crate::run::{ADDRESSES, PITCH};
 use crate::word::{SIXTEEN, bit_of, lift, with_bit, with_lifted_bit};
 use cm_bits::{Field, NoMemory, Plane, Proc};
@@ -319,53 +318,6 @@ impl MemoryRows {
         }
     }
 
-    /// Writes the planes of eight chips at so many times eight addresses, chip by chip.
-    pub(crate) fn write_squares(&self, at: usize, eights: usize, there: Band, planes: &mut [Plane])
-        requires at { at + eights * 8 ≤ 4096 }
-        requires eights { eights ≤ 8 }
-        requires words { length self.now ≡ 4096 * there.stride }
-        requires there { there.first + 8 ≤ there.stride }
-        requires planes { length planes.old ≡ 512 }
-        ensures value { (c k : ℕ) → c < 8 → k < eights * 8 → slice_index planes.new (c * 64 + k)
-            ≡ slice_index self.now ((at + k) * there.stride + (there.first + c)) }
-    {
-        for g in 0..eights {
-            self.write_square(at + g * EIGHT, there, planes, g * EIGHT);
-        }
-    }
-
-    /// Writes those of eight addresses, to a place of each chip.
-    fn write_square(&self, at: usize, there: Band, planes: &mut [Plane], to: usize)
-        requires at { at + 8 ≤ 4096 }
-        requires words { length self.now ≡ 4096 * there.stride }
-        requires there { there.first + 8 ≤ there.stride }
-        requires planes { length planes.old ≡ 512 }
-        requires to { to + 8 ≤ 64 }
-        ensures value { (c k : ℕ) → c < 8 → k < 8 → slice_index planes.new (c * 64 + (to + k))
-            ≡ slice_index self.now ((at + k) * there.stride + (there.first + c)) }
-        ensures below { (c i : ℕ) → i < to → slice_index planes.new (c * 64 + i) ≡ slice_index planes.old (c * 64 + i) }
-    {
-        let mut square: [Plane; SQUARE] = [0; SQUARE];
-        self.read_square(at, there, &mut square);
-        transpose(&mut square);
-        put_square(planes, to, &square);
-    }
-
-    /// Reads the words of eight chips at eight addresses, row by row.
-    fn read_square(&self, at: usize, there: Band, square: &mut [Plane])
-        requires at { at + 8 ≤ 4096 }
-        requires words { length self.now ≡ 4096 * there.stride }
-        requires there { there.first + 8 ≤ there.stride }
-        requires square { length square.old ≡ 64 }
-        ensures value { (k c : ℕ) → k < 8 → c < 8 → slice_index square.new (k * 8 + c)
-            ≡ slice_index self.now ((at + k) * there.stride + (there.first + c)) }
-    {
-        for k in 0..EIGHT {
-            let words = self.row(at + k, there.stride, there.first + EIGHT);
-            put_eight(square, k * EIGHT, words, there.first);
-        }
-    }
-
     /// Puts the planes of so many chips, which lie chip by chip, into the rows.
     pub(crate) fn turn(&mut self, here: Band, planes: &[Plane], count: usize)
         requires to { length self.old ≡ 4096 * here.stride }
@@ -515,7 +467,7 @@ fn put_bits(
 {
     let at = usize::from(field.at());
     let len = usize::from(field.len());
-    let put = put_sixteens(words, slots, spot, proc, field, value);
+    let put = put_sixteens(words, slots, spot, proc, at, len, value);
     for i in put..len {
         let bit = bit_of(value, i);
         let slot = usize::from(slots[at + i]);
@@ -536,20 +488,20 @@ fn put_sixteens(
     slots: &[u16],
     spot: Spot,
     proc: Proc,
-    field: Field,
-    number: u64,
+    at: usize,
+    len: usize,
+    value: u64,
 ) -> usize
     requires slots { length slots.now ≡ 4096 }
     requires few { spot.stride < 2 ^ 20 }
     requires rows { (i : ℕ) → i < 4096 → slice_index slots.now i * spot.stride + spot.stride ≤ length words.old }
     requires place { spot.place < spot.stride }
-    ensures value { ArePut words.old slots.now spot.stride spot.place proc field.at result number words.new }
-    ensures within { result ≤ field.len }
+    requires field { at + len ≤ 4096 }
+    ensures value { ArePut words.old slots.now spot.stride spot.place proc at result value words.new }
+    ensures within { result ≤ len }
 {
-    let at = usize::from(field.at());
-    let len = usize::from(field.len());
     let mut put = 0;
-    let mut rest = number;
+    let mut rest = value;
     while put + SIXTEEN <= len && are_in_use(slots, at + put) {
         let bits = (rest % 65536) as u16;
         put_sixteen(words, slots, spot, proc, at + put, bits);

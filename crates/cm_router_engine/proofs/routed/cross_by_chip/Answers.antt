@@ -6,7 +6,7 @@ use Rattle.cm_model.proofs.Each.{length-tabulate}
 use Rattle.cm_model.proofs.Flips.{across_below}
 use Rattle.cm_router.specs.Routes.{routing_of}
 use Rattle.cm_router_engine.specs.Standing.{HasMessage}
-use Rattle.cm_router_engine.proofs.Carrying.{gone_have, kept_more}
+use Rattle.cm_router_engine.proofs.Carrying.{gone_kept, kept_more}
 use Rattle.cm_router_engine.proofs.Leaving.{space_across, crossed}
 use Rattle.cm_router_engine.proofs.routed.cross_by_chip.Goals as goal
 
@@ -25,7 +25,7 @@ take_in_by_chip-requires c =
     ap length c.leave_by_chip.ensures.going ∙ (length-tabulate 0 (length old) _ ∙ c.requires.count) in
     let kept : All (HasMessage (length row)) gone =
     rw c.leave_by_chip.ensures.going
-    (gone_have room d (λ n. n < length row) (λ b. way_of routing (c.args.first + b) d) row old c.requires.kept (length old)) in
+    (gone_kept room d (length row) (λ b. way_of routing (c.args.first + b) d) row old c.requires.kept (length old)) in
     record {
       dim = omega (arith, c.requires.dim, c.requires.span, c.args.sizes.bounds.dimension);
       rows = omega (arith, many, lanes);

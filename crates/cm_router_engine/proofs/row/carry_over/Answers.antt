@@ -12,7 +12,7 @@ use Rattle.cm_router_engine.proofs.row.carry_over.Goals as goal
 pub loop-ticket-preserved : goal.loop-ticket-preserved
 loop-ticket-preserved c =
     let was = c.loop-ticket.invariant in
-    let kept = c.put_last-number.ensures in
+    let kept = c.keep-number.ensures in
     let place = c.loop-ticket.place in
     let t = c.in-Some.ticket in
     let before = nth_or_nil c.args.slots.now c.args.here in
@@ -20,7 +20,7 @@ loop-ticket-preserved c =
     let inside : place < length queue = slice_get_within queue place t (sym c.in-Some.ensures.value) in
     let same : get_or before place no_ticket ≡ t =
     sym (was.ahead place (omega arith)) ∙ get_or_from_slice_get queue place t no_ticket (sym c.in-Some.ensures.value) in
-    let new : Ticket = record { rel = c.message_of-message.result.rel; number = c.put_last-number.result } in
+    let new : Ticket = record { rel = c.message_of-message.result.rel; number = c.keep-number.result } in
     let here : nth_or_nil c.replace.new.self c.args.here ≡ set queue place new = grind (arith, elements) in
     let more = map_more (message_of_ticket c.args.row.now) before place no_ticket (omega (arith, was.long)) in
     record {

@@ -1,4 +1,4 @@
-use Rattle.std.proofs.Common.{◌≡◌, ◌<◌, ◌+◌, true, false, [], ◌∷◌, List, remove, set, Some, get_or-set_same, length, sym, ap}
+use Rattle.std.proofs.Common.{◌≡◌, ◌+◌, true, false, [], ◌∷◌, List, remove, set, Some, get_or-set_same, length, sym, ap}
 use Rattle.std.proofs.Common.{◌∙◌, arith, length-set}
 use Rattle.std.proofs.lemmas.Grind.{elements}
 use Rattle.std.proofs.lemmas.List.{length-map, append-nil}
@@ -12,8 +12,7 @@ use Rattle.cm_model.proofs.Leaving.{past_none}
 use Rattle.cm_model.proofs.Scan.{HandsOver, scan_ends}
 use Rattle.cm_router.specs.Deliveries.{run_after}
 use Rattle.cm_router_engine.specs.Standing.{message_of_ticket}
-use Rattle.cm_router_engine.specs.Free.{IsNoneOf}
-use Rattle.cm_router_engine.proofs.Carrying.{without_have}
+use Rattle.cm_router_engine.proofs.Carrying.{without_kept}
 use Rattle.cm_router_engine.proofs.Keeping.{written_again, scan_taken, scan_passed, scan_to}
 use Rattle.cm_model.specs.Chip.{IsPlane}
 use Rattle.cm_model.specs.Letters.{can_receive}
@@ -23,7 +22,7 @@ pub next_given-place-requires-clause-kept : goal.next_given-place-requires-claus
 next_given-place-requires-clause-kept c =
     let queue = nth_or_nil c.loop-ticket.slots c.args.chip in
     let here : nth_or_nil c.remove.new.self c.args.chip ≡ remove queue c.loop-ticket.place = grind (arith, elements) in
-    rw here (without_have (λ n. n < length c.args.row.now) queue (Some c.loop-ticket.place) c.loop-ticket.invariant.kept)
+    rw here (without_kept _ queue (Some c.loop-ticket.place) c.loop-ticket.invariant.kept)
 
 pub next_given-place-requires-clause-from : goal.next_given-place-requires-clause-from
 next_given-place-requires-clause-from c =
@@ -80,8 +79,7 @@ loop-ticket-preserved-then-is_delivered c =
       receivers = able;
       before = step.before (place + 1) (omega arith) was.before;
       room = grind (arith, length-remove, step.count);
-      kept = rw here (without_have (λ n. n < length c.args.row.now) queue (Some c.loop-ticket.place) was.kept);
-      apart = λ free none. rw here (without_have (IsNoneOf free) queue (Some c.loop-ticket.place) (was.apart free none));
+      kept = rw here (without_kept _ queue (Some c.loop-ticket.place) was.kept);
       fewer = grind (arith, length-remove);
       others = written_again c.args.chip c.args.slots.now _ _ _ c.remove.ensures.value here was.others;
       len = grind (arith, length-remove);
@@ -120,7 +118,6 @@ loop-ticket-preserved c =
       before = step.before (place + 1) (omega arith) was.before;
       room = grind (arith, step.count);
       kept = was.kept;
-      apart = was.apart;
       fewer = was.fewer;
       others = was.others;
       len = grind arith;
@@ -136,7 +133,6 @@ returns c =
     record {
       value = all.value;
       kept = was.invariant.kept;
-      apart = was.invariant.apart;
       fewer = was.invariant.fewer;
       others = was.invariant.others;
       chip = was.invariant.run ∙ ap (set (run_after c.args.deliveries.now c.args.run.now) c.args.chip) all.chip_is;

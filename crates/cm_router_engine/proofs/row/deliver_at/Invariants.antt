@@ -1,10 +1,9 @@
-use Rattle.std.proofs.Common.{◌≡◌, ℕ, List, ◌+◌, ◌-◌, ◌≤◌, length, set, vec_len, vec_capacity}
+use Rattle.std.proofs.Common.{◌≡◌, ◌+◌, ◌-◌, ◌≤◌, length, set, vec_len, vec_capacity}
 use Rattle.cm_model.specs.Array.{chip_at, nth_or_nil}
 use Rattle.cm_model.specs.Chip.{IsPlane}
 use Rattle.cm_model.specs.Letters.{can_receive}
 use Rattle.cm_router.specs.Deliveries.{run_after, AreBefore}
 use Rattle.cm_router_engine.specs.Standing.{standing, HaveMessages, IsWritten}
-use Rattle.cm_router_engine.specs.Free.{HaveNoneOf}
 use Rattle.cm_model.proofs.Scan.{Scan}
 use Rattle.cm_router_engine.proofs.row.deliver_at.Given as goal
 
@@ -23,7 +22,6 @@ invariant-loop-ticket l = record {
   before : AreBefore (l.chip + 1) l.deliveries;
   room : length l.deliveries + (length (nth_or_nil l.slots l.chip) - l.place) ≤ 128;
   kept : HaveMessages (length l.row) (nth_or_nil l.slots l.chip);
-  apart : (free : List ℕ) → HaveNoneOf free (nth_or_nil l.fn.slots l.chip) → HaveNoneOf free (nth_or_nil l.slots l.chip);
   fewer : length (nth_or_nil l.slots l.chip) ≤ length (nth_or_nil l.fn.slots l.chip);
   others : IsWritten l.chip l.fn.slots l.slots;
   len : vec_len l.log + (length (nth_or_nil l.slots l.chip) - l.place)

@@ -1,6 +1,5 @@
 use Rattle.std.proofs.Common.{◌∙◌, length, length-set, refl, ap, arith, append_assoc}
 use Rattle.std.proofs.Math.Bool.{or_assoc}
-use Rattle.cm_router_engine.proofs.Giving.{taken_more}
 use Rattle.cm_router_engine.proofs.Keeping.{written_again}
 use Rattle.cm_router_engine.proofs.row.store_injected.Goals as goal
 
@@ -13,22 +12,15 @@ loop-proc-preserved c =
     let sent = c.message_sent-sent.ensures.value in
     record {
       taken = λ p h. rw (c.with_one-taken.ensures.value p h, or_assoc) (rw next at (was.taken p h));
-      row = taken_more was.row stood.row;
-      free = stood.free;
+      items = rw (stood.items, append_assoc, sent) (rw next at was.items);
       value = rw (stood.value, append_assoc, sent) (rw next at was.value);
       log = rw (told.items, append_assoc, sent) (rw next at was.log);
       kept = stood.kept;
-      apart = stood.apart;
       others = written_again c.args.at c.args.slots.now _ _ _ stood.others refl was.others;
       chips = ap length stood.others ∙ length-set _ _ _ ∙ was.chips;
       room = omega (arith, was.room, stood.long, ap length next);
-      fewer = omega (arith, was.fewer, ap length next);
-      most = omega (arith, was.most, was.few, stood.len, ap length next);
-      few = omega (arith, was.most, was.few, stood.len, stood.free_len, ap length next);
-      len = omega (arith, was.fewer, was.len, was.free_len, stood.len, ap length next);
-      free_len = omega (arith, was.fewer, was.free_len, stood.free_len, ap length next);
+      len = omega (arith, was.len, stood.len, ap length next);
       capacity = omega (arith, was.capacity, stood.capacity);
-      room_left = omega (arith, was.room_left, stood.len, stood.free_len, stood.capacity, ap length next);
       log_len = omega (arith, was.log_len, told.len, ap length next);
       log_capacity = omega (arith, was.log_capacity, told.capacity);
     }

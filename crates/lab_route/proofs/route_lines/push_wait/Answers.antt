@@ -1,4 +1,4 @@
-use Rattle.std.proofs.Common.{◌≡◌, ◌++◌, codes, sym, ap, ◌∙◌, append_assoc}
+use Rattle.std.proofs.Common.{◌++◌, codes, sym, ◌∙◌, append_assoc}
 use Rattle.lab_route.specs.RouteLines.{tag_text, wait_text}
 use Rattle.lab_route.proofs.Following.{on_ok}
 use Rattle.lab_route.proofs.route_lines.push_wait.Goals as goal

@@ -1,11 +1,10 @@
-use Rattle.std.proofs.Common.{◌≡◌, ℕ, ◌+◌, ◌++◌, List, refl, sym, ap, ◌∙◌, arith}
+use Rattle.std.proofs.Common.{◌≡◌, ℕ, ◌++◌, sym, ap, ◌∙◌, arith}
 use Rattle.std.specs.Option.{option_to_list}
 use Rattle.cm_model.specs.declared.act.Act.TheVariants as act
 use Rattle.cm_model.specs.Machine.{Machine}
 use Rattle.cm_model.specs.Buffers.{machine_after_injection, machine_after_dimension, machine_after_delivery}
 use Rattle.cm_model.proofs.Cycles.{after_crossings-more, after_cycle-is}
 use Rattle.cm_model.proofs.Runs.{run_of-one}
-use Rattle.lab_route.specs.declared.waits.Wait.{Wait}
 use Rattle.lab_machine.specs.Machines.{LabView}
 use Rattle.lab_route.specs.Waits.{machine_in_cycle, crossing_wait, delivery_wait, crossing_waits, waits_in}
 use Rattle.lab_study.proofs.Sums.{flat_map-more}

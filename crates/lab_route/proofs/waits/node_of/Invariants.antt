@@ -1,5 +1,4 @@
 use Rattle.std.proofs.Common.{◌≡◌, take}
-use Rattle.cm_router.specs.Buffer.{Buffer}
 use Rattle.lab_route.proofs.waits.node_of.Given as goal
 
 -- so many of the messages stand there

@@ -8,3 +8,6 @@ returns-clause-accepted c = search
 
 pub returns-clause-refused : goal.returns-clause-refused
 returns-clause-refused c = search
+
+pub returns-clause-trial : goal.returns-clause-trial
+returns-clause-trial c = search

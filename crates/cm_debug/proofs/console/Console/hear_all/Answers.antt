@@ -59,7 +59,7 @@ returns-in-Err-clause-takes g c =
     let so = c.loop-count.invariant in
     ended_in_read (g.I.Source.left c.args.commands.now) (g.I.Source.left c.loop-count.commands)
     (g.I.Source.left c.read.new.self) so.text c.read.new.buf c.in-Ok.count c.min-room.result c.loop-count.taken
-    c.min-room.ensures so.count so.within so.read c.in-Ok.ensures.bytes.0
+    (omega (arith, c.in-Ok.ensures.bound)) c.min-room.ensures so.count so.within so.read c.in-Ok.ensures.bytes.0
     (c.in-Err.ensures.takes.broken _ so.text so.told)
 
 pub returns-then-room-count-clause-takes : goal.returns-then-room-count-clause-takes
@@ -67,7 +67,7 @@ returns-then-room-count-clause-takes g c =
     let so = c.loop-count.invariant in
     ended_over (g.I.Source.left c.args.commands.now) (g.I.Source.left c.loop-count.commands)
     (g.I.Source.left c.read.new.self) so.text c.read.new.buf c.in-Ok.count c.min-room.result c.loop-count.taken
-    c.in-Ok.ensures.bound.0 c.min-room.ensures c.if-room-count.true so.count so.within so.read
+    (omega (arith, c.in-Ok.ensures.bound)) c.in-Ok.ensures.bound.0 c.min-room.ensures c.if-room-count.true so.count so.within so.read
     c.in-Ok.ensures.bytes.0 c.in-Ok-feed.ensures.none
     (c.in-Ok-feed.ensures.takes.told _ so.text so.told)
 

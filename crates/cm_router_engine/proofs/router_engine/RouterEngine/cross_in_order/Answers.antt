@@ -5,9 +5,8 @@ use Rattle.std.proofs.lemmas.List.{length-map}
 use Rattle.std.proofs.lemmas.Nat.{pow_below}
 use Rattle.cm_router.specs.Routes.{routing_of}
 use Rattle.cm_router_engine.specs.Standing.{InFlight, standing}
-use Rattle.cm_router_engine.specs.Free.{IsNoneOf}
 use Rattle.cm_router_engine.proofs.Carrying.{as_many}
-use Rattle.cm_router_engine.proofs.Leaving.{whole_crossed, whole_crossed_long, whole_crossed_have, whole_crossed_within}
+use Rattle.cm_router_engine.proofs.Leaving.{whole_crossed, whole_crossed_long, whole_crossed_kept, whole_crossed_within}
 use Rattle.cm_router_engine.proofs.router_engine.RouterEngine.cross_in_order.Goals as goal
 
 -- chips within a cube span no more dimensions than it has
@@ -38,16 +37,11 @@ invariant_of-self c =
       spare_capacity = was.spare_capacity;
       filled = was.filled;
       rows = omega (arith, (with_items c.self.inside.leavers c.cross.new.leavers).ok.0, c.self.inside.leavers.ok.0, was.rows, long, before);
-      kept = whole_crossed_have c.deref.result.now c.self.inside.row.items c.deref.ensures.value
+      kept = whole_crossed_kept c.deref.result.now c.self.inside.row.items c.deref.ensures.value
           (routing_of c.args.routing.now) c.args.sizes.room c.args.dim c.args.span c.args.first c.self.inside.slots
-          c.cross.new.slots c.args.self.now.buffers are c.cross.ensures.value (λ n. n < length c.self.inside.row.items) was.kept;
+          c.cross.new.slots c.args.self.now.buffers are c.cross.ensures.value was.kept;
       together = λ t. absurd cc;
       rising = was.rising;
-      vacant = was.vacant;
-      behind = was.behind;
-      apart = whole_crossed_have c.deref.result.now c.self.inside.row.items c.deref.ensures.value
-          (routing_of c.args.routing.now) c.args.sizes.room c.args.dim c.args.span c.args.first c.self.inside.slots
-          c.cross.new.slots c.args.self.now.buffers are c.cross.ensures.value (IsNoneOf c.self.inside.free.items) was.apart;
     }
 
 pub returns : goal.returns

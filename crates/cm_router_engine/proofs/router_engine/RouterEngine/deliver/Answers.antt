@@ -1,11 +1,7 @@
-use Rattle.std.proofs.Common.{◌≡◌, ◌≤◌, length, length-set, ap, sym, subst, ◌∙◌, arith}
-use Rattle.std.specs.List.{All}
+use Rattle.std.proofs.Common.{◌≤◌, length, arith}
 use Rattle.std.proofs.lemmas.List.{map-set}
 use Rattle.std.proofs.lemmas.List.Elements.{All-set}
-use Rattle.cm_model.specs.Array.{nth_or_nil}
-use Rattle.cm_router_engine.specs.Standing.{HaveMessages}
-use Rattle.cm_router_engine.specs.Free.{IsNoneOf, HaveNoneOf}
-use Rattle.cm_router_engine.proofs.Carrying.{as_many, few_at, standing_at, all_at, nobody_has}
+use Rattle.cm_router_engine.proofs.Carrying.{as_many, few_at, standing_at}
 use Rattle.cm_router_engine.proofs.router_engine.RouterEngine.deliver.Goals as goal
 
 pub deliver_at-requires-clause-room : goal.deliver_at-requires-clause-room
@@ -22,35 +18,6 @@ pub deliver_at-requires-clause-log_room : goal.deliver_at-requires-clause-log_ro
 deliver_at-requires-clause-log_room c =
     let within = rw (← c.self.view_is) at c.requires.within in
     omega (arith, c.requires.log_room, few_at c.args.sizes.room _ c.self.inside.slots c.args.chip within)
-
-pub invariant_of-self : goal.invariant_of-self
-invariant_of-self c =
-    let was = c.self.invariant in
-    let slots = c.self.inside.slots in
-    let row = c.self.inside.row.items in
-    let free = c.self.inside.free.items in
-    let given = c.deliver_at.ensures in
-    let long : length c.deliver_at.new.slots ≡ length slots = ap length given.others ∙ length-set _ _ _ in
-    let kept : HaveMessages (length row) (nth_or_nil c.deliver_at.new.slots c.args.chip) =
-    rw c.deref.ensures.value at given.kept in
-    record {
-      few = omega (arith, was.few, long);
-      enough = omega (arith, was.enough, long);
-      most = was.most;
-      capacity = was.capacity;
-      spare_capacity = was.spare_capacity;
-      filled = was.filled;
-      rows = omega (arith, was.rows, long);
-      kept = subst (All (HaveMessages (length row))) (sym given.others)
-          (All-set (HaveMessages (length row)) slots c.args.chip _ kept was.kept);
-      together = λ t. absurd cc;
-      rising = was.rising;
-      vacant = was.vacant;
-      behind = was.behind;
-      apart = subst (All (HaveNoneOf free)) (sym given.others)
-          (All-set (HaveNoneOf free) slots c.args.chip _
-          (given.apart free (all_at (HaveNoneOf free) (nobody_has (IsNoneOf free)) slots c.args.chip was.apart)) was.apart);
-    }
 
 pub returns : goal.returns
 returns c =

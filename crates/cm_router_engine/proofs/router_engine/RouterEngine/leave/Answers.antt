@@ -1,11 +1,10 @@
-use Rattle.std.proofs.Common.{◌<◌, ◌≤◌, ◌∙◌, length, ap, map, arith}
+use Rattle.std.proofs.Common.{◌≤◌, ◌∙◌, ap, map, arith}
 use Rattle.std.specs.Option.{option_map}
 use Rattle.std.specs.Vec.{with_items}
 use Rattle.cm_router.specs.Routes.{routing_of}
 use Rattle.cm_router_engine.specs.Standing.{InFlight, message_of_ticket}
-use Rattle.cm_router_engine.specs.Free.{IsNoneOf}
 use Rattle.cm_router_engine.proofs.Carrying.{as_many}
-use Rattle.cm_router_engine.proofs.Leaving.{whole_left, whole_left_long, whole_left_have, whole_gone, whole_gone_kept}
+use Rattle.cm_router_engine.proofs.Leaving.{whole_left, whole_left_long, whole_left_kept, whole_gone, whole_gone_kept}
 use Rattle.cm_router_engine.proofs.Leaving.{whole_left_within, whole_left_space}
 use Rattle.cm_router_engine.proofs.router_engine.RouterEngine.leave.Goals as goal
 
@@ -37,16 +36,11 @@ invariant_of-self c =
       spare_capacity = was.spare_capacity;
       filled = was.filled;
       rows = omega (arith, (with_items c.self.inside.leavers c.leave.new.leavers).ok.0, c.self.inside.leavers.ok.0, was.rows, long);
-      kept = whole_left_have c.deref.result.now c.self.inside.row.items c.deref.ensures.value
+      kept = whole_left_kept c.deref.result.now c.self.inside.row.items c.deref.ensures.value
           (routing_of c.args.routing.now) c.args.sizes.room c.args.dim c.args.first c.self.inside.slots
-          c.leave.new.slots c.args.self.now.buffers are c.leave.ensures.value (λ n. n < length c.self.inside.row.items) was.kept;
+          c.leave.new.slots c.args.self.now.buffers are c.leave.ensures.value was.kept;
       together = λ t. absurd cc;
       rising = was.rising;
-      vacant = was.vacant;
-      behind = was.behind;
-      apart = whole_left_have c.deref.result.now c.self.inside.row.items c.deref.ensures.value
-          (routing_of c.args.routing.now) c.args.sizes.room c.args.dim c.args.first c.self.inside.slots
-          c.leave.new.slots c.args.self.now.buffers are c.leave.ensures.value (IsNoneOf c.self.inside.free.items) was.apart;
     }
 
 pub returns : goal.returns

@@ -2,8 +2,6 @@ use Rattle.std.proofs.Common.{◌≡◌, length, map, ap, ◌∙◌, arith}
 use Rattle.std.proofs.lemmas.List.{length-map}
 use Rattle.cm_router_engine.specs.Standing.{InFlight}
 use Rattle.cm_router_engine.specs.Ranking.{moved_ticket, HaveMoved}
-use Rattle.cm_router_engine.proofs.Giving.{none_behind}
-use Rattle.cm_router_engine.proofs.Marking.{no_free, none_apart}
 use Rattle.cm_router_engine.proofs.Rising.{none_rising, all_kept_moved, all_standing_moved}
 use Rattle.cm_router_engine.proofs.router_engine.RouterEngine.rank_anew.Goals as goal
 
@@ -27,9 +25,6 @@ invariant_of-self c =
       kept = rw (c.swap.ensures.x_after, c.renumber.ensures.value) (all_kept_moved have queues was.kept);
       together = λ t. absurd cc;
       rising = none_rising c.swap.new.x.items;
-      vacant = no_free _ _ c.clear.ensures.items;
-      behind = none_behind _ _ c.clear.ensures.items;
-      apart = none_apart _ _ c.clear.ensures.items;
     }
 
 pub returns-then-rearrange : goal.returns-then-rearrange
