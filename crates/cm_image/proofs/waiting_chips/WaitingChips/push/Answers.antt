@@ -38,14 +38,16 @@ pub lengthen-requires-2 : goal.lengthen-requires-2
 lengthen-requires-2 c =
     let run = c.self.inside in
     let few = rw (← c.self.view_is, length-chips_beside run.memory.items run.flags.items run.count) at c.requires.room in
-    record { room = omega (
-      arith,
-      few,
-      c.from.ensures,
-      ap (λ (k : ℕ). c.from.result * k) c.from-2.ensures,
-      c.from-3.ensures,
-      c.self.invariant.flag_room,
-    ) }
+    record {
+      room = omega (
+        arith,
+        few,
+        c.from.ensures,
+        ap (λ (k : ℕ). c.from.result * k) c.from-2.ensures,
+        c.from-3.ensures,
+        c.self.invariant.flag_room,
+      );
+    }
 
 pub put_planes-requires : goal.put_planes-requires
 put_planes-requires c = record {
