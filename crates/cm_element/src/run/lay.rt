@@ -72,7 +72,7 @@ impl Run {
 
     /// Writes the memory planes of eight chips, from `first` on, at so many times eight addresses, from `at` on: chip
     /// by chip and `FIELD_PITCH` words apart. Of eight rows the words of eight chips are read and turned at once: 56
-    /// addresses take about as long as to read records of two or three processors bit by bit.
+    /// addresses take about as long as to read records of two processors bit by bit.
     pub fn write_field_planes(&self, first: u16, at: u16, eights: usize, planes: &mut [Plane])
         requires chips { first + 8 ≤ length self.now }
         requires at { at + eights * 8 ≤ 4096 }

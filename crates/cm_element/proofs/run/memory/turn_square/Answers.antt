@@ -1,5 +1,5 @@
 use Rattle.std.proofs.Common.{◌∙◌}
-use Rattle.cm_element.proofs.run.memory.MemoryRows.write_square.Goals as goal
+use Rattle.cm_element.proofs.run.memory.turn_square.Goals as goal
 
 pub returns-clause-value : goal.returns-clause-value
 returns-clause-value c = λ p k few small.
