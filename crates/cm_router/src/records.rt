@@ -134,7 +134,7 @@ impl<'a> ChipRecords<'a> {
         ensures value { result ≡ message_sent dims clock here self.now proc }
     {
         if self.planes.len() < FIELD_PITCH {
-            return message_sent(&self.chip, proc, here, dims, clock);
+            return message_of(&self.chip, proc, here, dims, clock);
         }
         message_in(self.planes, proc, here, dims, clock)
     }
@@ -159,6 +159,16 @@ fn are_busy(run: &Run, first: u16) -> bool
     let asking = u16x8::from_slice(&run.flag_row(FlagNo::SEND)[start..start + 8]);
     let busy = asking.simd_ne(u16x8::splat(0)).to_bitmask();
     busy.count_ones() >= FEW
+}
+
+/// The message that a processor's record asks to send, read bit by bit. It stands apart so that the compiler does not
+/// join it to what is read from planes: where both ways end in one, it would keep each bit in a word of its own.
+#[inline(never)]
+fn message_of(chip: &ChipView<'_>, proc: Proc, here: u16, dims: u8, clock: u64) -> Message
+    requires dims { dims ≤ 12 }
+    ensures value { result ≡ message_sent dims clock here chip.now proc }
+{
+    message_sent(chip, proc, here, dims, clock)
 }
 
 /// The message that a record in these planes asks to send.
