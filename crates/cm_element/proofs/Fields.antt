@@ -1,10 +1,11 @@
 -- The value of a memory field, from its top bit down, or sixteen bits at once.
-use Rattle.std.proofs.Common.{◌≡◌, ℕ, ◌+◌, ◌-◌, ◌*◌, ◌^◌, ◌<◌, ◌≤◌, zero, suc, Bool, true, false, List, [], ◌∷◌, length}
+use Rattle.std.proofs.Common.{◌≡◌, ℕ, ◌+◌, ◌-◌, ◌*◌, ◌%◌, ◌^◌, ◌<◌, ◌≤◌, zero, suc, Bool, true, false, List, [], ◌∷◌, length}
 use Rattle.std.proofs.Common.{map, take, drop, get_or, refl, sym, ap, ◌∙◌, arith, add-one, pow-suc}
-use Rattle.std.proofs.Common.{lit<, ext_get_or, length-drop}
+use Rattle.std.proofs.Common.{lit<, length-take, ⊎_elim}
+use Rattle.std.proofs.lemmas.Bool.{cases_lt}
 use Rattle.std.proofs.Math.Nat.{mul-zero, mul_comm, mul_assoc}
 use Rattle.std.proofs.Math.Seq.{drop-cons, drop-drop}
-use Rattle.std.proofs.lemmas.List.{length-map, length-take-le, get_or-take, get_or-drop}
+use Rattle.std.proofs.lemmas.List.{length-map, get_or-take, get_or-drop, get_or_past}
 use Rattle.std.proofs.Math.Pow.{pow_mono}
 use mir.Val.{bool_byte}
 use Rattle.cm_bits.specs.Bit.{bit, bit_number}
@@ -56,6 +57,16 @@ field-sixteen_lower processor at n top number top_is number_is =
     ap (λ bits. value (take n bits)) (drop-drop 16 at processor.memory) in
     omega (arith, both, above, top_is, number_is)
 
+-- the four lowest bits of sixteen
+pub field-low_four : (processor : Processor) (at number : ℕ) → number ≡ field_value processor at 16
+    → number % 16 ≡ field_value processor at 4
+unfolding field_value
+field-low_four processor at number is =
+    let both : value (take 16 (drop at processor.memory))
+    ≡ value (take 4 (drop at processor.memory)) + 16 * value (take 12 (drop 4 (drop at processor.memory))) =
+    value-parts 4 12 (drop at processor.memory) in
+    omega (arith, both, is, field_value-lt processor at 4)
+
 -- a field's value is below any power of two of as many bits or more
 pub field_below : (processor : Processor) (at len most number : ℕ) → number ≡ field_value processor at len
     → len ≤ most → number < 2 ^ most
@@ -63,22 +74,37 @@ field_below processor at len most number is few =
     let more : 2 ^ len ≤ 2 ^ most = pow_mono few in
     omega (arith, is, field_value-lt processor at len, more)
 
+-- two lists with the same bits have the same value, though one may end before the other
+same_value : (xs ys : List Bool) → ((k : ℕ) → get_or xs k false ≡ get_or ys k false) → value xs ≡ value ys
+same_value [] [] same = refl
+same_value [] (y ∷ ys) same =
+    let rest : 0 ≡ value ys = same_value [] ys (λ k. same (suc k)) in
+    let lowest : 0 ≡ bit_number y = ap bit_number (same 0) in
+    omega (arith, rest, lowest)
+same_value (x ∷ xs) [] same =
+    let rest : value xs ≡ 0 = same_value xs [] (λ k. same (suc k)) in
+    let lowest : bit_number x ≡ 0 = ap bit_number (same 0) in
+    omega (arith, rest, lowest)
+same_value (x ∷ xs) (y ∷ ys) same =
+    let rest : value xs ≡ value ys = same_value xs ys (λ k. same (suc k)) in
+    let lowest : bit_number x ≡ bit_number y = ap bit_number (same 0) in
+    omega (arith, rest, lowest)
+
 -- sixteen bits of a field, as they stand in the planes
 pub sixteen_planes : (processor : Processor) (planes : List ℕ) (p at : ℕ) → length planes ≡ 16
-    → at + 16 ≤ length processor.memory
     → ((k : ℕ) → k < 16 → bit (get_or planes k 0) p ≡ memory_bit processor (at + k))
     → value (map (λ plane. bit plane p) planes) ≡ field_value processor at 16
 unfolding field_value
-sixteen_planes processor planes p at long inside are =
+sixteen_planes processor planes p at long are =
     let bits : List Bool = map (λ plane. bit plane p) planes in
     let field : List Bool = take 16 (drop at processor.memory) in
-    let count : length field ≡ 16 =
-    length-take-le 16 (drop at processor.memory) (omega (arith, inside, length-drop at processor.memory)) in
     let bits_long : length bits ≡ 16 = length-map planes (λ plane. bit plane p) ∙ long in
-    ap value (ext_get_or false bits field (bits_long ∙ sym count)
-    (λ k h. let below : k < 16 = omega (arith, bits_long) in
-    bit_in_row planes k p ∙ are k below
-    ∙ sym (get_or-take 16 (drop at processor.memory) k false below ∙ get_or-drop at processor.memory k false)))
+    same_value bits field (λ k. ⊎_elim
+    (λ (below : k < 16). bit_in_row planes k p ∙ are k below
+    ∙ sym (get_or-take 16 (drop at processor.memory) k false below ∙ get_or-drop at processor.memory k false))
+    (λ (past : 16 ≤ k). get_or_past bits k false (omega (arith, bits_long))
+    ∙ sym (get_or_past field k false (omega (arith, length-take 16 (drop at processor.memory)))))
+    (cases_lt k 16))
 
 -- one more bit below the topmost bits of a field
 pub field-one_lower : (processor : Processor) (at len n top number : ℕ) → n < len → at + len ≤ length processor.memory

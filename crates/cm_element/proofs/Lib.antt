@@ -1,5 +1,5 @@
 mod Columns
-mod Fields
+pub mod Fields
 mod Flagged
 mod Halves
 mod Lanes
@@ -8,6 +8,7 @@ mod Planes
 mod Poking
 mod Putting
 mod Spreading
+mod Squares
 mod Filling
 mod Stepping
 mod Replacing

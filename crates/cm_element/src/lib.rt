@@ -12,5 +12,6 @@ pub use chip::Chip;
 pub use cm_bits::NoMemory;
 pub use near::NearRun;
 pub use outputs::Outputs;
-pub use run::{ChipView, PITCH, Run, ZeroFlag, takes_incoming};
+pub use run::{ChipView, FIELD_PITCH, PITCH, Run, ZeroFlag, takes_incoming};
 pub use wide_outputs::WideOutputs;
+pub use word::sixteen_bits_in;

@@ -16,6 +16,7 @@ mod lay;
 mod memory;
 mod outputs;
 mod rows;
+mod square;
 mod view;
 
 use crate::run::memory::MemoryRows;
@@ -39,6 +40,10 @@ const PADDING: usize = 32;
 
 /// So many words lie the planes of two chips apart where they lie chip by chip, and for the same reason.
 pub const PITCH: usize = 4128;
+
+/// So many words lie the planes of two chips apart where `write_field_planes` writes them: as many bits has the
+/// longest field.
+pub const FIELD_PITCH: usize = 64;
 
 /// Chips with consecutive numbers, kept as one row of planes for each address and for each flag.
 ///

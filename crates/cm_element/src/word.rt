@@ -1,9 +1,10 @@
 //! The words of the rows: one bit for each processor of a chip.
 
-ghost use Rattle.std.specs.Prelude.{◌≡◌, ℕ, ◌*◌, ◌^◌, ◌<◌, ◌==◌, cond, if◌then◌else◌, length, map};
+ghost use Rattle.std.specs.Prelude.{◌≡◌, ℕ, ◌+◌, ◌*◌, ◌^◌, ◌<◌, ◌==◌, cond, if◌then◌else◌, length, map};
+ghost use Rattle.std.specs.Prelude.{slice_index};
 ghost use Rattle.std.specs.Bool.{beq};
 ghost use Rattle.cm_bits.specs.Bit.{bit};
-ghost use Rattle.cm_model.specs.Processor.{value};
+ghost use Rattle.cm_model.specs.Processor.{Processor, value, memory_bit, field_value};
 ghost use Rattle.cm_model.specs.Chip.{IsPlane};
 
 use cm_bits::{Plane, Proc};
@@ -58,6 +59,18 @@ pub(crate) fn bits_in(planes: &[Plane], proc: Proc) -> u64
     (u16x16::from_slice(planes) & here)
         .simd_eq(here)
         .to_bitmask()
+}
+
+/// The value of a memory field of sixteen bits, whose planes these are.
+pub fn sixteen_bits_in(planes: &[Plane], proc: Proc) -> u64
+    requires sixteen { length planes.now ≡ 16 }
+    ensures value { (processor : Processor) (at : ℕ)
+        → ((k : ℕ) → k < 16 → bit (slice_index planes.now k) proc ≡ memory_bit processor (at + k))
+        → result ≡ field_value processor at 16 }
+    ensures below { result < 65536 }
+    ensures in_range { proc < 16 }
+{
+    bits_in(planes, proc)
 }
 
 pub(crate) fn bit_of(number: u64, i: usize) -> bool

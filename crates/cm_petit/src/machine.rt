@@ -16,7 +16,7 @@ ghost use Rattle.cm_petit.specs.Routers.{machine_from, part_from, HaveBuffers};
 use crate::phases::cross_all;
 use cm_element::Run;
 use cm_message::Event;
-use cm_router::{Deliveries, Routing, is_idle, pass_over};
+use cm_router::{Deliveries, Records, Routing, is_idle, pass_over};
 use cm_router_engine::{RouterEngine, Shape};
 
 /// One petit cycle of a whole machine: every router takes messages in, they cross each dimension, from the lowest on,
@@ -76,10 +76,11 @@ fn inject(
         return;
     }
     let chips = run.chips();
+    let mut records = Records::new();
     let mut c = crossing.next_injecting(sizes, run, 0);
     while c < chips {
         let chip = c as u16;
-        crossing.inject(sizes, run, chip, chip, clock, row);
+        crossing.inject(sizes, run, &mut records, chip, chip, clock, row);
         c = crossing.next_injecting(sizes, run, c + 1);
     }
 }

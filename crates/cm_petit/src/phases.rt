@@ -16,7 +16,7 @@ ghost use Rattle.cm_petit.specs.Routers.{machine_from, part_from_logs, AreRouter
 
 use cm_element::Run;
 use cm_message::Event;
-use cm_router::{Deliveries, Routing, is_idle, pass_over};
+use cm_router::{Deliveries, Records, Routing, is_idle, pass_over};
 use cm_router_engine::{RouterEngine, Shape};
 
 /// Every router of a run of chips takes in messages of its chip's processors. The run begins at chip `first` of
@@ -42,10 +42,12 @@ pub fn inject(
     if is_idle(run) {
         return;
     }
+    let mut records = Records::new();
     let mut c = crossing.next_injecting(sizes, run, 0);
     while c < logs.len() {
         let chip = c as u16;
-        crossing.inject(sizes, run, chip, first + chip, clock, &mut logs[c]);
+        let here = first + chip;
+        crossing.inject(sizes, run, &mut records, chip, here, clock, &mut logs[c]);
         c = crossing.next_injecting(sizes, run, c + 1);
     }
 }

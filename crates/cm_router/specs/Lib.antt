@@ -3,6 +3,7 @@ pub mod Idle
 pub mod Logs
 pub mod Rows
 pub mod Places
+pub mod Records
 pub mod Cuts
 pub mod Routes
 pub mod Deliveries

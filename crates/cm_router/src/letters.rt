@@ -13,6 +13,7 @@ ghost use Rattle.cm_model.specs.Letters.{senders_taken, is_among, message_sent};
 ghost use Rattle.cm_model.specs.Letters.{chip_after_injection, chip_after_delivery};
 ghost use Rattle.cm_router.specs.Idle.{IsIdle};
 ghost use Rattle.cm_router.specs.Logs.{log_room};
+ghost use Rattle.cm_router.specs.Records.{Held, AreRecords};
 
 use cm_bits::{Field, FlagNo, Plane, Proc};
 use cm_element::{ChipView, Run};
@@ -91,6 +92,7 @@ pub fn message_sent(chip: &ChipView<'_>, proc: Proc, here: u16, dims: u8, clock:
 pub fn take_none(run: &mut Run, chip: u16)
     requires chip { chip < length run.old }
     ensures value { run.new ≡ slice_set run.old chip (chip_after_injection [] (chip_at run.old chip)) }
+    ensures records { (held : Held) → AreRecords held run.old → AreRecords held run.new }
 {
     if run.flag_plane(chip, FlagNo::ACK) != 0 {
         let asking = asking(run, chip);
@@ -106,6 +108,7 @@ pub fn acknowledge(run: &mut Run, chip: u16, asking: Plane, taken: Plane)
     requires asking { IsPlane asking (λ p. flag (processor_at (chip_at run.old chip) p) SEND) }
     ensures value { (ps : List ℕ) → IsPlane taken (λ p. is_among p ps)
         → run.new ≡ slice_set run.old chip (chip_after_injection ps (chip_at run.old chip)) }
+    ensures records { (held : Held) → AreRecords held run.old → AreRecords held run.new }
 {
     run.poke_flag_plane(chip, FlagNo::SEND, asking & !taken);
     run.poke_flag_plane(chip, FlagNo::ACK, taken);

@@ -6,6 +6,7 @@ mod delivery;
 mod leaving;
 mod letters;
 mod node;
+mod records;
 mod routing;
 mod senders;
 
@@ -18,5 +19,6 @@ pub use letters::{
     take_none, tell_injected,
 };
 pub use node::Node;
+pub use records::{ChipRecords, Records};
 pub use routing::Routing;
 pub use senders::{MOST_INJECTED, Senders, with_one};

@@ -17,17 +17,18 @@ ghost use Rattle.cm_model.specs.OneChip.{taken_here, sent_here, delivered_here, 
 ghost use Rattle.cm_router.specs.Deliveries.{run_after, AreBefore};
 ghost use Rattle.cm_router.specs.Idle.{IsPassedOver};
 ghost use Rattle.cm_router.specs.Logs.{log_room};
+ghost use Rattle.cm_router.specs.Records.{AreRecords};
 ghost use Rattle.cm_router.specs.Routes.{routing_of};
 
 use crate::ranking::{rearrange, renumber, risen_to, sort_numbers};
 use crate::routed::{cross, leave};
 use crate::row::{collect, compact, deliver_at, read_out, stand, store_injected};
 use cm_bits::{NoMemory, Plane};
-use cm_element::{ChipView, Run};
+use cm_element::Run;
 use cm_message::{Event, Message, Rule};
 use cm_router::{
-    Deliveries, MOST_INJECTED, Routing, Senders, acknowledge, asking, chip_asks,
-    chip_is_acknowledged, take_none,
+    ChipRecords, Deliveries, MOST_INJECTED, Records, Routing, Senders, acknowledge, asking,
+    chip_asks, chip_is_acknowledged, take_none,
 };
 use cm_slots::{Shape, Ticket, TicketQueues};
 use std::alloc::Global;
@@ -256,7 +257,7 @@ impl RouterEngine {
         &mut self,
         at: usize,
         senders: Senders,
-        chip: &ChipView<'_>,
+        chip: &ChipRecords<'_>,
         here: u16,
         dims: u8,
         clock: u64,
@@ -343,11 +344,12 @@ impl RouterEngine {
 
     /// At one chip, takes in messages of the processors that ask to send, by number, at most four and
     /// at most as many as there is room for. The log tells of each. The chip stands at place `chip` here and in
-    /// the run; `here` is its number in the machine.
+    /// the run; `here` is its number in the machine. The records go from chip to chip.
     pub fn inject(
         &mut self,
         sizes: Shape,
         run: &mut Run,
+        records: &mut Records,
         chip: u16,
         here: u16,
         clock: u64,
@@ -355,6 +357,7 @@ impl RouterEngine {
     )
         requires chip { chip < length self.old.buffers }
         requires run { length run.old ≡ length self.old.buffers }
+        requires records { AreRecords records.old run.old }
         requires within { All (λ ms. length ms ≤ sizes.room) self.old.buffers }
         requires log_room { 4 ≤ log_room log.old }
         ensures value { self.new.buffers ≡ slice_set self.old.buffers chip (nth_or_nil self.old.buffers chip
@@ -363,6 +366,7 @@ impl RouterEngine {
             (taken_here sizes.room (nth_or_nil self.old.buffers chip) (chip_at run.old chip)) (chip_at run.old chip)) }
         ensures log { log.new.items ≡ log.old.items ++ map event.Injected
             (sent_here sizes.dims sizes.room clock here (nth_or_nil self.old.buffers chip) (chip_at run.old chip)) }
+        ensures records { AreRecords records.new run.new }
         ensures len { vec_len log.new ≤ vec_len log.old + 4 }
         ensures capacity { vec_capacity log.old ≤ vec_capacity log.new }
         ensures within { All (λ ms. length ms ≤ sizes.room) self.new.buffers }
@@ -376,7 +380,9 @@ impl RouterEngine {
         let asking = asking(run, chip);
         let senders = Senders::first(asking, room);
         self.make_places();
-        let taken = self.store_injected(at, senders, &run.view(chip), here, sizes.dims, clock, log);
+        records.look(run, chip);
+        let chip_records = records.of(run, chip);
+        let taken = self.store_injected(at, senders, &chip_records, here, sizes.dims, clock, log);
         acknowledge(run, chip, asking, taken);
     }
 

@@ -19,10 +19,10 @@ ghost use Rattle.cm_router.specs.Logs.{log_room};
 ghost use Rattle.cm_slots.specs.declared.ticket.Ticket.{Ticket};
 
 use cm_bits::Plane;
-use cm_element::{ChipView, Run};
+use cm_element::Run;
 use cm_message::{Event, Message};
 use cm_router::{
-    Deliveries, Senders, message_sent, receives, tell_injected, who_has_not_arrived_is_kept,
+    ChipRecords, Deliveries, Senders, receives, tell_injected, who_has_not_arrived_is_kept,
     with_one,
 };
 use cm_slots::{Ticket, TicketQueues};
@@ -92,7 +92,7 @@ pub(crate) fn store_injected(
     slots: &mut TicketQueues,
     at: usize,
     mut senders: Senders,
-    chip: &ChipView<'_>,
+    chip: &ChipRecords<'_>,
     here: u16,
     dims: u8,
     clock: u64,
@@ -119,7 +119,7 @@ pub(crate) fn store_injected(
 {
     let mut taken: Plane = 0;
     while let Some(proc) = senders.next() {
-        let sent = message_sent(chip, proc, here, dims, clock);
+        let sent = chip.message_sent(proc, here, dims, clock);
         stand(row, slots, at, &sent);
         tell_injected(log, &sent);
         taken = with_one(taken, proc);

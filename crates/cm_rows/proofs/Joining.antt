@@ -7,7 +7,7 @@ use Rattle.std.proofs.Math.Nat.{mul-suc}
 use Rattle.cm_bits.specs.Bit.{bit}
 use Rattle.cm_model.specs.Chip.{IsPlane}
 use Rattle.cm_rows.specs.declared.places.Places.{Places}
-use Rattle.cm_rows.specs.Rows.{stores, plane_output, IsChosenOrOld, IsComputed, IsApart}
+use Rattle.cm_rows.specs.Rows.{stores, plane_output, IsChosenOrOld, IsComputed, IsApart, AreRowsApart}
 
 -- the words that the parts from mid on read are as they were
 pub record AreUnread (at : Places) (mid to : ℕ) (memory memory_mid flags flags_mid : List ℕ) : Type 0 where
@@ -30,13 +30,12 @@ apart_kept row read from mid to old new apart within k low high = ⊎_elim
 
 pub unread : (at : Places) (from mid to : ℕ) (memory memory_mid flags flags_mid : List ℕ)
     → IsWithin at.a from mid memory memory_mid → IsWithin at.write from mid flags flags_mid
-    → IsApart at.a at.b to → IsApart at.write at.read to → IsApart at.write at.cond to
-    → AreUnread at mid to memory memory_mid flags flags_mid
-unread at from mid to memory memory_mid flags flags_mid m f b_apart read_apart cond_apart = record {
+    → AreRowsApart at to → AreUnread at mid to memory memory_mid flags flags_mid
+unread at from mid to memory memory_mid flags flags_mid m f apart = record {
   a = λ k low high. m.above (at.a + k) (omega arith);
-  b = apart_kept at.a at.b from mid to memory memory_mid b_apart m;
-  read = apart_kept at.write at.read from mid to flags flags_mid read_apart f;
-  cond = apart_kept at.write at.cond from mid to flags flags_mid cond_apart f;
+  b = apart_kept at.a at.b from mid to memory memory_mid apart.b m;
+  read = apart_kept at.write at.read from mid to flags flags_mid apart.read f;
+  cond = apart_kept at.write at.cond from mid to flags flags_mid apart.cond f;
 }
 
 pub kept_moved : (table : ℕ) (chained always sense : Bool) (a a2 b b2 f f2 c c2 old old2 new new2 : ℕ)
@@ -59,6 +58,14 @@ apart_sooner written read few many fewer apart = ⊎_elim
 
       cases_before : read + few ≤ written → IsApart written read few
       cases_before h = inr h
+
+-- so do all rows
+pub all_apart_sooner : (at : Places) (few many : ℕ) → few ≤ many → AreRowsApart at many → AreRowsApart at few
+all_apart_sooner at few many fewer apart = record {
+  b = apart_sooner at.a at.b few many fewer apart.b;
+  read = apart_sooner at.write at.read few many fewer apart.read;
+  cond = apart_sooner at.write at.cond few many fewer apart.cond;
+}
 
 pub unread_memory : (at : Places) (from mid to : ℕ) (memory memory_mid flags : List ℕ)
     → IsWithin at.a from mid memory memory_mid → IsApart at.a at.b to

@@ -1,6 +1,6 @@
 -- Rows of planes in one list each for memory and flags, and what an instruction leaves in them. Ours.
 use Rattle.std.specs.Prelude.{◌≡◌, ◌⊎◌, ℕ, ◌+◌, ◌<◌, ◌≤◌, ◌||◌, Bool, true, false, List}
-use Rattle.std.specs.Prelude.{Option, Some, None, cond, slice_index}
+use Rattle.std.specs.Prelude.{Option, Some, None, cond, length, slice_index}
 use Rattle.std.specs.Bool.{beq}
 use Rattle.cm_bits.specs.Bit.{bit}
 use Rattle.cm_model.specs.Processor.{entry}
@@ -45,3 +45,17 @@ pub record IsComputed (table : ℕ) (chained always sense : Bool) (at : Places) 
 -- a row of so many words that is read lies not before that which is written, or ends before it
 abbrev pub IsApart : ℕ → ℕ → ℕ → Type 0
 IsApart written read count = (written ≤ read) ⊎ (read + count ≤ written)
+
+-- so many words of each row that is read lie within its list: of A and B within memory, of the flag that is read and
+-- of the condition within the flags
+pub record AreReadable (at : Places) (count : ℕ) (memory flags : List ℕ) : Type 0 where
+  pub a : at.a + count ≤ length memory
+  pub b : at.b + count ≤ length memory
+  pub read : at.read + count ≤ length flags
+  pub cond : at.cond + count ≤ length flags
+
+-- each row of so many words that is read lies not before the row that is written in the same list, or ends before it
+pub record AreRowsApart (at : Places) (count : ℕ) : Type 0 where
+  pub b : IsApart at.a at.b count
+  pub read : IsApart at.write at.read count
+  pub cond : IsApart at.write at.cond count

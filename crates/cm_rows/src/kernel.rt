@@ -1,7 +1,7 @@
 //! Both outputs of an instruction in all words of its rows, in place.
 
 ghost use Rattle.std.specs.Prelude.{◌≡◌, ◌+◌, ◌*◌, ◌≤◌, length, true, false};
-ghost use Rattle.cm_rows.specs.Rows.{IsComputed, IsApart};
+ghost use Rattle.cm_rows.specs.Rows.{IsComputed, AreReadable, AreRowsApart};
 
 use crate::block::{choice_lanes, choice_of, kept, kept_lanes, load, put};
 use crate::places::Places;
@@ -47,14 +47,9 @@ pub fn compute(
     at: Places,
     count: usize,
 )
-    requires a { at.a + count ≤ length memory.old }
-    requires b { at.b + count ≤ length memory.old }
-    requires read { at.read + count ≤ length flags.old }
+    requires rows { AreReadable at count memory.old flags.old }
     requires write { at.write + count ≤ length flags.old }
-    requires cond { at.cond + count ≤ length flags.old }
-    requires b_apart { IsApart at.a at.b count }
-    requires read_apart { IsApart at.write at.read count }
-    requires cond_apart { IsApart at.write at.cond count }
+    requires apart { AreRowsApart at count }
     ensures memory { IsComputed tables.0 false always sense at at.a 0 count memory.old flags.old memory.old memory.new }
     ensures flags { IsComputed tables.1 chained always sense at at.write 0 count
         memory.old flags.old flags.old flags.new }
@@ -85,14 +80,9 @@ fn all_blocks(
     at: Places,
     whole: usize,
 )
-    requires a { at.a + 32 * whole ≤ length memory.old }
-    requires b { at.b + 32 * whole ≤ length memory.old }
-    requires read { at.read + 32 * whole ≤ length flags.old }
+    requires rows { AreReadable at (32 * whole) memory.old flags.old }
     requires write { at.write + 32 * whole ≤ length flags.old }
-    requires cond { at.cond + 32 * whole ≤ length flags.old }
-    requires b_apart { IsApart at.a at.b (32 * whole) }
-    requires read_apart { IsApart at.write at.read (32 * whole) }
-    requires cond_apart { IsApart at.write at.cond (32 * whole) }
+    requires apart { AreRowsApart at (32 * whole) }
     ensures memory { IsComputed tables.0 false always sense at at.a 0 (32 * whole)
         memory.old flags.old memory.old memory.new }
     ensures flags { IsComputed tables.1 chained always sense at at.write 0 (32 * whole)
@@ -119,14 +109,9 @@ fn blocks_always(
     at: Places,
     whole: usize,
 )
-    requires a { at.a + 32 * whole ≤ length memory.old }
-    requires b { at.b + 32 * whole ≤ length memory.old }
-    requires read { at.read + 32 * whole ≤ length flags.old }
+    requires rows { AreReadable at (32 * whole) memory.old flags.old }
     requires write { at.write + 32 * whole ≤ length flags.old }
-    requires cond { at.cond + 32 * whole ≤ length flags.old }
-    requires b_apart { IsApart at.a at.b (32 * whole) }
-    requires read_apart { IsApart at.write at.read (32 * whole) }
-    requires cond_apart { IsApart at.write at.cond (32 * whole) }
+    requires apart { AreRowsApart at (32 * whole) }
     ensures memory { IsComputed tables.0 false true sense at at.a 0 (32 * whole)
         memory.old flags.old memory.old memory.new }
     ensures flags { IsComputed tables.1 false true sense at at.write 0 (32 * whole)
@@ -144,14 +129,9 @@ fn blocks_under_condition(
     at: Places,
     whole: usize,
 )
-    requires a { at.a + 32 * whole ≤ length memory.old }
-    requires b { at.b + 32 * whole ≤ length memory.old }
-    requires read { at.read + 32 * whole ≤ length flags.old }
+    requires rows { AreReadable at (32 * whole) memory.old flags.old }
     requires write { at.write + 32 * whole ≤ length flags.old }
-    requires cond { at.cond + 32 * whole ≤ length flags.old }
-    requires b_apart { IsApart at.a at.b (32 * whole) }
-    requires read_apart { IsApart at.write at.read (32 * whole) }
-    requires cond_apart { IsApart at.write at.cond (32 * whole) }
+    requires apart { AreRowsApart at (32 * whole) }
     ensures memory { IsComputed tables.0 false false sense at at.a 0 (32 * whole)
         memory.old flags.old memory.old memory.new }
     ensures flags { IsComputed tables.1 false false sense at at.write 0 (32 * whole)
@@ -171,14 +151,9 @@ fn blocks_along_chains(
     at: Places,
     whole: usize,
 )
-    requires a { at.a + 32 * whole ≤ length memory.old }
-    requires b { at.b + 32 * whole ≤ length memory.old }
-    requires read { at.read + 32 * whole ≤ length flags.old }
+    requires rows { AreReadable at (32 * whole) memory.old flags.old }
     requires write { at.write + 32 * whole ≤ length flags.old }
-    requires cond { at.cond + 32 * whole ≤ length flags.old }
-    requires b_apart { IsApart at.a at.b (32 * whole) }
-    requires read_apart { IsApart at.write at.read (32 * whole) }
-    requires cond_apart { IsApart at.write at.cond (32 * whole) }
+    requires apart { AreRowsApart at (32 * whole) }
     ensures memory { IsComputed tables.0 false always sense at at.a 0 (32 * whole)
         memory.old flags.old memory.old memory.new }
     ensures flags { IsComputed tables.1 true always sense at at.write 0 (32 * whole)
@@ -220,14 +195,9 @@ fn compute_others(
     at: Places,
     whole: usize,
 )
-    requires a { at.a + 32 * whole ≤ length memory.old }
-    requires b { at.b + 32 * whole ≤ length memory.old }
-    requires read { at.read + 32 * whole ≤ length flags.old }
+    requires rows { AreReadable at (32 * whole) memory.old flags.old }
     requires write { at.write + 32 * whole ≤ length flags.old }
-    requires cond { at.cond + 32 * whole ≤ length flags.old }
-    requires b_apart { IsApart at.a at.b (32 * whole) }
-    requires read_apart { IsApart at.write at.read (32 * whole) }
-    requires cond_apart { IsApart at.write at.cond (32 * whole) }
+    requires apart { AreRowsApart at (32 * whole) }
     ensures memory { IsComputed tables.0 false always sense at at.a 0 (32 * whole)
         memory.old flags.old memory.old memory.new }
     ensures flags { IsComputed tables.1 chained always sense at at.write 0 (32 * whole)
@@ -283,14 +253,9 @@ fn compute_tiles(
     requires mem { length mem.old ≡ 256 }
     requires flag { length flag.old ≡ 256 }
     requires choice { length choice.old ≡ 256 }
-    requires a { at.a + 256 * tiles ≤ length memory.old }
-    requires b { at.b + 256 * tiles ≤ length memory.old }
-    requires read { at.read + 256 * tiles ≤ length flags.old }
+    requires rows { AreReadable at (256 * tiles) memory.old flags.old }
     requires write { at.write + 256 * tiles ≤ length flags.old }
-    requires cond { at.cond + 256 * tiles ≤ length flags.old }
-    requires b_apart { IsApart at.a at.b (256 * tiles) }
-    requires read_apart { IsApart at.write at.read (256 * tiles) }
-    requires cond_apart { IsApart at.write at.cond (256 * tiles) }
+    requires apart { AreRowsApart at (256 * tiles) }
     ensures memory { IsComputed tables.0 false always sense at at.a 0 (256 * tiles)
         memory.old flags.old memory.old memory.new }
     ensures flags { IsComputed tables.1 chained always sense at at.write 0 (256 * tiles)
@@ -329,11 +294,8 @@ fn tile(
 )
     requires mem { length mem.old ≡ length choice.old }
     requires flag { length flag.old ≡ length choice.old }
-    requires a { at.a + from + length choice.old ≤ length memory.old }
-    requires b { at.b + from + length choice.old ≤ length memory.old }
-    requires read { at.read + from + length choice.old ≤ length flags.old }
+    requires rows { AreReadable at (from + length choice.old) memory.old flags.old }
     requires write { at.write + from + length choice.old ≤ length flags.old }
-    requires cond { at.cond + from + length choice.old ≤ length flags.old }
     ensures memory { IsComputed tables.0 false always sense at at.a from (from + length choice.old)
         memory.old flags.old memory.old memory.new }
     ensures flags { IsComputed tables.1 chained always sense at at.write from (from + length choice.old)
@@ -358,14 +320,9 @@ fn compute_known(
     at: Places,
     whole: usize,
 )
-    requires a { at.a + 32 * whole ≤ length memory.old }
-    requires b { at.b + 32 * whole ≤ length memory.old }
-    requires read { at.read + 32 * whole ≤ length flags.old }
+    requires rows { AreReadable at (32 * whole) memory.old flags.old }
     requires write { at.write + 32 * whole ≤ length flags.old }
-    requires cond { at.cond + 32 * whole ≤ length flags.old }
-    requires b_apart { IsApart at.a at.b (32 * whole) }
-    requires read_apart { IsApart at.write at.read (32 * whole) }
-    requires cond_apart { IsApart at.write at.cond (32 * whole) }
+    requires apart { AreRowsApart at (32 * whole) }
     ensures memory { IsComputed tables.0 false always sense at at.a 0 (32 * whole)
         memory.old flags.old memory.old memory.new }
     ensures flags { IsComputed tables.1 false always sense at at.write 0 (32 * whole)
@@ -397,14 +354,9 @@ fn compute_blocks<const L: usize>(
     at: Places,
     whole: usize,
 )
-    requires a { at.a + L * whole ≤ length memory.old }
-    requires b { at.b + L * whole ≤ length memory.old }
-    requires read { at.read + L * whole ≤ length flags.old }
+    requires rows { AreReadable at (L * whole) memory.old flags.old }
     requires write { at.write + L * whole ≤ length flags.old }
-    requires cond { at.cond + L * whole ≤ length flags.old }
-    requires b_apart { IsApart at.a at.b (L * whole) }
-    requires read_apart { IsApart at.write at.read (L * whole) }
-    requires cond_apart { IsApart at.write at.cond (L * whole) }
+    requires apart { AreRowsApart at (L * whole) }
     ensures memory { IsComputed tables.0 false always sense at at.a 0 (L * whole)
         memory.old flags.old memory.old memory.new }
     ensures flags { IsComputed tables.1 chained always sense at at.write 0 (L * whole)
@@ -428,14 +380,9 @@ fn compute_words(
     to: usize,
 )
     requires order { from ≤ to }
-    requires a { at.a + to ≤ length memory.old }
-    requires b { at.b + to ≤ length memory.old }
-    requires read { at.read + to ≤ length flags.old }
+    requires rows { AreReadable at to memory.old flags.old }
     requires write { at.write + to ≤ length flags.old }
-    requires cond { at.cond + to ≤ length flags.old }
-    requires b_apart { IsApart at.a at.b to }
-    requires read_apart { IsApart at.write at.read to }
-    requires cond_apart { IsApart at.write at.cond to }
+    requires apart { AreRowsApart at to }
     ensures memory { IsComputed tables.0 false always sense at at.a from to memory.old flags.old memory.old memory.new }
     ensures flags { IsComputed tables.1 chained always sense at at.write from to
         memory.old flags.old flags.old flags.new }
@@ -457,11 +404,8 @@ fn block<const L: usize>(
     at: Places,
     from: usize,
 )
-    requires a { at.a + from + L ≤ length memory.old }
-    requires b { at.b + from + L ≤ length memory.old }
-    requires read { at.read + from + L ≤ length flags.old }
+    requires rows { AreReadable at (from + L) memory.old flags.old }
     requires write { at.write + from + L ≤ length flags.old }
-    requires cond { at.cond + from + L ≤ length flags.old }
     ensures memory { IsComputed tables.0 false always sense at at.a from (from + L)
         memory.old flags.old memory.old memory.new }
     ensures flags { IsComputed tables.1 chained always sense at at.write from (from + L)
@@ -490,11 +434,8 @@ fn word(
     at: Places,
     from: usize,
 )
-    requires a { at.a + from + 1 ≤ length memory.old }
-    requires b { at.b + from + 1 ≤ length memory.old }
-    requires read { at.read + from + 1 ≤ length flags.old }
+    requires rows { AreReadable at (from + 1) memory.old flags.old }
     requires write { at.write + from + 1 ≤ length flags.old }
-    requires cond { at.cond + from + 1 ≤ length flags.old }
     ensures memory { IsComputed tables.0 false always sense at at.a from (from + 1)
         memory.old flags.old memory.old memory.new }
     ensures flags { IsComputed tables.1 chained always sense at at.write from (from + 1)

@@ -1,7 +1,7 @@
 //! The memory output of an instruction that writes no flag, in all words of its rows, in place.
 
 ghost use Rattle.std.specs.Prelude.{◌≡◌, ◌+◌, ◌*◌, ◌≤◌, length, true, false};
-ghost use Rattle.cm_rows.specs.Rows.{IsComputed, IsApart};
+ghost use Rattle.cm_rows.specs.Rows.{IsComputed, AreReadable, IsApart};
 
 use crate::block::{choice_lanes, choice_of, kept, kept_lanes, load, put};
 use crate::kernel::{BLOCKS, LANES, TILE};
@@ -35,10 +35,7 @@ pub fn compute_memory(
     at: Places,
     count: usize,
 )
-    requires a { at.a + count ≤ length memory.old }
-    requires b { at.b + count ≤ length memory.old }
-    requires read { at.read + count ≤ length flags.now }
-    requires cond { at.cond + count ≤ length flags.now }
+    requires rows { AreReadable at count memory.old flags.now }
     requires b_apart { IsApart at.a at.b count }
     ensures memory { IsComputed table false always sense at at.a 0 count memory.old flags.now memory.old memory.new }
 {
@@ -66,10 +63,7 @@ fn all_blocks(
     at: Places,
     whole: usize,
 )
-    requires a { at.a + 32 * whole ≤ length memory.old }
-    requires b { at.b + 32 * whole ≤ length memory.old }
-    requires read { at.read + 32 * whole ≤ length flags.now }
-    requires cond { at.cond + 32 * whole ≤ length flags.now }
+    requires rows { AreReadable at (32 * whole) memory.old flags.now }
     requires b_apart { IsApart at.a at.b (32 * whole) }
     ensures memory { IsComputed table false always sense at at.a 0 (32 * whole)
         memory.old flags.now memory.old memory.new }
@@ -90,10 +84,7 @@ fn blocks_always(
     at: Places,
     whole: usize,
 )
-    requires a { at.a + 32 * whole ≤ length memory.old }
-    requires b { at.b + 32 * whole ≤ length memory.old }
-    requires read { at.read + 32 * whole ≤ length flags.now }
-    requires cond { at.cond + 32 * whole ≤ length flags.now }
+    requires rows { AreReadable at (32 * whole) memory.old flags.now }
     requires b_apart { IsApart at.a at.b (32 * whole) }
     ensures memory { IsComputed table false true sense at at.a 0 (32 * whole)
         memory.old flags.now memory.old memory.new }
@@ -110,10 +101,7 @@ fn blocks_under_condition(
     at: Places,
     whole: usize,
 )
-    requires a { at.a + 32 * whole ≤ length memory.old }
-    requires b { at.b + 32 * whole ≤ length memory.old }
-    requires read { at.read + 32 * whole ≤ length flags.now }
-    requires cond { at.cond + 32 * whole ≤ length flags.now }
+    requires rows { AreReadable at (32 * whole) memory.old flags.now }
     requires b_apart { IsApart at.a at.b (32 * whole) }
     ensures memory { IsComputed table false false sense at at.a 0 (32 * whole)
         memory.old flags.now memory.old memory.new }
@@ -131,10 +119,7 @@ fn compute_others(
     at: Places,
     whole: usize,
 )
-    requires a { at.a + 32 * whole ≤ length memory.old }
-    requires b { at.b + 32 * whole ≤ length memory.old }
-    requires read { at.read + 32 * whole ≤ length flags.now }
-    requires cond { at.cond + 32 * whole ≤ length flags.now }
+    requires rows { AreReadable at (32 * whole) memory.old flags.now }
     requires b_apart { IsApart at.a at.b (32 * whole) }
     ensures memory { IsComputed table false always sense at at.a 0 (32 * whole)
         memory.old flags.now memory.old memory.new }
@@ -181,10 +166,7 @@ fn compute_tiles(
 )
     requires mem { length mem.old ≡ 256 }
     requires choice { length choice.old ≡ 256 }
-    requires a { at.a + 256 * tiles ≤ length memory.old }
-    requires b { at.b + 256 * tiles ≤ length memory.old }
-    requires read { at.read + 256 * tiles ≤ length flags.now }
-    requires cond { at.cond + 256 * tiles ≤ length flags.now }
+    requires rows { AreReadable at (256 * tiles) memory.old flags.now }
     requires b_apart { IsApart at.a at.b (256 * tiles) }
     ensures memory { IsComputed table false always sense at at.a 0 (256 * tiles)
         memory.old flags.now memory.old memory.new }
@@ -217,10 +199,7 @@ fn tile(
     choice: &mut [Plane],
 )
     requires mem { length mem.old ≡ length choice.old }
-    requires a { at.a + from + length choice.old ≤ length memory.old }
-    requires b { at.b + from + length choice.old ≤ length memory.old }
-    requires read { at.read + from + length choice.old ≤ length flags.now }
-    requires cond { at.cond + from + length choice.old ≤ length flags.now }
+    requires rows { AreReadable at (from + length choice.old) memory.old flags.now }
     ensures memory { IsComputed table false always sense at at.a from (from + length choice.old)
         memory.old flags.now memory.old memory.new }
 {
@@ -240,10 +219,7 @@ fn compute_blocks<const L: usize>(
     at: Places,
     whole: usize,
 )
-    requires a { at.a + L * whole ≤ length memory.old }
-    requires b { at.b + L * whole ≤ length memory.old }
-    requires read { at.read + L * whole ≤ length flags.now }
-    requires cond { at.cond + L * whole ≤ length flags.now }
+    requires rows { AreReadable at (L * whole) memory.old flags.now }
     requires b_apart { IsApart at.a at.b (L * whole) }
     ensures memory { IsComputed table false always sense at at.a 0 (L * whole)
         memory.old flags.now memory.old memory.new }
@@ -265,10 +241,7 @@ fn compute_words(
     to: usize,
 )
     requires order { from ≤ to }
-    requires a { at.a + to ≤ length memory.old }
-    requires b { at.b + to ≤ length memory.old }
-    requires read { at.read + to ≤ length flags.now }
-    requires cond { at.cond + to ≤ length flags.now }
+    requires rows { AreReadable at to memory.old flags.now }
     requires b_apart { IsApart at.a at.b to }
     ensures memory { IsComputed table false always sense at at.a from to memory.old flags.now memory.old memory.new }
 {
@@ -288,10 +261,7 @@ fn block<const L: usize>(
     at: Places,
     from: usize,
 )
-    requires a { at.a + from + L ≤ length memory.old }
-    requires b { at.b + from + L ≤ length memory.old }
-    requires read { at.read + from + L ≤ length flags.now }
-    requires cond { at.cond + from + L ≤ length flags.now }
+    requires rows { AreReadable at (from + L) memory.old flags.now }
     ensures memory { IsComputed table false always sense at at.a from (from + L)
         memory.old flags.now memory.old memory.new }
 {
@@ -314,10 +284,7 @@ fn word(
     at: Places,
     from: usize,
 )
-    requires a { at.a + from + 1 ≤ length memory.old }
-    requires b { at.b + from + 1 ≤ length memory.old }
-    requires read { at.read + from + 1 ≤ length flags.now }
-    requires cond { at.cond + from + 1 ≤ length flags.now }
+    requires rows { AreReadable at (from + 1) memory.old flags.now }
     ensures memory { IsComputed table false always sense at at.a from (from + 1)
         memory.old flags.now memory.old memory.new }
 {

@@ -69,6 +69,25 @@ impl Run {
         };
         self.memory.write(there, usize::from(count), memory);
     }
+
+    /// Writes the memory planes of eight chips, from `first` on, at so many times eight addresses, from `at` on: chip
+    /// by chip and `FIELD_PITCH` words apart. Of eight rows the words of eight chips are read and turned at once: 56
+    /// addresses take about as long as to read records of two processors bit by bit.
+    pub fn write_field_planes(&self, first: u16, at: u16, eights: usize, planes: &mut [Plane])
+        requires chips { first + 8 ≤ length self.now }
+        requires at { at + eights * 8 ≤ 4096 }
+        requires eights { eights ≤ 8 }
+        requires planes { length planes.old ≡ 512 }
+        ensures value { (c k : ℕ) → c < 8 → k < eights * 8 → IsPlane (slice_index planes.new (c * 64 + k))
+            (λ p. memory_bit (processor_at (chip_at self.now (first + c)) p) (at + k)) }
+    {
+        let there = Band {
+            stride: self.stride,
+            first: usize::from(first),
+        };
+        self.memory
+            .write_squares(usize::from(at), eights, there, planes);
+    }
 }
 
 /// Copies so many words of each row.

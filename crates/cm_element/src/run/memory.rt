@@ -16,6 +16,7 @@ use crate::run::flags::has_ones;
 use crate::run::lay::{Band, turn_row, write_row};
 use crate::run::outputs::store_row;
 use crate::run::rows::put_row;
+use crate::run::square::{EIGHT, SQUARE, put_eight, put_square, transpose};
 use crate::run::{ADDRESSES, PITCH};
 use crate::word::{SIXTEEN, bit_of, lift, with_bit, with_lifted_bit};
 use cm_bits::{Field, NoMemory, Plane, Proc};
@@ -318,6 +319,20 @@ impl MemoryRows {
         }
     }
 
+    /// Writes the planes of eight chips at so many times eight addresses, chip by chip.
+    pub(crate) fn write_squares(&self, at: usize, eights: usize, there: Band, planes: &mut [Plane])
+        requires at { at + eights * 8 ≤ 4096 }
+        requires eights { eights ≤ 8 }
+        requires words { length self.now ≡ 4096 * there.stride }
+        requires there { there.first + 8 ≤ there.stride }
+        requires planes { length planes.old ≡ 512 }
+        ensures value { (c k : ℕ) → c < 8 → k < eights * 8 → slice_index planes.new (c * 64 + k)
+            ≡ slice_index self.now ((at + k) * there.stride + (there.first + c)) }
+    {
+        let from = &self.words[there.first..];
+        turn_squares(from, &self.slots, self.stride, at, eights, planes);
+    }
+
     /// Puts the planes of so many chips, which lie chip by chip, into the rows.
     pub(crate) fn turn(&mut self, here: Band, planes: &[Plane], count: usize)
         requires to { length self.old ≡ 4096 * here.stride }
@@ -379,6 +394,72 @@ fn start(words: &Vec<Plane>, slots: &Vec<u16>, used: usize, stride: usize, at: u
     ensures within { result + stride ≤ length words.now.items }
 {
     usize::from(slots[at]) * stride
+}
+
+/// Writes the planes of eight chips at so many times eight addresses, chip by chip. The words are those from the first
+/// of these chips on. They are given as slices, so that no word that is written can be one that tells where the words
+/// lie: nothing is looked up again for each eight.
+fn turn_squares(
+    words: &[Plane],
+    slots: &[u16],
+    stride: usize,
+    at: usize,
+    eights: usize,
+    planes: &mut [Plane],
+)
+    requires slots { length slots.now ≡ 4096 }
+    requires few { stride < 2 ^ 20 }
+    requires rows { (i : ℕ) → i < 4096 → slice_index slots.now i * stride + 8 ≤ length words.now }
+    requires at { at + eights * 8 ≤ 4096 }
+    requires eights { eights ≤ 8 }
+    requires planes { length planes.old ≡ 512 }
+    ensures value { (c k : ℕ) → c < 8 → k < eights * 8 → slice_index planes.new (c * 64 + k)
+        ≡ slice_index words.now (slice_index slots.now (at + k) * stride + c) }
+{
+    for g in 0..eights {
+        turn_square(words, slots, stride, at + g * EIGHT, planes, g * EIGHT);
+    }
+}
+
+/// Writes those of eight addresses, to a place of each chip. The compiler keeps the square in registers.
+fn turn_square(
+    words: &[Plane],
+    slots: &[u16],
+    stride: usize,
+    at: usize,
+    planes: &mut [Plane],
+    to: usize,
+)
+    requires slots { length slots.now ≡ 4096 }
+    requires few { stride < 2 ^ 20 }
+    requires rows { (i : ℕ) → i < 4096 → slice_index slots.now i * stride + 8 ≤ length words.now }
+    requires at { at + 8 ≤ 4096 }
+    requires planes { length planes.old ≡ 512 }
+    requires to { to + 8 ≤ 64 }
+    ensures value { (c k : ℕ) → c < 8 → k < 8 → slice_index planes.new (c * 64 + (to + k))
+        ≡ slice_index words.now (slice_index slots.now (at + k) * stride + c) }
+    ensures below { (c i : ℕ) → i < to → slice_index planes.new (c * 64 + i) ≡ slice_index planes.old (c * 64 + i) }
+{
+    let mut square: [Plane; SQUARE] = [0; SQUARE];
+    read_square(words, slots, stride, at, &mut square);
+    transpose(&mut square);
+    put_square(planes, to, &square);
+}
+
+/// Reads the words of eight chips at eight addresses, row by row.
+fn read_square(words: &[Plane], slots: &[u16], stride: usize, at: usize, square: &mut [Plane])
+    requires slots { length slots.now ≡ 4096 }
+    requires few { stride < 2 ^ 20 }
+    requires rows { (i : ℕ) → i < 4096 → slice_index slots.now i * stride + 8 ≤ length words.now }
+    requires at { at + 8 ≤ 4096 }
+    requires square { length square.old ≡ 64 }
+    ensures value { (k c : ℕ) → k < 8 → c < 8 → slice_index square.new (k * 8 + c)
+        ≡ slice_index words.now (slice_index slots.now (at + k) * stride + c) }
+{
+    for k in 0..EIGHT {
+        let slot = usize::from(slots[at + k]);
+        put_eight(square, k * EIGHT, words, slot * stride);
+    }
 }
 
 /// The first address from this one on that has a row of its own here or there; as many as there are, if none has.
@@ -467,7 +548,7 @@ fn put_bits(
 {
     let at = usize::from(field.at());
     let len = usize::from(field.len());
-    let put = put_sixteens(words, slots, spot, proc, at, len, value);
+    let put = put_sixteens(words, slots, spot, proc, field, value);
     for i in put..len {
         let bit = bit_of(value, i);
         let slot = usize::from(slots[at + i]);
@@ -488,20 +569,20 @@ fn put_sixteens(
     slots: &[u16],
     spot: Spot,
     proc: Proc,
-    at: usize,
-    len: usize,
-    value: u64,
+    field: Field,
+    number: u64,
 ) -> usize
     requires slots { length slots.now ≡ 4096 }
     requires few { spot.stride < 2 ^ 20 }
     requires rows { (i : ℕ) → i < 4096 → slice_index slots.now i * spot.stride + spot.stride ≤ length words.old }
     requires place { spot.place < spot.stride }
-    requires field { at + len ≤ 4096 }
-    ensures value { ArePut words.old slots.now spot.stride spot.place proc at result value words.new }
-    ensures within { result ≤ len }
+    ensures value { ArePut words.old slots.now spot.stride spot.place proc field.at result number words.new }
+    ensures within { result ≤ field.len }
 {
+    let at = usize::from(field.at());
+    let len = usize::from(field.len());
     let mut put = 0;
-    let mut rest = value;
+    let mut rest = number;
     while put + SIXTEEN <= len && are_in_use(slots, at + put) {
         let bits = (rest % 65536) as u16;
         put_sixteen(words, slots, spot, proc, at + put, bits);

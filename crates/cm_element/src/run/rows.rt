@@ -73,7 +73,8 @@ pub(crate) fn step_rows(
     }
 }
 
-/// Writes down what a table gives the processors of every chip, whatever their condition.
+/// Writes down what a table gives the processors of every chip, whatever their condition: the flag's table for what
+/// `Run::send` sends over NEWS or DAISY, and both tables for `Run::outputs`, which only tests call.
 pub(crate) fn look_up_row(
     table: u8,
     memory: &MemoryRows,

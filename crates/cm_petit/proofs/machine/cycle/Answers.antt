@@ -1,4 +1,4 @@
-use Rattle.std.proofs.Common.{arith, ℕ, refl, ap, ◌<◌, ◌^◌, [], ◌≡◌, ◌∙◌}
+use Rattle.std.proofs.Common.{arith, ℕ, refl, ap, ◌<◌, ◌^◌, [], ◌∙◌}
 use Rattle.std.specs.List.{list_any}
 use Rattle.cm_model.specs.Letters.{has_arrived}
 use Rattle.cm_blocks.specs.Steps.{part_after}

@@ -25,6 +25,7 @@ loop-c-init c =
       injected = told_past _ (told_none are.chip_count are.buffer_count) (omega arith) (omega arith)
           (λ ls k from l e. injecting_passed c.args.sizes.dims c.args.sizes.room c.args.clock (0 + k) _ _ e
           (c.next_injecting-c.ensures.none k from l));
+      records = c.new-records.ensures.value c.args.run.now;
       within = are.within;
     }
 
@@ -38,6 +39,7 @@ loop-c-preserved c =
       injected = told_past _ more next.from (omega (arith, next.most, more.buffer_count))
           (λ ls k from l e. injecting_passed c.args.sizes.dims c.args.sizes.room c.args.clock (0 + k) _ _ e
           (next.none k from l));
+      records = done.records;
       within = done.within;
     }
 

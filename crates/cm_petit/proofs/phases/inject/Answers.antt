@@ -25,6 +25,7 @@ loop-c-init c =
       injected = made_past _ (made_none routers.chip_count routers.buffer_count routers.log_count) (omega arith)
           (λ k from l e. injecting_passed c.args.sizes.dims c.args.sizes.room c.args.clock (c.args.first + k) _ _ e
           (c.next_injecting-c.ensures.none k from l));
+      records = c.new-records.ensures.value c.args.run.now;
       within = routers.within;
     }
 
@@ -38,6 +39,7 @@ loop-c-preserved c =
     record {
       injected = made_past _ more next.from (λ k from l e. injecting_passed c.args.sizes.dims c.args.sizes.room
           c.args.clock (c.args.first + k) _ _ e (next.none k from l));
+      records = c.inject.ensures.records;
       within = c.inject.ensures.within;
     }
 

@@ -13,7 +13,7 @@ returns-clause-memory c =
     c.args.memory.now c.all_blocks.new.memory c.all_blocks.ensures.memory)
     (within c.args.tables.1 c.args.chained c.args.always c.args.sense at at.write 0 mid c.args.memory.now
     c.args.flags.now c.args.flags.now c.all_blocks.new.flags c.all_blocks.ensures.flags)
-    c.requires.b_apart c.requires.read_apart c.requires.cond_apart in
+    c.requires.apart in
     joined c.args.tables.0 false c.args.always c.args.sense at at.a 0 mid c.args.count c.args.memory.now
     c.all_blocks.new.memory c.args.flags.now c.all_blocks.new.flags c.args.memory.now c.all_blocks.new.memory
     c.compute_words.new.memory
@@ -30,7 +30,7 @@ returns-clause-flags c =
     c.args.memory.now c.all_blocks.new.memory c.all_blocks.ensures.memory)
     (within c.args.tables.1 c.args.chained c.args.always c.args.sense at at.write 0 mid c.args.memory.now
     c.args.flags.now c.args.flags.now c.all_blocks.new.flags c.all_blocks.ensures.flags)
-    c.requires.b_apart c.requires.read_apart c.requires.cond_apart in
+    c.requires.apart in
     joined c.args.tables.1 c.args.chained c.args.always c.args.sense at at.write 0 mid c.args.count c.args.memory.now
     c.all_blocks.new.memory c.args.flags.now c.all_blocks.new.flags c.args.flags.now c.all_blocks.new.flags
     c.compute_words.new.flags

@@ -20,7 +20,7 @@ returns-clause-memory c =
     c.args.memory.now c.compute_tiles.new.memory c.compute_tiles.ensures.memory)
     (within c.args.tables.1 c.args.chained c.args.always c.args.sense at at.write 0 mid c.args.memory.now
     c.args.flags.now c.args.flags.now c.compute_tiles.new.flags c.compute_tiles.ensures.flags)
-    c.requires.b_apart c.requires.read_apart c.requires.cond_apart in
+    c.requires.apart in
     joined c.args.tables.0 false c.args.always c.args.sense at at.a 0 mid to c.args.memory.now
     c.compute_tiles.new.memory c.args.flags.now c.compute_tiles.new.flags c.args.memory.now c.compute_tiles.new.memory
     c.tile.new.memory
@@ -47,7 +47,7 @@ returns-clause-flags c =
     c.args.memory.now c.compute_tiles.new.memory c.compute_tiles.ensures.memory)
     (within c.args.tables.1 c.args.chained c.args.always c.args.sense at at.write 0 mid c.args.memory.now
     c.args.flags.now c.args.flags.now c.compute_tiles.new.flags c.compute_tiles.ensures.flags)
-    c.requires.b_apart c.requires.read_apart c.requires.cond_apart in
+    c.requires.apart in
     joined c.args.tables.1 c.args.chained c.args.always c.args.sense at at.write 0 mid to c.args.memory.now
     c.compute_tiles.new.memory c.args.flags.now c.compute_tiles.new.flags c.args.flags.now c.compute_tiles.new.flags
     c.tile.new.flags

@@ -1,5 +1,5 @@
 use Rattle.std.proofs.Common.{false, ◌≡◌, ◌≤◌, ℕ, ◌+◌, ◌*◌, length, arith}
-use Rattle.cm_rows.proofs.Joining.{joined, unread, within, apart_sooner, one_more, block_fits, AreUnread}
+use Rattle.cm_rows.proofs.Joining.{joined, unread, within, all_apart_sooner, one_more, block_fits, AreUnread}
 use Rattle.cm_rows.proofs.kernel.compute_tiles.Goals as goal
 
 pub loop-t-preserved : goal.loop-t-preserved
@@ -18,9 +18,7 @@ loop-t-preserved c =
     c.args.memory.now c.loop-t.memory now.memory)
     (within c.args.tables.1 c.args.chained c.args.always c.args.sense at at.write 0 mid c.args.memory.now
     c.args.flags.now c.args.flags.now c.loop-t.flags now.flags)
-    (apart_sooner at.a at.b to (256 * c.args.tiles) few c.requires.b_apart)
-    (apart_sooner at.write at.read to (256 * c.args.tiles) few c.requires.read_apart)
-    (apart_sooner at.write at.cond to (256 * c.args.tiles) few c.requires.cond_apart) in
+    (all_apart_sooner at to (256 * c.args.tiles) few c.requires.apart) in
     rw next (record {
       memory = joined c.args.tables.0 false c.args.always c.args.sense at at.a 0 mid to c.args.memory.now
           c.loop-t.memory c.args.flags.now c.loop-t.flags c.args.memory.now c.loop-t.memory c.tile.new.memory

@@ -1,5 +1,5 @@
 use Rattle.std.proofs.Common.{false, ◌≤◌, ℕ, ◌+◌, arith}
-use Rattle.cm_rows.proofs.Joining.{joined, unread, within, apart_sooner, AreUnread}
+use Rattle.cm_rows.proofs.Joining.{joined, unread, within, all_apart_sooner, AreUnread}
 use Rattle.cm_rows.proofs.kernel.compute_words.Goals as goal
 
 pub loop-k-preserved : goal.loop-k-preserved
@@ -16,9 +16,7 @@ loop-k-preserved c =
     c.args.memory.now c.loop-k.memory now.memory)
     (within c.args.tables.1 c.args.chained c.args.always c.args.sense at at.write c.args.from mid c.args.memory.now
     c.args.flags.now c.args.flags.now c.loop-k.flags now.flags)
-    (apart_sooner at.a at.b to c.args.to few c.requires.b_apart)
-    (apart_sooner at.write at.read to c.args.to few c.requires.read_apart)
-    (apart_sooner at.write at.cond to c.args.to few c.requires.cond_apart) in
+    (all_apart_sooner at to c.args.to few c.requires.apart) in
     record {
       memory = joined c.args.tables.0 false c.args.always c.args.sense at at.a c.args.from mid to c.args.memory.now
           c.loop-k.memory c.args.flags.now c.loop-k.flags c.args.memory.now c.loop-k.memory c.word.new.memory

@@ -1,4 +1,4 @@
-use Rattle.std.proofs.Common.{ℕ, ◌+◌, ◌-◌, length, get_or, ◌∙◌, arith}
+use Rattle.std.proofs.Common.{ℕ, ◌+◌, ◌-◌, length, ◌∙◌, arith}
 use Rattle.cm_bits.specs.Bit.{bit}
 use Rattle.cm_model.specs.Processor.{entry}
 use Rattle.cm_rows.proofs.Lanes.{length-part, get_or-part}

@@ -1,4 +1,4 @@
-use Rattle.std.proofs.Common.{◌≡◌, ◌⊎◌, inl, inr, ◌+◌, ◌≤◌, length, ap, sym, subst, ◌∙◌, arith}
+use Rattle.std.proofs.Common.{◌≡◌, length, ap, sym, subst, ◌∙◌, arith}
 use Rattle.cm_model.specs.Array.{Chips}
 use Rattle.cm_element.specs.Laid.{AreLaid}
 use Rattle.cm_element.specs.Near.{AreNear, with_near}

@@ -2,7 +2,6 @@ use Rattle.std.proofs.Common.{◌≡◌, ℕ, ◌+◌, ◌<◌, length, slice_in
 use Rattle.cm_model.specs.Processor.{memory_bit}
 use Rattle.cm_model.specs.Chip.{IsPlane, processor_at}
 use Rattle.cm_model.specs.Array.{chip_at}
-use Rattle.cm_model.specs.Whole.{IsChip}
 use Rattle.cm_element.proofs.run.Run.sixteen_bits.Given as goal
 
 -- the planes so far
@@ -11,5 +10,4 @@ invariant-loop-i l = record {
   count : length l.planes ≡ 16;
   each : (k : ℕ) → k < l.i
       → IsPlane (slice_index l.planes k) (λ p. memory_bit (processor_at (chip_at l.self l.chip) p) (l.at + k));
-  whole : 0 < l.i → IsChip (chip_at l.self l.chip);
 }

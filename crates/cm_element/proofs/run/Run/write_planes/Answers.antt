@@ -1,6 +1,6 @@
-use Rattle.std.proofs.Common.{◌≡◌, ℕ, ◌+◌, ◌*◌, ◌<◌, ◌≤◌, length, get_or, sym, ap, ◌∙◌, arith}
+use Rattle.std.proofs.Common.{◌≡◌, ℕ, ◌+◌, ◌*◌, ◌<◌, ◌≤◌, get_or, sym, ap, ◌∙◌, arith}
 use Rattle.cm_bits.specs.Bit.{bit}
-use Rattle.cm_element.specs.Runs.{chip_column, chips_of}
+use Rattle.cm_element.specs.Runs.{chip_column}
 use Rattle.cm_model.specs.Processor.{memory_bit}
 use Rattle.cm_model.specs.Chip.{processor_at}
 use Rattle.cm_element.proofs.Columns.{length-chips_of, chip_at-chips_of, get_or-chip_column}

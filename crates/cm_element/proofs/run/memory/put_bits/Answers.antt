@@ -7,7 +7,11 @@ use Rattle.cm_element.proofs.run.memory.put_bits.Goals as goal
 use Rattle.cm_element.proofs.run.memory.put_bits.Goals.{then-slot-ne0, else-slot-ne0+else-bit}
 
 pub loop-i-init : goal.loop-i-init
-loop-i-init c = record { put = c.put_sixteens-put.ensures.value }
+loop-i-init c = record {
+  put = retold_put c.args.words.now c.args.slots.now c.args.spot.stride c.args.spot.place c.args.proc c.args.field.at
+      c.from-at.result c.put_sixteens-put.result c.put_sixteens-put.result c.args.value c.put_sixteens-put.new.words
+      c.put_sixteens-put.ensures.value (sym (c.from-at.ensures ∙ c.at.ensures.value)) refl;
+}
 
 pub returns-then-bit-clause-value : goal.returns-then-bit-clause-value
 returns-then-bit-clause-value c =

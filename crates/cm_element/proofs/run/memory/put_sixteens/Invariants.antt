@@ -7,8 +7,8 @@ decreases-loop-put l = l.len - l.put
 
 abbrev pub invariant-loop-put : goal.invariant-loop-put
 invariant-loop-put l = record {
-  put : ArePut l.fn.words l.slots l.spot.stride l.spot.place l.proc l.at l.put l.value l.words;
-  rest : l.rest ≡ l.value / 2 ^ l.put;
+  put : ArePut l.fn.words l.slots l.spot.stride l.spot.place l.proc l.at l.put l.number l.words;
+  rest : l.rest ≡ l.number / 2 ^ l.put;
   within : l.put ≤ l.len;
   long : length l.words ≡ length l.fn.words;
 }

@@ -4,43 +4,38 @@ use Rattle.std.proofs.lemmas.List.{with_items_is}
 use Rattle.cm_model.specs.declared.act.Nano.{Nano}
 use Rattle.cm_rows.specs.Rows.{IsComputed}
 use Rattle.cm_element.specs.Sparse.{AreMemorySlots}
-use Rattle.cm_element.proofs.Columns.{apart_at}
+use Rattle.cm_element.proofs.Columns.{apart_at, row_within}
 use Rattle.cm_element.proofs.Spreading.{same_stride, length-spread, slots_kept}
 use Rattle.cm_element.proofs.Filling.{IsInSlots, memory_changed, memory_computed, flags_computed, retold}
 use Rattle.cm_element.proofs.run.memory.MemoryRows.compute.Goals as goal
 
-pub compute-requires-clause-a : goal.compute-requires-clause-a
-compute-requires-clause-a c =
+pub compute-requires-clause-rows : goal.compute-requires-clause-rows
+compute-requires-clause-rows c =
     let rows = c.self.inside in
     let same : rows.stride ≡ c.args.stride =
     same_stride rows.words.items rows.slots.items rows.stride c.args.stride (rw c.self.view_is c.requires.words) in
-    omega (arith, same, c.start.ensures.within, c.requires.count, ap length c.deref_mut.ensures.value)
+    record {
+      a = omega (arith, same, c.start.ensures.within, c.requires.count, ap length c.deref_mut.ensures.value);
+      b = omega (arith, same, c.start-2.ensures.within, c.requires.count, ap length c.deref_mut.ensures.value);
+      read = omega (arith, row_within c.args.nano.now.read 16 c.args.stride c.requires.places.read_below);
+      cond = omega (arith, row_within c.args.nano.now.cond 16 c.args.stride c.requires.places.cond_below);
+    }
 
-pub compute-requires-clause-b : goal.compute-requires-clause-b
-compute-requires-clause-b c =
-    let rows = c.self.inside in
-    let same : rows.stride ≡ c.args.stride =
-    same_stride rows.words.items rows.slots.items rows.stride c.args.stride (rw c.self.view_is c.requires.words) in
-    omega (arith, same, c.start-2.ensures.within, c.requires.count, ap length c.deref_mut.ensures.value)
-
-pub compute-requires-clause-b_apart : goal.compute-requires-clause-b_apart
-compute-requires-clause-b_apart c =
+pub compute-requires-clause-apart : goal.compute-requires-clause-apart
+compute-requires-clause-apart c =
     let rows = c.self.inside in
     let slots = c.own-self-inside.new.slots.items in
     let same : rows.stride ≡ c.args.stride =
     same_stride rows.words.items rows.slots.items rows.stride c.args.stride (rw c.self.view_is c.requires.words) in
-    apart_at (get_or slots c.from-a.result 0) (get_or slots c.from-b.result 0) rows.stride c.args.count c.start.result
-    c.start-2.result c.start.ensures.value c.start-2.ensures.value (omega (arith, same, c.requires.count))
-
-pub compute-requires-clause-read_apart : goal.compute-requires-clause-read_apart
-compute-requires-clause-read_apart c =
-    apart_at c.args.nano.now.write c.args.nano.now.read c.args.stride c.args.count c.args.at.write c.args.at.read
-    c.requires.places.write c.requires.places.read c.requires.count
-
-pub compute-requires-clause-cond_apart : goal.compute-requires-clause-cond_apart
-compute-requires-clause-cond_apart c =
-    apart_at c.args.nano.now.write c.args.nano.now.cond c.args.stride c.args.count c.args.at.write c.args.at.cond
-    c.requires.places.write c.requires.places.cond c.requires.count
+    record {
+      b = apart_at (get_or slots c.from-a.result 0) (get_or slots c.from-b.result 0) rows.stride c.args.count
+          c.start.result c.start-2.result c.start.ensures.value c.start-2.ensures.value
+          (omega (arith, same, c.requires.count));
+      read = apart_at c.args.nano.now.write c.args.nano.now.read c.args.stride c.args.count c.args.at.write c.args.at.read
+          c.requires.places.write c.requires.places.read c.requires.count;
+      cond = apart_at c.args.nano.now.write c.args.nano.now.cond c.args.stride c.args.count c.args.at.write c.args.at.cond
+          c.requires.places.write c.requires.places.cond c.requires.count;
+    }
 
 -- where the rows are
 in_slots : (c : goal.After-slice_known-2-1) → IsInSlots c.args.nano.now c.own-self-inside.new.words.items

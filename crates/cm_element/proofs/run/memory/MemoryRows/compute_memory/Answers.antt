@@ -4,24 +4,22 @@ use Rattle.std.proofs.lemmas.List.{with_items_is}
 use Rattle.cm_model.specs.declared.act.Nano.{Nano}
 use Rattle.cm_rows.specs.Rows.{IsComputed}
 use Rattle.cm_element.specs.Sparse.{AreMemorySlots}
-use Rattle.cm_element.proofs.Columns.{apart_at}
+use Rattle.cm_element.proofs.Columns.{apart_at, row_within}
 use Rattle.cm_element.proofs.Spreading.{same_stride, length-spread, slots_kept}
 use Rattle.cm_element.proofs.Filling.{IsInSlots, memory_changed, memory_computed, retold}
 use Rattle.cm_element.proofs.run.memory.MemoryRows.compute_memory.Goals as goal
 
-pub compute_memory-requires-clause-a : goal.compute_memory-requires-clause-a
-compute_memory-requires-clause-a c =
+pub compute_memory-requires-clause-rows : goal.compute_memory-requires-clause-rows
+compute_memory-requires-clause-rows c =
     let rows = c.self.inside in
     let same : rows.stride ≡ c.args.stride =
     same_stride rows.words.items rows.slots.items rows.stride c.args.stride (rw c.self.view_is c.requires.words) in
-    omega (arith, same, c.start.ensures.within, c.requires.count, ap length c.deref_mut.ensures.value)
-
-pub compute_memory-requires-clause-b : goal.compute_memory-requires-clause-b
-compute_memory-requires-clause-b c =
-    let rows = c.self.inside in
-    let same : rows.stride ≡ c.args.stride =
-    same_stride rows.words.items rows.slots.items rows.stride c.args.stride (rw c.self.view_is c.requires.words) in
-    omega (arith, same, c.start-2.ensures.within, c.requires.count, ap length c.deref_mut.ensures.value)
+    record {
+      a = omega (arith, same, c.start.ensures.within, c.requires.count, ap length c.deref_mut.ensures.value);
+      b = omega (arith, same, c.start-2.ensures.within, c.requires.count, ap length c.deref_mut.ensures.value);
+      read = omega (arith, row_within c.args.nano.now.read 16 c.args.stride c.requires.places.read_below);
+      cond = omega (arith, row_within c.args.nano.now.cond 16 c.args.stride c.requires.places.cond_below);
+    }
 
 pub compute_memory-requires-clause-b_apart : goal.compute_memory-requires-clause-b_apart
 compute_memory-requires-clause-b_apart c =

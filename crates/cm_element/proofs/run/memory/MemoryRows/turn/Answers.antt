@@ -1,4 +1,4 @@
-use Rattle.std.proofs.Common.{◌≡◌, ℕ, List, ◌+◌, ◌*◌, drop, get_or, sym, ◌∙◌}
+use Rattle.std.proofs.Common.{ℕ, List, ◌+◌, ◌*◌, drop, get_or, sym, ◌∙◌}
 use Rattle.std.proofs.lemmas.List.{get_or-drop}
 use Rattle.cm_element.proofs.Laying.{put_more, others_more, IsPutAt}
 use Rattle.cm_element.proofs.run.memory.MemoryRows.turn.Goals as goal
