@@ -69,7 +69,7 @@ pub struct Filling<T: Drop> {
 }
 
 impl<T: Drop> FromEnd<T> {
-    /// One that has done no use.
+    /// An end that has sent nothing yet; `Lane::open` makes it.
     pub(crate) fn new(lane: Arc<LaneTable<T>, Global>, seat: LaneSeat<T>) -> FromEnd<T>
         requires table { seat.table_id ≡ (arc_value lane).shared.table_id }
         requires counts { (seat.table_id.words ≡ 1) × (seat.table_id.slots ≡ 1) }

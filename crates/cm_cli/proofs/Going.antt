@@ -19,7 +19,7 @@ pub left_so : (from to : SizedMachine) (acts : List Act) (streams : Streams) (ke
     (kept : Result (Option (List ℕ)) ProgramFault) → Goes from to acts streams (Ok tt)
     → KeepsImage to.n to.cap to.machine keeps kept → IsSession from acts streams keeps kept
 left_so from to acts streams keeps kept goes is =
-    ended_well from acts streams keeps to.machine kept goes.ends goes.heard goes.read goes.write
+    ended_well from acts streams keeps to.machine kept goes.ends goes.heard goes.within goes.read goes.write
     (subst (λ (n : ℕ). KeepsImage n from.cap to.machine keeps kept) goes.n
     (subst (λ (cap : ℕ). KeepsImage to.n cap to.machine keeps kept) goes.cap is))
 
@@ -28,7 +28,7 @@ pub off_so : (from to : SizedMachine) (acts : List Act) (streams : Streams) (kee
     (told : ProgramFault) → told ≡ of_session fault → Goes from to acts streams (Err fault)
     → IsSession from acts streams keeps (Err told)
 off_so from to acts streams keeps fault told same goes =
-    broken_off from acts streams keeps to.machine fault told same goes.ends goes.heard goes.read goes.write
+    broken_off from acts streams keeps to.machine fault told same goes.ends goes.heard goes.within goes.read goes.write
 
 -- a thread is wanted only where one was
 pub wants_thread : {X Wants : Type 0} (fault : SessionFault) (told : ProgramFault) → told ≡ of_session fault

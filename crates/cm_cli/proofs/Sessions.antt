@@ -1,11 +1,12 @@
 -- How a session ends whose image is to be kept, of how the session by itself ended.
-use Rattle.std.proofs.Common.{◌≡◌, Bool, true, false, ℕ, List, Option, Some, None, Result, Ok, Err, refl, sym, subst}
+use Rattle.std.proofs.Common.{◌≡◌, ◌+◌, Bool, true, false, ℕ, List, Option, Some, None, Result, Ok, Err, refl, sym, subst}
 use Rattle.std.specs.Prelude.{◌↔◌, IfSome, IsErrOf}
 use Rattle.cm_model.specs.declared.act.Act.{Act}
 use Rattle.cm_model.specs.Machine.{Machine}
 use Rattle.cm_session.specs.declared.fault.SessionFault.{SessionFault}
 use Rattle.cm_session.specs.declared.fault.SessionFault.TheVariants as session
-use Rattle.cm_session.specs.Ends.{Ends, EndsForSome, is_write}
+use Rattle.cm_session.specs.Reading.{ConsumesAtMost, PIECE_LIMIT}
+use Rattle.cm_session.specs.Ends.{COMMANDS_LIMIT, Ends, EndsForSome, is_write}
 use Rattle.cm_system.specs.declared.program_fault.ProgramFault.{ProgramFault}
 use Rattle.cm_system.specs.declared.program_fault.ProgramFault.TheVariants.{Read, Write, Memory, NoThread}
 use Rattle.cm_system.specs.ProgramFault.{of_session}
@@ -32,10 +33,11 @@ pub ended_well : (start : SizedMachine) (acts : List Act) (streams : Streams) (k
     → IfSome streams.lines (λ lines. Ends start.n start.cap acts lines streams.rest start.machine streams.out_before after
     streams.out_after (Ok tt))
     → EndsForSome start.n start.cap acts streams.lines streams.rest start.machine streams.out_before after streams.out_after (Ok tt)
+    → ConsumesAtMost (COMMANDS_LIMIT + PIECE_LIMIT) streams.lines streams.rest
     → ((streams.read_failed ≡ true) ↔ IsErrOf {T = Unit {0}} {E = SessionFault} (Ok tt) session.Read)
     → streams.write_failed ≡ false → KeepsImage start.n start.cap after keeps kept
     → IsSession start acts streams keeps kept
-ended_well start acts streams keeps after (Ok image) ends heard read write is = record {
+ended_well start acts streams keeps after (Ok image) ends heard within read write is = record {
   ends = lift_some streams.lines (λ lines h. record { after = after; ends = h; kept = is }) ends;
   heard = record {
     lines = heard.text;
@@ -43,10 +45,11 @@ ended_well start acts streams keeps after (Ok image) ends heard read write is = 
     end = heard.end;
     run = record { after = after; ends = heard.ends; kept = is };
   };
+  within = within;
   read = (λ failed. absurd (let wrong = read.0 failed in cc), λ e. absurd (cc));
   write = (λ failed. absurd (cc), λ e. absurd (cc));
 }
-ended_well start acts streams keeps after (Err fault) ends heard read write is = record {
+ended_well start acts streams keeps after (Err fault) ends heard within read write is = record {
   ends = lift_some streams.lines
       (λ lines h. record { after = after; result = Ok tt; ends = h; told = wants_memory keeps fault is.0 is.1 }) ends;
   heard = record {
@@ -55,6 +58,7 @@ ended_well start acts streams keeps after (Err fault) ends heard read write is =
     run = record { after = after; result = Ok tt; ends = heard.ends; told = wants_memory keeps fault is.0 is.1 };
     end = heard.end;
   };
+  within = within;
   read = (λ failed. absurd (let wrong = read.0 failed in cc), λ e. absurd (let same = is.1 in cc));
   write = (λ failed. absurd (cc), λ e. absurd (let same = is.1 in cc));
 }
@@ -94,9 +98,10 @@ pub broken_off : (start : SizedMachine) (acts : List Act) (streams : Streams) (k
     streams.out_after (Err fault))
     → EndsForSome start.n start.cap acts streams.lines streams.rest start.machine streams.out_before after streams.out_after
     (Err fault)
+    → ConsumesAtMost (COMMANDS_LIMIT + PIECE_LIMIT) streams.lines streams.rest
     → ((streams.read_failed ≡ true) ↔ IsErrOf {T = Unit {0}} (Err fault) session.Read)
     → streams.write_failed ≡ is_write (Err fault) → IsSession start acts streams keeps (Err told)
-broken_off start acts streams keeps after fault told same ends heard read write =
+broken_off start acts streams keeps after fault told same ends heard within read write =
     subst (λ (f : ProgramFault). IsSession start acts streams keeps (Err f)) (sym same) (record {
       ends = lift_some streams.lines
           (λ lines h. record { after = after; result = Err fault; ends = h; told = own_fault keeps fault }) ends;
@@ -106,6 +111,7 @@ broken_off start acts streams keeps after fault told same ends heard read write 
         run = record { after = after; result = Err fault; ends = heard.ends; told = own_fault keeps fault };
         end = tt;
       };
+      within = within;
       read = same_read _ fault read;
       write = same_write _ fault write;
     })

@@ -1,9 +1,11 @@
 -- What `cm1 run` does from its first file to its last. Ours.
-use Rattle.std.specs.Prelude.{◌≡◌, ◌⊎◌, ◌↔◌, Bool, true, Option, IfSome, IsErrOf, Result, Ok}
+use Rattle.std.specs.Prelude.{◌≡◌, ◌+◌, ◌⊎◌, ◌↔◌, Bool, true, Option, IfSome, IsErrOf, Result, Ok}
 use Rattle.std.specs.Prelude.{Err, ℕ, List, ◌++◌}
 use Rattle.std.specs.Option.{is_some}
 use Rattle.cm_model.specs.declared.act.Act.{Act}
 use Rattle.cm_language.specs.Program.{ProgramText}
+use Rattle.cm_session.specs.Reading.{ConsumesAtMost, PIECE_LIMIT}
+use Rattle.cm_session.specs.Ends.{COMMANDS_LIMIT}
 use Rattle.cm_cli.specs.declared.files.RunLine.{RunLine}
 use Rattle.cm_system.specs.declared.program_fault.ProgramFault.{ProgramFault}
 use Rattle.cm_system.specs.declared.program_fault.ProgramFault.TheVariants.{Read, Write, NoThread}
@@ -34,6 +36,7 @@ pub record IsSession (start : SizedMachine) (acts : List Act) (streams : Streams
     (ran : Result (Option (List ℕ)) ProgramFault) : Type 0 where
   pub ends : EndsSession start acts streams keeps ran
   pub heard : HearsSession start acts streams keeps ran
+  pub within : ConsumesAtMost (COMMANDS_LIMIT + PIECE_LIMIT) streams.lines streams.rest
   pub read : (streams.read_failed ≡ true) ↔ IsErrOf ran Read
   pub write : (streams.write_failed ≡ true) ↔ IsErrOf ran Write
 

@@ -12,11 +12,12 @@ use Rattle.cm_model.specs.declared.act.Act.{Act}
 use Rattle.cm_model.specs.Machine.{Machine}
 use Rattle.cm_session.specs.declared.fault.SessionFault.{SessionFault}
 use Rattle.cm_session.specs.declared.fault.SessionFault.TheVariants.{Read, Write, TooMuch, Memory, NoThread}
+use Rattle.cm_session.specs.Reading.{ConsumesAtMost, PIECE_LIMIT}
 use Rattle.cm_session.specs.Session.{Session, opening, after_lines}
 use Rattle.cm_session.specs.Ends.{COMMANDS_LIMIT, ended_lines, open_line, processed_lines, IsAnswered, Ends, EndsForSome}
 use Rattle.cm_session.proofs.Lines.{heard_first, heard_whole}
 use Rattle.cm_debug.specs.Talk.{Talk, Setting, setting, after_all, AreProcessed, IsBroken, AbortsAmong}
-use Rattle.cm_debug.specs.Hearing.{PIECE_LIMIT, MayBeLeft, HasEnded, HasTakenAll, ReadsWithin}
+use Rattle.cm_debug.specs.Hearing.{MayBeLeft, HasEnded, HasTakenAll}
 use Rattle.cm_debug.specs.Taking.{HasTaken, HasStopped}
 use Rattle.cm_debug.proofs.Breaking.{among_more, broken_first}
 use Rattle.cm_debug.proofs.Lines.{lines_of-closed, lines_at_last}
@@ -285,8 +286,9 @@ ends_some {n} {cap} {first} {last} {source} {rest} {result} ended = record {
 }
 
 pub ends_within : {n cap : ℕ} {first last : Setting} {source rest : Option (List ℕ)}
-    {result : Result (Unit {0}) SessionFault} → HasEnded n cap first source rest last result → ReadsWithin source rest
-ends_within ended = record { text = ended.text; few = ended.few; read = ended.read }
+    {result : Result (Unit {0}) SessionFault} → HasEnded n cap first source rest last result
+    → ConsumesAtMost (COMMANDS_LIMIT + PIECE_LIMIT) source rest
+ends_within ended = record { bytes = ended.text; few = ended.few; consumed = ended.read }
 
 -- a session of the same acts
 pub of_acts : {n cap : ℕ} {first : Setting} {source rest : Option (List ℕ)} {machine : Machine} {out : Option (List ℕ)}

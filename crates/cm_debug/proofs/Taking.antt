@@ -221,7 +221,7 @@ whole_rest k xs = grind (arith, common_steps)
 take_one : (xs : List ℕ) (k : ℕ) → k < length xs → take (k + 1) xs ≡ take k xs ++ get_or xs k 0 ∷ []
 take_one xs k h = grind (arith, common_steps)
 
--- what was done of it, and the rest
+-- the part of a piece that was done and the rest make the piece
 rest_of : (piece rest : List ℕ) (done : ℕ) → rest ≡ take (length piece - done) (drop done piece)
     → take done piece ++ rest ≡ piece
 rest_of piece rest done is =

@@ -3,18 +3,9 @@ use Rattle.std.specs.Prelude.{◌≡◌, ℕ, ◌+◌, ◌≤◌, ◌⊎◌, Opt
 use Rattle.std.specs.Io.KnownBytes.{Consumes, IsAtEnd}
 use Rattle.cm_array.specs.Faults.{CountsLacks}
 use Rattle.cm_session.specs.declared.fault.SessionFault.{SessionFault}
+use Rattle.cm_session.specs.Reading.{PIECE_LIMIT}
 use Rattle.cm_session.specs.Ends.{COMMANDS_LIMIT, is_session_no_thread, Ends}
 use Rattle.cm_debug.specs.Talk.{Talk, Setting, setting, AreProcessed}
-
--- the most bytes that one read asks for
-abbrev pub PIECE_LIMIT : ℕ
-PIECE_LIMIT = 4096
-
--- known bytes begin with a text that is longer than the most bytes of commands by one read at most, and lose it
-pub record ReadsWithin (source rest : Option (List ℕ)) : Type 0 where
-  pub text : List ℕ
-  pub few : length text ≤ COMMANDS_LIMIT + PIECE_LIMIT
-  pub read : Consumes source rest text
 
 -- what a source may have left of which this is known: nothing, or what it is known to have
 abbrev pub MayBeLeft : Option (List ℕ) → List ℕ → Type 0

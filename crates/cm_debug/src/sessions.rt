@@ -1,12 +1,13 @@
 //! A session, from the bytes of a source to those of a sink.
 
-ghost use Rattle.std.specs.Prelude.{◌≡◌, ◌≤◌, ◌*◌, ◌^◌, ◌↔◌, true, false, length, [], IfSome, IsErrOf};
+ghost use Rattle.std.specs.Prelude.{◌≡◌, ◌≤◌, ◌+◌, ◌*◌, ◌^◌, ◌↔◌, true, false, length, [], IfSome, IsErrOf};
 ghost use Rattle.std.specs.Prelude.{OnOk};
 ghost use Rattle.std.specs.Io.KnownBytes.{IsAtEnd};
 ghost use Rattle.cm_array.specs.Faults.{CountsLacks};
-ghost use Rattle.cm_session.specs.Ends.{Ends, EndsForSome, is_session_no_thread, is_write};
+ghost use Rattle.cm_session.specs.Reading.{ConsumesAtMost, PIECE_LIMIT};
+ghost use Rattle.cm_session.specs.Ends.{COMMANDS_LIMIT, Ends, EndsForSome, is_session_no_thread, is_write};
 ghost use Rattle.cm_debug.specs.Talk.{setting, talk, AreProcessed};
-ghost use Rattle.cm_debug.specs.Hearing.{HasEnded, ReadsWithin, TakesAll};
+ghost use Rattle.cm_debug.specs.Hearing.{HasEnded, TakesAll};
 
 use crate::console::Console;
 use cm_array::{Machine, Runner};
@@ -42,7 +43,7 @@ pub fn session<const N: usize, const CAP: usize, R: Runner<N, CAP>, I: Source, O
     ensures heard { EndsForSome N CAP program.now.acts (I.left commands.old) (I.left commands.new) machine.old.machine
         (O.contents out.old) machine.new.machine (O.contents out.new) result }
     ensures end { OnOk result (IsAtEnd (I.left commands.new)) }
-    ensures within { ReadsWithin (I.left commands.old) (I.left commands.new) }
+    ensures within { ConsumesAtMost (COMMANDS_LIMIT + PIECE_LIMIT) (I.left commands.old) (I.left commands.new) }
     ensures read { (I.has_failed commands.new ≡ true) ↔ IsErrOf result SessionFault.Read }
     ensures write { O.has_failed out.new ≡ is_write result }
     ensures thread { CountsLacks is_session_no_thread (R.threads_lacked runner.old)

@@ -141,7 +141,9 @@ fn text(alloc: Global, path: &str) -> Result<String, PutFault> {
 
 impl<F: io::Write + Drop> PendingFile<F> {
     /// Puts the bytes of this where the file was wanted. Where that cannot be done a new file is taken away again.
-    pub fn fill<R: Files, T: Written>(self, rt: &R, image: T) -> Result<(), PutFault> {
+    pub fn fill<R: Files, T: Written>(self, rt: &R, image: T) -> Result<(), PutFault>
+        ensures memory { ¬ IsErrOf result PutFault.Memory }
+    {
         let PendingFile { path, beside } = self;
         match beside {
             Some(new) => new.replace(rt, path.as_str(), image),
@@ -166,12 +168,9 @@ impl<F: io::Write + Drop> PendingFile<F> {
 
 impl<F: io::Write + Drop> NewFile<F> {
     /// Takes these bytes, and then the place that the path says; or is taken away.
-    fn replace<R: Files, T: Written>(
-        mut self,
-        rt: &R,
-        path: &str,
-        image: T,
-    ) -> Result<(), PutFault> {
+    fn replace<R: Files, T: Written>(mut self, rt: &R, path: &str, image: T) -> Result<(), PutFault>
+        ensures memory { ¬ IsErrOf result PutFault.Memory }
+    {
         let replaced = match write(&mut self.file, image) {
             Ok(()) => self.rename(rt, path),
             Err(fault) => Err(fault),
@@ -182,7 +181,9 @@ impl<F: io::Write + Drop> NewFile<F> {
         replaced
     }
 
-    fn rename<R: Files>(&self, rt: &R, path: &str) -> Result<(), PutFault> {
+    fn rename<R: Files>(&self, rt: &R, path: &str) -> Result<(), PutFault>
+        ensures memory { ¬ IsErrOf result PutFault.Memory }
+    {
         match fs::rename(rt, self.name.as_str(), path) {
             Ok(()) => Ok(()),
             Err(_) => Err(PutFault::Write),
@@ -194,6 +195,8 @@ impl<F: io::Write + Drop> NewFile<F> {
     }
 }
 
-fn write<W: io::Write, T: Written>(writer: &mut W, image: T) -> Result<(), PutFault> {
+fn write<W: io::Write, T: Written>(writer: &mut W, image: T) -> Result<(), PutFault>
+    ensures memory { ¬ IsErrOf result PutFault.Memory }
+{
     image.write(&mut Std::new(writer))
 }

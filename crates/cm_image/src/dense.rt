@@ -101,8 +101,9 @@ fn put_listing(bytes: &mut [u8], i: usize, at: u16, plane: Plane) -> u32
     ensures value { result ≡ 0 → take (i + 4) bytes.new ≡ take i bytes.old ++ plane_listing at plane }
     ensures few { result ≤ 1 }
 {
-    let [at_high, at_low] = at.to_be_bytes();
-    let [high, low] = plane.to_be_bytes();
+    // As one number, whose bytes the compiler writes at once.
+    let listing = u32::from(at) << 16 | u32::from(plane);
+    let [at_high, at_low, high, low] = listing.to_be_bytes();
     bytes[i] = at_high;
     bytes[i + 1] = at_low;
     bytes[i + 2] = high;

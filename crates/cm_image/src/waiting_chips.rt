@@ -172,12 +172,25 @@ fn take_planes(memory: &mut [Plane], place: usize, bytes: &[u8]) -> bool
     let mut wrong = 0;
     for at in 0..ADDRESSES {
         let i = usize::from(at);
-        let (address, plane) = listing_at(bytes, 4 * i);
+        let plane = plane_at(bytes, 4 * i, at);
         // Nothing is left early, so that many are taken at a time.
-        wrong += u32::from(address != u32::from(at)) + u32::from(plane == 0);
-        memory[place + i] = plane as u16;
+        wrong += u32::from(plane.wrapping_sub(1) >= 65535);
+        memory[place + i] = (plane % 65536) as u16;
     }
     wrong == 0
+}
+
+/// The plane that is listed at a place of bytes, where it is that of this address; else 0, or what is too large for a
+/// plane. So one comparison tells both.
+#[inline(always)]
+fn plane_at(bytes: &[u8], i: usize, at: u16) -> u32
+    requires within { i + 4 ≤ length bytes.now }
+    ensures address { 0 < result → result < 65536 → number_at w16 (drop i bytes.now) ≡ Ok (at, drop (i + 2) bytes.now) }
+    ensures plane { 0 < result → result < 65536
+        → number_at w16 (drop (i + 2) bytes.now) ≡ Ok (result, drop (i + 4) bytes.now) }
+{
+    let (address, plane) = listing_at(bytes, i);
+    (address << 16 | plane).wrapping_sub(u32::from(at) << 16)
 }
 
 /// The address and the plane that are listed at a place of bytes.
@@ -187,6 +200,7 @@ fn listing_at(bytes: &[u8], i: usize) -> (u32, u32)
     requires within { i + 4 ≤ length bytes.now }
     ensures address { number_at w16 (drop i bytes.now) ≡ Ok (result.0, drop (i + 2) bytes.now) }
     ensures plane { number_at w16 (drop (i + 2) bytes.now) ≡ Ok (result.1, drop (i + 4) bytes.now) }
+    ensures address_word { result.0 < 65536 }
     ensures word { result.1 < 65536 }
 {
     let listing = u32::from_be_bytes([bytes[i], bytes[i + 1], bytes[i + 2], bytes[i + 3]]);

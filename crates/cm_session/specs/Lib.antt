@@ -4,6 +4,7 @@ pub mod Bounds
 pub mod Answer
 pub mod Session
 pub mod Stretches
+pub mod Reading
 pub mod Ends
 pub mod Laws
 pub mod Whole

@@ -1,12 +1,7 @@
 -- What a source has given. Ours.
 use Rattle.std.specs.Prelude.{ℕ, ◌+◌, ◌<◌, ◌≤◌, Option, List, length}
 use Rattle.std.specs.Io.KnownBytes.{Consumes}
-
--- known bytes begin with at most so many, and lose them
-pub record ConsumesAtMost (most : ℕ) (out_before left : Option (List ℕ)) : Type 0 where
-  pub bytes : List ℕ
-  pub few : length bytes ≤ most
-  pub consumed : Consumes out_before left bytes
+pub use Rattle.cm_session.specs.Reading.{ConsumesAtMost}
 
 -- the most bytes that one read asks for
 abbrev pub READ_LIMIT : ℕ

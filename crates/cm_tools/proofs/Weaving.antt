@@ -1,5 +1,5 @@
 -- What is said of a world that is stepped, where one value is another.
-use Rattle.std.proofs.Common.{◌≡◌, ℕ, Result, None, Ok, Err, List, true, refl, subst, ap, ◌∙◌}
+use Rattle.std.proofs.Common.{◌≡◌, ℕ, ◌+◌, Result, None, Ok, Err, List, true, refl, subst, ap, ◌∙◌}
 use Rattle.std.specs.Prelude.{◌↔◌, IfErr, IfSome, IsErrOf, IsOk, MatchResult, unwrap_or}
 use Rattle.std.specs.Io.KnownBytes.{Appends}
 use Rattle.cm_model.specs.declared.act.Act.{Act}
@@ -11,10 +11,11 @@ use Rattle.cm_weave.specs.First.{IsFirst}
 use Rattle.cm_exchange.specs.Lanes.{Exchange}
 use Rattle.cm_exchange.specs.Worlds.{World}
 use Rattle.cm_weave.specs.Woven.{Woven}
+use Rattle.cm_session.specs.Reading.{ConsumesAtMost, PIECE_LIMIT}
 use Rattle.cm_weave_text.specs.declared.fault.WeaveFault.{WeaveFault}
 use Rattle.cm_weave_text.specs.declared.fault.WeaveFault.TheVariants as weave
 use Rattle.cm_weave_text.specs.Alone.{own_text}
-use Rattle.cm_weave_text.specs.Ends.{EndsBy, EndsByForSome, EndsFinished, EndsFinishedForSome, IsWrittenInPart}
+use Rattle.cm_weave_text.specs.Ends.{STEPS_LIMIT, EndsBy, EndsByForSome, EndsFinished, EndsFinishedForSome, IsWrittenInPart}
 use Rattle.cm_system.specs.declared.program_fault.ProgramFault.{ProgramFault}
 use Rattle.cm_system.specs.ProgramFault.{of_world}
 use Rattle.cm_system.specs.InputFiles.{Reads}
@@ -63,11 +64,12 @@ pub hears_so : {F M : Type 0} (reads : Reads F) (exchange : Exchange) (first : W
     (λ text. EndsBy exchange text (reads.left after) first out.out_before out.out_after fault))
     → MatchResult r (λ _. EndsFinishedForSome exchange first out.out_before out.out_after)
     (EndsByForSome exchange first out.out_before out.out_after)
+    → ConsumesAtMost (STEPS_LIMIT + PIECE_LIMIT) (reads.left file) (reads.left after)
     → (reads.has_failed after ≡ true) ↔ IsErrOf r weave.Read → HearsSteps reads exchange first file out (ended_of r)
-hears_so reads exchange first file after out (Ok machine) finished err heard read =
-    record { after = after; ends = finished refl; heard = heard; read = same_none read }
-hears_so reads exchange first file after out (Err fault) finished err heard read =
-    record { after = after; ends = err; heard = heard; read = same_fault read }
+hears_so reads exchange first file after out (Ok machine) finished err heard within read =
+    record { after = after; ends = finished refl; heard = heard; within = within; read = same_none read }
+hears_so reads exchange first file after out (Err fault) finished err heard within read =
+    record { after = after; ends = err; heard = heard; within = within; read = same_fault read }
 
 -- and one that went by itself
 pub tells_so : {M : Type 0} (exchange : Exchange) (first : World) (out : Outgoing) (r : Result M WeaveFault)

@@ -1,5 +1,5 @@
 -- How an exchange ends that the program steps, and what it keeps of its machine. Ours.
-use Rattle.std.specs.Prelude.{◌≡◌, ◌↔◌, ℕ, Bool, true, Option, Some, None, IfSome, IsErrOf, Result, Ok, Err, List}
+use Rattle.std.specs.Prelude.{◌≡◌, ◌+◌, ◌↔◌, ℕ, Bool, true, Option, Some, None, IfSome, IsErrOf, Result, Ok, Err, List}
 use Rattle.std.specs.Io.KnownBytes.{Appends}
 use Rattle.cm_model.specs.Machine.{Machine, run_of}
 use Rattle.cm_exchange.specs.Lanes.{Exchange}
@@ -8,7 +8,8 @@ use Rattle.cm_weave.specs.Woven.{Woven}
 use Rattle.cm_weave_text.specs.declared.fault.WeaveFault.{WeaveFault}
 use Rattle.cm_weave_text.specs.declared.fault.WeaveFault.TheVariants as weave
 use Rattle.cm_weave_text.specs.Alone.{own_text}
-use Rattle.cm_weave_text.specs.Ends.{EndsBy, EndsByForSome, EndsFinished, EndsFinishedForSome, IsWrittenInPart, is_weave_write}
+use Rattle.cm_session.specs.Reading.{ConsumesAtMost, PIECE_LIMIT}
+use Rattle.cm_weave_text.specs.Ends.{STEPS_LIMIT, EndsBy, EndsByForSome, EndsFinished, EndsFinishedForSome, IsWrittenInPart, is_weave_write}
 use Rattle.cm_weave_text.specs.Hearing.{exchange_in}
 use Rattle.cm_system.specs.declared.program_fault.ProgramFault.{ProgramFault}
 use Rattle.cm_system.specs.ProgramFault.{of_weave}
@@ -51,6 +52,7 @@ pub record HearsSteps {F : Type 0} (reads : Reads F) (exchange : Exchange) (worl
   pub after : F
   pub ends : IfSome (reads.left file) (λ text. EndsBySteps exchange world text (reads.left after) out ended)
   pub heard : EndsBySome exchange world out ended
+  pub within : ConsumesAtMost (STEPS_LIMIT + PIECE_LIMIT) (reads.left file) (reads.left after)
   pub read : (reads.has_failed after ≡ true) ↔ IsErrOf ended weave.Read
 
 -- an exchange ends so, by a file of steps or, where there is none, by itself

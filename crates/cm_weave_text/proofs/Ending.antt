@@ -9,6 +9,7 @@ use Rattle.std.proofs.KnownBytes.{Appends-trans, Appends-nil, Consumes-trans, Co
 use Rattle.std.specs.Io.KnownBytes.{Appends, Consumes, Keeps, IsAtEnd}
 use Rattle.std.specs.List.{list_all, All}
 use Rattle.cm_bits.specs.Text.{lines_of}
+use Rattle.cm_session.specs.Reading.{ConsumesAtMost, PIECE_LIMIT}
 use Rattle.cm_session.specs.Ends.{ended_lines, open_line}
 use Rattle.cm_exchange.specs.declared.stand.Stand.{Stand}
 use Rattle.cm_exchange.specs.Lanes.{Exchange, round_count}
@@ -96,6 +97,28 @@ module _ (exchange : Exchange) (start : World) (out_before before : Option (List
       written = subst (Appends out_before out_after) said_is mid.written;
     };
   }
+
+  -- ---- what was taken
+
+  -- where a read failed
+  pub within_read : (after : Option (List ℕ)) → Keeps now after → ConsumesAtMost (STEPS_LIMIT + PIECE_LIMIT) before after
+  within_read after kept = record {
+    bytes = text;
+    few = let w = mid.within in omega (arith, w, mid.taken_is);
+    consumed = Consumes-kept before now after text mid.consumed kept;
+  }
+
+  -- where it gave a piece
+  pub within_piece : (after : Option (List ℕ)) (buf : List ℕ) (count : ℕ) → count ≤ PIECE_LIMIT
+      → Consumes now after (take count buf) → ConsumesAtMost (STEPS_LIMIT + PIECE_LIMIT) before after
+  within_piece after buf count little consumed = record {
+    bytes = text ++ take count buf;
+    few = let w = mid.within in
+        omega (arith, w, mid.taken_is, little, length-append text (take count buf), at_most count buf);
+    consumed = Consumes-trans before now after text (take count buf) mid.consumed consumed;
+  } where
+    at_most : (k : ℕ) (xs : List ℕ) → length (take k xs) ≤ k
+    at_most k xs = grind (arith, common_steps)
 
   -- ---- a piece
 

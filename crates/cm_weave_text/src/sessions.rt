@@ -3,7 +3,9 @@
 ghost use Rattle.std.specs.Prelude.{◌≡◌, ◌↔◌, ◌+◌, ◌<◌, ◌^◌, [], false, true, IfOk, IfErr, IfSome, IsOk, IsErrOf};
 ghost use Rattle.std.specs.Prelude.{MatchResult};
 ghost use Rattle.cm_model.specs.Machine.{run_of};
+ghost use Rattle.cm_session.specs.Reading.{ConsumesAtMost, PIECE_LIMIT};
 ghost use Rattle.cm_weave_text.specs.Ends.{is_weave_write, EndsBy, EndsByForSome, EndsFinished, EndsFinishedForSome};
+ghost use Rattle.cm_weave_text.specs.Ends.{STEPS_LIMIT};
 ghost use Rattle.cm_weave_text.specs.Hearing.{exchange_in, processed, TextAborts, HasHeard, IsHeard, IsHeardForSome};
 ghost use Rattle.cm_weave_text.specs.Hearing.{IsOfRun};
 
@@ -43,6 +45,7 @@ pub fn weave_session<const N: usize, const CAP: usize, I: Source, O: Sink>(
         (λ _. EndsFinishedForSome (exchange_in N CAP world.entry) world.entry.world (O.contents out.old)
         (O.contents out.new))
         (EndsByForSome (exchange_in N CAP world.entry) world.entry.world (O.contents out.old) (O.contents out.new)) }
+    ensures within { ConsumesAtMost (STEPS_LIMIT + PIECE_LIMIT) (I.left steps.old) (I.left steps.new) }
     ensures read { (I.has_failed steps.new ≡ true) ↔ IsErrOf result WeaveFault.Read }
     ensures write { O.has_failed out.new ≡ is_weave_write result }
 {
@@ -82,6 +85,7 @@ fn hear_all<const N: usize, const CAP: usize, I: Source, O: Sink>(
         (IsHeardForSome (exchange_in N CAP world.old) world.old.world (O.contents out.old) world.new.world
         (O.contents out.new))
         (EndsByForSome (exchange_in N CAP world.old) world.old.world (O.contents out.old) (O.contents out.new)) }
+    ensures within { ConsumesAtMost (STEPS_LIMIT + PIECE_LIMIT) (I.left steps.old) (I.left steps.new) }
     ensures read { (I.has_failed steps.new ≡ true) ↔ IsErrOf result WeaveFault.Read }
     ensures write { O.has_failed out.new ≡ is_weave_write result }
 {

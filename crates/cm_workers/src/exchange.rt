@@ -6,8 +6,8 @@ ghost use Rattle.cm_subcube.specs.Parcels.{CanBeOver};
 
 use cm_subcube::Kind;
 
-/// Hands over what stands for each of 2^`k` blocks of a cube of so many dimensions, in order of their numbers: what a
-/// block has then is what its giver had.
+/// Gives each of 2^`k` blocks of a cube of so many dimensions the thing of the block that sends to it in a round of
+/// this kind: a parcel, or the end of a lane. The things are in the order of the blocks' numbers.
 pub fn hand_over<T: Drop>(things: &mut [T], dims: u8, k: u8, kind: Kind)
     requires dimension { dims ≤ 12 }
     requires within { k ≤ dims }

@@ -12,7 +12,7 @@ returns-in-Some g c = rw c.in-Some.is (record {
       (outgoing_of (g.O.Sink.contents c.args.answers.now) (g.O.Sink.contents c.weave_session.new.out)
       (g.O.Sink.has_failed c.weave_session.new.out))
       c.weave_session.result c.weave_session.ensures.finished c.weave_session.ensures.err
-      c.weave_session.ensures.heard c.weave_session.ensures.read;
+      c.weave_session.ensures.heard c.weave_session.ensures.within c.weave_session.ensures.read;
   write = c.weave_session.ensures.write;
 })
 

@@ -6,6 +6,7 @@ use Rattle.cm_weave_text.proofs.Pieces.{exchange_kept, own_run, same_run}
 use Rattle.cm_weave_text.proofs.Ending.{at_first_byte, midway_on, ends_read, ends_in_read, ends_over, heard_closed}
 use Rattle.cm_weave_text.proofs.Ending.{heard_last, ends_last, is_none, has_some, taken_whole}
 use Rattle.cm_weave_text.proofs.Ending.{some_read, some_in_read, some_over, some_closed, some_last, some_cut_last}
+use Rattle.cm_weave_text.proofs.Ending.{within_read, within_piece}
 use Rattle.cm_weave_text.proofs.sessions.hear_all.Goals as goal
 
 pub loop-count-init : goal.loop-count-init
@@ -188,3 +189,44 @@ returns-clause-heard g c =
     }) (10 ∷ [])).answers c.loop-count.sent
     (g.O.Sink.contents c.loop-count.out) (g.O.Sink.contents c.tell-2.new.out) c.in-Err-tell-2.fault) same
     c.in-Err-tell-2.ensures.err)
+
+pub returns-in-Err-clause-within : goal.returns-in-Err-clause-within
+returns-in-Err-clause-within g c =
+    let so = c.loop-count.invariant in
+    within_read (exchange_in g.row.N g.row.CAP c.args.world.now) c.args.world.now.world _ _ so.text _ _ _ _ _ _
+    so.midway (g.I.Source.left c.read.new.self) c.in-Err.ensures.bytes
+
+pub returns-in-Err-tell-clause-within : goal.returns-in-Err-tell-clause-within
+returns-in-Err-tell-clause-within g c =
+    let so = c.loop-count.invariant in
+    within_piece (exchange_in g.row.N g.row.CAP c.args.world.now) c.args.world.now.world _ _ so.text _ _ _ _ _ _
+    so.midway (g.I.Source.left c.read.new.self) c.read.new.buf c.in-Ok.count
+    (omega (arith, c.in-Ok.ensures.bound)) c.in-Ok.ensures.bytes.0
+
+pub returns-then-room-count-clause-within : goal.returns-then-room-count-clause-within
+returns-then-room-count-clause-within g c =
+    let so = c.loop-count.invariant in
+    within_piece (exchange_in g.row.N g.row.CAP c.args.world.now) c.args.world.now.world _ _ so.text _ _ _ _ _ _
+    so.midway (g.I.Source.left c.read.new.self) c.read.new.buf c.in-Ok.count
+    (omega (arith, c.in-Ok.ensures.bound)) c.in-Ok.ensures.bytes.0
+
+pub returns-then-is_empty-clause-within : goal.returns-then-is_empty-clause-within
+returns-then-is_empty-clause-within g c =
+    let so = c.loop-count.invariant in
+    within_piece (exchange_in g.row.N g.row.CAP c.args.world.now) c.args.world.now.world _ _ so.text _ _ _ _ _ _
+    so.midway (g.I.Source.left c.read.new.self) c.read.new.buf c.in-Ok.count
+    (omega (arith, c.in-Ok.ensures.bound)) c.in-Ok.ensures.bytes.0
+
+pub returns-in-Ok-tell-2-clause-within : goal.returns-in-Ok-tell-2-clause-within
+returns-in-Ok-tell-2-clause-within g c =
+    let so = c.loop-count.invariant in
+    within_piece (exchange_in g.row.N g.row.CAP c.args.world.now) c.args.world.now.world _ _ so.text _ _ _ _ _ _
+    so.midway (g.I.Source.left c.read.new.self) c.read.new.buf c.in-Ok.count
+    (omega (arith, c.in-Ok.ensures.bound)) c.in-Ok.ensures.bytes.0
+
+pub returns-clause-within : goal.returns-clause-within
+returns-clause-within g c =
+    let so = c.loop-count.invariant in
+    within_piece (exchange_in g.row.N g.row.CAP c.args.world.now) c.args.world.now.world _ _ so.text _ _ _ _ _ _
+    so.midway (g.I.Source.left c.read.new.self) c.read.new.buf c.in-Ok.count
+    (omega (arith, c.in-Ok.ensures.bound)) c.in-Ok.ensures.bytes.0
