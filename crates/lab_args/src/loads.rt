@@ -155,7 +155,8 @@ fn with_cut<'a>(
     Ok(cut)
 }
 
-/// Takes what an option says.
+/// Takes an option that changes only the trial. Options on wires and places are taken in `with_choice` and
+/// `with_options`.
 fn with_option(alloc: Global, trial: Trial, option: &str, word: &str) -> Result<Trial, CommandFault>
     ensures value { IfOk result (λ changed. with_option trial option.now word.now ≡ Ok changed) }
     ensures refused { IfErr result (Reports (with_option trial option.now word.now)) }

@@ -136,7 +136,8 @@ fn add_at(by_chip: &mut [Crossings], chip: usize, more: Crossings)
     }
 }
 
-/// Those of a chip, over whose wire messages go so, where these stand.
+/// What happens at one chip in a dimension: its messages are put into a node of their own, which lets one leave by the
+/// rule. The machine is not changed.
 fn crossings_at(room: u8, cut: bool, rule: Rule, here: &[Message], dim: u8) -> Crossings
     requires some { 0 < room }
     requires most { room ≤ 15 }

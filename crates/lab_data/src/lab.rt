@@ -2,7 +2,6 @@
 
 ghost use Rattle.std.specs.Prelude.{◌≡◌, ◌≢◌, ℕ, ◌≤◌, ◌<◌, ◌*◌, List, [], Result, Ok, Err, IfOk, IfErr, length};
 ghost use Rattle.cm_model.specs.Place.{rows, columns};
-ghost use Rattle.lab_figures.specs.Pictures.{picture_seen};
 ghost use Rattle.lab_figures.specs.Looks.{look_bytes};
 ghost use Rattle.lab_figures.specs.PictureReading.{picture_in};
 ghost use Rattle.lab_data.specs.Data.{processors};
@@ -279,9 +278,7 @@ fn pictured<const N: usize, const CAP: usize>(
 
 /// A picture as it is looked at.
 fn drawn(alloc: Global, picture: Picture, look: Look) -> Result<Vec<u8>, LabFault>
-    requires some { 0 < picture.width }
-    requires dots { length picture.dots.items ≡ picture.height * picture.width }
-    ensures value { IfOk result (λ text. text.items ≡ look_bytes look (picture_seen picture)) }
+    ensures value { IfOk result (λ text. text.items ≡ look_bytes look picture) }
     ensures memory { IfErr result (λ fault. fault ≡ LabFault.Memory) }
 {
     match write_look(alloc, picture, look) {
@@ -308,14 +305,14 @@ fn painted<const N: usize, const CAP: usize>(
         Ok(picture) => picture,
         Err(fault) => return Err(fault),
     };
-    let Some(len) = bits_of(picture.greatest) else {
-        return Err(LabFault::Greatest(picture.greatest));
+    let Some(len) = bits_of(picture.greatest()) else {
+        return Err(LabFault::Greatest(picture.greatest()));
     };
     let field = match Field::new(at, len) {
         Ok(field) => field,
         Err(fault) => return Err(LabFault::Field(fault)),
     };
-    put(machine, Order::Rows, field, &picture.dots);
+    put(machine, Order::Rows, field, picture.dots());
     match dump(alloc, machine) {
         Ok(text) => Ok(text),
         Err(_) => Err(LabFault::Memory),
@@ -325,8 +322,8 @@ fn painted<const N: usize, const CAP: usize>(
 /// The picture of a text, which is to have a dot for each processor.
 fn read_grid<const N: usize>(alloc: Global, given: &[u8]) -> Result<Picture, LabFault>
     requires dimension { N ≤ 12 }
-    ensures value { IfOk result (λ picture. picture_in (columns N) (rows N) given.now ≡ Ok (picture_seen picture)) }
-    ensures count { IfOk result (λ picture. length picture.dots.items ≡ processors N) }
+    ensures value { IfOk result (λ picture. picture_in (columns N) (rows N) given.now ≡ Ok picture) }
+    ensures count { IfOk result (λ picture. length picture.dots ≡ processors N) }
     ensures refused { IfErr result (λ fault. fault ≢ LabFault.Memory
         → IsNoPicture (picture_in (columns N) (rows N) given.now) fault) }
 {

@@ -1,11 +1,10 @@
 //! Pictures of machines: a dot for each processor of the grid, or for each chip.
 
 ghost use Rattle.std.specs.Prelude.{◌≡◌, ◌≢◌, ◌*◌, ◌<◌, ◌≤◌, true, false, length, IfOk, IfErr, OnOk};
-ghost use Rattle.cm_model.specs.Place.{chip_columns, columns, rows};
-ghost use Rattle.lab_figures.specs.Pictures.{picture_seen};
+ghost use Rattle.cm_model.specs.Place.{chip_columns};
 ghost use Rattle.lab_data.specs.Data.{processors};
-ghost use Rattle.lab_data.specs.Pictures.{chip_rows, is_narrow, greatest_number, buffered, machine_picture};
-ghost use Rattle.lab_data.specs.Pictures.{depth_of_greatest};
+ghost use Rattle.lab_data.specs.Pictures.{chip_rows, is_narrow, greatest_number, buffered, grid_picture};
+ghost use Rattle.lab_data.specs.Pictures.{depth_of_greatest, machine_picture};
 
 use crate::data::{flags, get};
 use crate::order::{Order, chip_columns, chip_rows, columns, processors, rows};
@@ -52,10 +51,9 @@ pub fn show<const N: usize, const CAP: usize>(
     machine: &Machine<N, CAP>,
     shown: Shown,
 ) -> Result<Picture, ShowFault>
-    ensures value { IfOk result (λ picture. picture_seen picture ≡ machine_picture N CAP shown machine.now.machine) }
+    ensures value { IfOk result (λ picture. picture ≡ machine_picture N CAP shown machine.now.machine) }
     ensures narrow { OnOk result (is_narrow shown ≡ true) }
     ensures some { IfOk result (λ picture. 0 < picture.width) }
-    ensures dots { IfOk result (λ picture. length picture.dots.items ≡ picture.height * picture.width) }
     ensures wide { IfErr result (λ fault. fault ≢ ShowFault.Memory
         → (fault ≡ ShowFault.Wide) × (is_narrow shown ≡ false)) }
 {
@@ -75,12 +73,9 @@ pub fn show<const N: usize, const CAP: usize>(
         }
         Shown::Buffers => {
             let dots = buffered(alloc, machine)?;
-            Ok(Picture {
-                width: chip_columns::<N>() as u16,
-                height: chip_rows::<N>() as u16,
-                greatest: CAP as u16,
-                dots,
-            })
+            let width = chip_columns::<N>() as u16;
+            let height = chip_rows::<N>() as u16;
+            Ok(Picture::new(width, height, CAP as u16, dots))
         }
     }
 }
@@ -89,19 +84,10 @@ pub fn show<const N: usize, const CAP: usize>(
 fn of_grid<const N: usize>(greatest: u16, dots: Vec<u64>) -> Picture
     requires dimension { N ≤ 12 }
     requires dots { length dots.items ≡ processors N }
-    ensures width { result.width ≡ columns N }
-    ensures height { result.height ≡ rows N }
-    ensures greatest { result.greatest ≡ greatest }
-    ensures dots { result.dots.items ≡ dots.items }
+    ensures value { result ≡ grid_picture N greatest dots.items }
     ensures some { 0 < result.width }
-    ensures count { length result.dots.items ≡ result.height * result.width }
 {
-    Picture {
-        width: columns::<N>() as u16,
-        height: rows::<N>() as u16,
-        greatest,
-        dots,
-    }
+    Picture::new(columns::<N>() as u16, rows::<N>() as u16, greatest, dots)
 }
 
 /// The greatest number of so many bits.

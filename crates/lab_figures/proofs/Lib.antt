@@ -1,5 +1,4 @@
 pub mod Blanks
-pub mod Counting
 pub mod Dots
 pub mod Enlarging
 pub mod Framing

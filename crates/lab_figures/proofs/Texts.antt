@@ -1,8 +1,9 @@
 -- Numbers of a text, one after another.
 use Rattle.std.proofs.Common.{◌≡◌, ℕ, suc, ◌+◌, ◌*◌, ◌/◌, ◌^◌, ◌<◌, ◌≤◌, ◌==◌, nat_lt, Result}
-use Rattle.std.proofs.Common.{List, [], ◌∷◌, ◌++◌, length, get_or, drop, sym, ap, ◌∙◌, ⊎_elim, arith, lt-ltb, le-ltb}
+use Rattle.std.proofs.Common.{List, [], ◌∷◌, ◌++◌, length, get_or, drop, true, min, max, zero, refl}
+use Rattle.std.proofs.Common.{sym, ap, ◌∙◌, ⊎_elim, arith, lt-ltb, le-ltb}
 use Rattle.std.proofs.Common.{ne_eqb, append_assoc, append-nil, decimal}
-use Rattle.std.proofs.Math.Nat.{div-eq_of_lt, lt-div-mul-add, zero-mul}
+use Rattle.std.proofs.Math.Nat.{div-eq_of_lt, lt-div-mul-add, pow-le-pow_right, zero-mul}
 use Rattle.std.proofs.Math.Seq.{drop-cons}
 use Rattle.std.proofs.lemmas.Nat.{pow_pos}
 use Rattle.std.proofs.lemmas.Bool.{cases_lt}
@@ -22,6 +23,12 @@ is_within number len = ⊎_elim
     omega (arith, none, more, h)))
     ∙ sym (le-ltb number (2 ^ len) h))
     (cases_lt number (2 ^ len))
+
+-- every number of 64 bits has as many bits or fewer
+pub is_within-wide : (number len : ℕ) → number < 2 ^ 64 → 64 ≤ len → true ≡ nat_lt number (2 ^ len)
+is_within-wide number len low wide =
+    let more : 2 ^ 64 ≤ 2 ^ len = pow-le-pow_right (omega arith) wide in
+    sym (lt-ltb number (2 ^ len) (omega (arith, low, more)))
 
 -- a word that is a number, and the words behind it
 pub after_one_word : (len count line : ℕ) (numbers : List ℕ) (word : List ℕ) (words : List (List ℕ))
@@ -64,3 +71,19 @@ unfolding numbers_text
 all_written width numbers text i all are =
     sym (are ∙ ap (λ left. text ++ numbers_text width i left) (drop_all i numbers (omega (arith, all)))
     ∙ append-nil text)
+
+-- no numbers have one text in lines of any length
+numbers_text-none : (width other : ℕ) (numbers : List ℕ) → length numbers ≡ 0
+    → numbers_text width 0 numbers ≡ numbers_text other 0 numbers
+unfolding numbers_text
+numbers_text-none width other [] none = refl
+numbers_text-none width other (x ∷ xs) none = absurd (omega arith)
+
+-- so the numbers of a picture of no columns have one in lines of one, and of others in lines of so many at most
+pub numbers_text-some : (width height most : ℕ) (numbers : List ℕ) → 0 < most → length numbers ≡ height * width
+    → numbers_text (max (min width most) 1) 0 numbers ≡ numbers_text (min width most) 0 numbers
+numbers_text-some zero height most numbers some count =
+    numbers_text-none (max (min zero most) 1) (min zero most) numbers (omega arith)
+numbers_text-some (suc width) height most numbers some count =
+    let same : max (min (suc width) most) 1 ≡ min (suc width) most = omega arith in
+    ap (λ (k : ℕ). numbers_text k 0 numbers) same

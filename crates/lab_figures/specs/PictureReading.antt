@@ -1,7 +1,7 @@
 -- Reading a picture: the parts of a text, one behind another, and its first fault. The forms are Netpbm's.
 use Rattle.std.specs.Prelude.{◌≡◌, ℕ, zero, suc, ◌+◌, ◌-◌, ◌*◌, ◌/◌, ◌%◌, ◌==◌, ◌||◌, ◌&&◌, not, Bool, true, false, nat_lt}
 use Rattle.std.specs.Prelude.{if◌then◌else◌, Option, Some, None, Result, Ok, Err, MatchResult, List, [], ◌∷◌, ◌++◌, map}
-use Rattle.std.specs.Prelude.{length, take, drop, slice_index}
+use Rattle.std.specs.Prelude.{◌≢◌, length, take, drop, slice_index}
 use Rattle.std.specs.List.{position_or_len, before_first, count_by, range_with_len}
 use Rattle.cm_bits.specs.Bit.{bit, bit_number}
 use Rattle.cm_bits.specs.Text.{number_of, has_bytes}
@@ -9,12 +9,16 @@ use Rattle.lab_figures.specs.declared.picture.Form.{Form}
 use Rattle.lab_figures.specs.declared.picture.Form.TheVariants.{Raw, Plain}
 use Rattle.lab_figures.specs.declared.picture_reading.PictureFault.{PictureFault}
 use Rattle.lab_figures.specs.declared.picture_reading.PictureFault.TheVariants.{Magic, NotNumber, Size, Greatest, TooLarge}
-use Rattle.lab_figures.specs.declared.picture_reading.PictureFault.TheVariants.{TooFew, TooMany}
+use Rattle.lab_figures.specs.declared.picture_reading.PictureFault.TheVariants.{TooFew, TooMany, Memory}
 use Rattle.lab_figures.specs.Pictures.{Dots, row_bytes}
 
 -- a call answers what a definition gives, where its answer is seen in this way
 abbrev pub GivesPicture : {X Y : Type 0} → (X → Y) → Result X PictureFault → Result Y PictureFault → Type 0
 GivesPicture view result given = MatchResult result (λ x. given ≡ Ok (view x)) (λ fault. given ≡ Err fault)
+
+-- the same of a call that wants memory: or memory is out
+abbrev pub GivesDots : {X Y : Type 0} → (X → Y) → Result X PictureFault → Result Y PictureFault → Type 0
+GivesDots view result given = MatchResult result (λ x. given ≡ Ok (view x)) (λ fault. fault ≢ Memory → given ≡ Err fault)
 
 infixl 10 ◌>>=◌
 -- what comes after, unless a fault came before

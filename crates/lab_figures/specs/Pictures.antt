@@ -2,7 +2,6 @@
 use Rattle.std.specs.Prelude.{ℕ, ◌+◌, ◌*◌, ◌/◌, ◌%◌, ◌==◌, nat_lt, if◌then◌else◌, min, List, [], ◌∷◌, ◌++◌, map}
 use Rattle.std.specs.Prelude.{slice_index, decimal}
 use Rattle.std.specs.List.{flat_map, range_with_len}
-use Rattle.lab_figures.specs.declared.picture.Picture.{Picture}
 use Rattle.lab_figures.specs.declared.picture.Form.{Form}
 use Rattle.lab_figures.specs.declared.picture.Form.TheVariants.{Raw, Plain}
 use Rattle.lab_figures.specs.Numbers.{numbers_text}
@@ -13,15 +12,6 @@ pub record Dots : Type 0 where
   pub height : ℕ
   pub greatest : ℕ
   pub dots : List ℕ
-
--- what a picture shows
-abbrev pub picture_seen : Picture → Dots
-picture_seen picture = record {
-  width = picture.width;
-  height = picture.height;
-  greatest = picture.greatest;
-  dots = picture.dots.items;
-}
 
 -- the dot in a row and a column
 abbrev pub dot_at : Dots → ℕ → ℕ → ℕ

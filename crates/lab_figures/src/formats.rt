@@ -1,7 +1,6 @@
 //! In which formats pictures are written.
 
 ghost use Rattle.std.specs.Prelude.{◌≡◌, ◌*◌, ◌<◌, length, IfOk};
-ghost use Rattle.lab_figures.specs.Pictures.{picture_seen};
 ghost use Rattle.lab_figures.specs.Formats.{picture_bytes};
 
 use crate::palettes::{Palette, write_colours};
@@ -23,9 +22,7 @@ pub enum Format {
 
 /// A picture in a format.
 pub fn write_in(alloc: Global, picture: &Picture, format: Format) -> Result<Vec<u8>, NoMemory>
-    requires some { 0 < picture.now.width }
-    requires dots { length picture.now.dots.items ≡ picture.now.height * picture.now.width }
-    ensures value { IfOk result (λ bytes. bytes.items ≡ picture_bytes format (picture_seen picture.now)) }
+    ensures value { IfOk result (λ bytes. bytes.items ≡ picture_bytes format picture.now) }
 {
     match format {
         Format::Netpbm(form) => write_picture(alloc, picture, form),

@@ -2,7 +2,7 @@
 
 ghost use Rattle.std.specs.Prelude.{◌≡◌, ◌+◌, ◌*◌, ◌<◌, ◌≤◌, ◌++◌, max, length, IfOk, OnOk};
 ghost use Rattle.std.specs.List.{flat_map, range_with_len};
-ghost use Rattle.lab_figures.specs.Pictures.{dot_at, picture_seen};
+ghost use Rattle.lab_figures.specs.Pictures.{dot_at};
 ghost use Rattle.lab_figures.specs.Looks.{greatest_dot, level_of, levelled, wider_row, enlarged, look_bytes};
 
 use crate::formats::{Format, write_in};
@@ -22,9 +22,7 @@ pub struct Look {
 
 /// A picture as it is looked at.
 pub fn write_look(alloc: Global, picture: Picture, look: Look) -> Result<Vec<u8>, NoMemory>
-    requires some { 0 < picture.width }
-    requires dots { length picture.dots.items ≡ picture.height * picture.width }
-    ensures value { IfOk result (λ bytes. bytes.items ≡ look_bytes look (picture_seen picture)) }
+    ensures value { IfOk result (λ bytes. bytes.items ≡ look_bytes look picture) }
 {
     let levelled = levelled(look.is_by_dots, picture);
     let enlarged = enlarged(alloc, look.scale.max(1), levelled)?;
@@ -33,18 +31,13 @@ pub fn write_look(alloc: Global, picture: Picture, look: Look) -> Result<Vec<u8>
 
 /// The picture by the greatest number of its dots, or by its own.
 fn levelled(is_by_dots: bool, picture: Picture) -> Picture
-    ensures value { picture_seen result ≡ levelled is_by_dots (picture_seen picture) }
-    ensures width { result.width ≡ picture.width }
-    ensures count { length result.dots.items ≡ length picture.dots.items }
-    ensures height { result.height ≡ picture.height }
+    ensures value { result ≡ levelled is_by_dots picture }
 {
     if !is_by_dots {
         return picture;
     }
-    Picture {
-        greatest: level_of(picture.greatest, &picture.dots),
-        ..picture
-    }
+    let greatest = level_of(picture.greatest(), picture.dots());
+    picture.with_greatest(greatest)
 }
 
 /// The greatest number of a dot: of a picture that is none of bits 2 at least.
@@ -69,39 +62,28 @@ fn greatest_dot(dots: &[u64]) -> u64
 
 /// The picture, so many times as large.
 fn enlarged(alloc: Global, k: u16, picture: Picture) -> Result<Picture, NoMemory>
-    requires scale { 0 < k }
-    requires some { 0 < picture.width }
-    requires dots { length picture.dots.items ≡ picture.height * picture.width }
-    ensures value { IfOk result (λ made. picture_seen made ≡ enlarged k (picture_seen picture)) }
-    ensures some { IfOk result (λ made. 0 < made.width) }
-    ensures count { IfOk result (λ made. length made.dots.items ≡ made.height * made.width) }
+    ensures value { IfOk result (λ made. made ≡ enlarged k picture) }
 {
-    let width = u32::from(k) * u32::from(picture.width);
-    let height = u32::from(k) * u32::from(picture.height);
+    let width = u32::from(k) * u32::from(picture.width());
+    let height = u32::from(k) * u32::from(picture.height());
     if width > 65535 || height > 65535 {
         return Ok(picture);
     }
-    Ok(Picture {
-        width: width as u16,
-        height: height as u16,
-        greatest: picture.greatest,
-        dots: repeated(alloc, usize::from(k), &picture)?,
-    })
+    let dots = repeated(alloc, usize::from(k), &picture)?;
+    Ok(Picture::new(width as u16, height as u16, picture.greatest(), dots))
 }
 
 /// Each row so many times, and in it each dot.
 fn repeated(alloc: Global, k: usize, picture: &Picture) -> Result<Vec<u64>, NoMemory>
-    requires scale { 0 < k }
     requires wide { k * picture.now.width < 65536 }
     requires high { k * picture.now.height < 65536 }
-    requires dots { length picture.now.dots.items ≡ picture.now.height * picture.now.width }
     ensures value { IfOk result (λ dots. dots.items
-        ≡ flat_map (wider_row k (picture_seen picture.now)) (range_with_len 0 (k * picture.now.height))) }
+        ≡ flat_map (wider_row k picture.now) (range_with_len 0 (k * picture.now.height))) }
     ensures count { IfOk result (λ dots. length dots.items
         ≡ k * picture.now.height * (k * picture.now.width)) }
 {
     let mut dots = Vec::new(alloc);
-    for y in 0..k * usize::from(picture.height) {
+    for y in 0..k * usize::from(picture.height()) {
         push_wider_row(&mut dots, k, picture, y)?;
     }
     Ok(dots)
@@ -114,14 +96,12 @@ fn push_wider_row(
     picture: &Picture,
     y: usize,
 ) -> Result<(), NoMemory>
-    requires scale { 0 < k }
     requires wide { k * picture.now.width < 65536 }
     requires row { y < k * picture.now.height }
-    requires dots { length picture.now.dots.items ≡ picture.now.height * picture.now.width }
-    ensures ok { OnOk result (dots.new.items ≡ dots.old.items ++ wider_row k (picture_seen picture.now) y) }
+    ensures ok { OnOk result (dots.new.items ≡ dots.old.items ++ wider_row k picture.now y) }
     ensures count { OnOk result (length dots.new.items ≡ length dots.old.items + k * picture.now.width) }
 {
-    for x in 0..k * usize::from(picture.width) {
+    for x in 0..k * usize::from(picture.width()) {
         let Ok(()) = dots.push(dot_at(picture, y / k, x / k)) else {
             return Err(NoMemory);
         };
@@ -133,8 +113,7 @@ fn push_wider_row(
 fn dot_at(picture: &Picture, y: usize, x: usize) -> u64
     requires row { y < picture.now.height }
     requires column { x < picture.now.width }
-    requires dots { length picture.now.dots.items ≡ picture.now.height * picture.now.width }
-    ensures value { result ≡ dot_at (picture_seen picture.now) y x }
+    ensures value { result ≡ dot_at picture.now y x }
 {
-    picture.dots[y * usize::from(picture.width) + x]
+    picture.dots()[y * usize::from(picture.width()) + x]
 }

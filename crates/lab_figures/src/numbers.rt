@@ -50,7 +50,6 @@ pub fn read_numbers(
     len: u16,
     count: usize,
 ) -> Result<Vec<u64>, NumbersFault>
-    requires narrow { len ≤ 64 }
     ensures value { IfOk result (λ numbers. numbers_in len count text.now ≡ Ok numbers.items) }
     ensures count { IfOk result (λ numbers. length numbers.items ≡ count) }
     ensures refused { IfErr result (λ fault. fault ≢ NumbersFault.Memory → numbers_in len count text.now ≡ Err fault) }
@@ -81,7 +80,6 @@ fn push_words(
     count: usize,
     line: u64,
 ) -> Result<(), NumbersFault>
-    requires narrow { len ≤ 64 }
     ensures ok { OnOk result (numbers_after_words len count line numbers.old.items (words_of bytes.now)
         ≡ Ok numbers.new.items) }
     ensures err { IfErr result (λ fault. fault ≢ NumbersFault.Memory
@@ -104,7 +102,6 @@ fn push_one(
     count: usize,
     line: u64,
 ) -> Result<(), NumbersFault>
-    requires narrow { len ≤ 64 }
     ensures ok { OnOk result (one_number_more len count line numbers.old.items number ≡ Ok numbers.new.items) }
     ensures err { IfErr result (λ fault. fault ≢ NumbersFault.Memory
         → one_number_more len count line numbers.old.items number ≡ Err fault) }
@@ -126,10 +123,9 @@ fn push_one(
 
 /// Whether a number has at most so many bits.
 fn is_within(number: u64, len: u16) -> bool
-    requires narrow { len ≤ 64 }
     ensures value { result ≡ nat_lt number (2 ^ len) }
 {
-    if len == 64 {
+    if len >= 64 {
         return true;
     }
     number >> len == 0

@@ -1,7 +1,7 @@
 //! Pictures, and how they are written.
 
 ghost use Rattle.std.specs.Prelude.{◌≡◌, ◌+◌, ◌*◌, ◌<◌, ◌≤◌, ◌++◌, length, nat_lt, min, IfOk, OnOk};
-ghost use Rattle.lab_figures.specs.Pictures.{picture_seen, digit_of, header_text, greatest_text, numbers_in_line};
+ghost use Rattle.lab_figures.specs.Pictures.{digit_of, header_text, greatest_text, numbers_in_line};
 ghost use Rattle.lab_figures.specs.Pictures.{dot_bytes, row_bytes};
 ghost use Rattle.lab_figures.specs.Pictures.{bit_at, eight_dots, packed_text, bytes_text, raster_text, picture_text};
 ghost use Rattle.lab_figures.specs.Numbers.{numbers_text};
@@ -10,6 +10,7 @@ use crate::numbers::write_numbers;
 use cm_bits::NoMemory;
 use lab_digits::push_number;
 use std::alloc::Global;
+use std::marker::Model;
 
 /// How the dots of a picture are written.
 #[derive(Clone, Copy, Debug, PartialEq, Eq)]
@@ -20,22 +21,87 @@ pub enum Form {
     Plain,
 }
 
-/// Dots in rows, the upper row first, each from the left.
-#[derive(Debug, PartialEq, Eq, Drop)]
+/// Dots in rows, the upper row first, each from the left: as many as the height times the width.
+#[derive(Debug, Drop)]
 pub struct Picture {
-    pub width: u16,
-    pub height: u16,
+    width: u16,
+    height: u16,
+    greatest: u16,
+    dots: Vec<u64>,
+}
+
+impl Model for Picture {
+    ghost use Rattle.std.specs.Prelude.{◌≡◌, ◌*◌, length};
+    ghost use Rattle.lab_figures.specs.Pictures.{Dots};
+
+    ghost Value = { Dots };
+
+    ghost view = { λ picture. record {
+      width = picture.width;
+      height = picture.height;
+      greatest = picture.greatest;
+      dots = picture.dots.items;
+    } };
+
+    ghost invariant = { λ picture. length picture.dots.items ≡ picture.height * picture.width };
+}
+
+impl Picture {
+    /// The picture of these dots, of which none is to be above the greatest number.
+    pub fn new(width: u16, height: u16, greatest: u16, dots: Vec<u64>) -> Picture
+        requires dots { length dots.items ≡ height * width }
+        ensures value { result
+            ≡ record { width = width; height = height; greatest = greatest; dots = dots.items } }
+    {
+        Picture {
+            width,
+            height,
+            greatest,
+            dots,
+        }
+    }
+
+    /// How many dots stand in a row.
+    pub fn width(&self) -> u16
+        ensures value { result ≡ self.now.width }
+    {
+        self.width
+    }
+
+    /// How many rows it has.
+    pub fn height(&self) -> u16
+        ensures value { result ≡ self.now.height }
+    {
+        self.height
+    }
+
     /// The greatest number that a dot may have: with 1 it is a PBM, where 1 is black; else a PGM, where 0 is.
-    pub greatest: u16,
-    pub dots: Vec<u64>,
+    pub fn greatest(&self) -> u16
+        ensures value { result ≡ self.now.greatest }
+    {
+        self.greatest
+    }
+
+    /// Its dots, row by row.
+    pub fn dots(&self) -> &[u64]
+        ensures value { result.now ≡ self.now.dots }
+        ensures count { length result.now ≡ self.now.height * self.now.width }
+    {
+        &self.dots
+    }
+
+    /// The same dots by another greatest number.
+    pub(crate) fn with_greatest(self, greatest: u16) -> Picture
+        ensures value { result ≡ record self { greatest = greatest } }
+    {
+        Picture { greatest, ..self }
+    }
 }
 
 /// A picture as a PBM or a PGM.
 #[tactic(auto, unfolding(crate::specs::Pictures::picture_text))]
 pub fn write_picture(alloc: Global, picture: &Picture, form: Form) -> Result<Vec<u8>, NoMemory>
-    requires some { 0 < picture.now.width }
-    requires dots { length picture.now.dots.items ≡ picture.now.height * picture.now.width }
-    ensures value { IfOk result (λ text. text.items ≡ picture_text form (picture_seen picture.now)) }
+    ensures value { IfOk result (λ text. text.items ≡ picture_text form picture.now) }
 {
     let mut text = header(alloc, picture, form)?;
     match form {
@@ -47,14 +113,14 @@ pub fn write_picture(alloc: Global, picture: &Picture, form: Form) -> Result<Vec
 
 /// The bytes before the dots.
 fn header(alloc: Global, picture: &Picture, form: Form) -> Result<Vec<u8>, NoMemory>
-    ensures value { IfOk result (λ text. text.items ≡ header_text form (picture_seen picture.now)) }
+    ensures value { IfOk result (λ text. text.items ≡ header_text form picture.now) }
 {
     let mut text = Vec::new(alloc);
-    text.extend_from_slice(&[b'P', digit_of(form, picture.greatest), b'\n'])?;
-    push_number(&mut text, picture.width, b' ')?;
-    push_number(&mut text, picture.height, b'\n')?;
-    if picture.greatest != 1 {
-        push_number(&mut text, picture.greatest, b'\n')?;
+    text.extend_from_slice(&[b'P', digit_of(form, picture.greatest()), b'\n'])?;
+    push_number(&mut text, picture.width(), b' ')?;
+    push_number(&mut text, picture.height(), b'\n')?;
+    if picture.greatest() != 1 {
+        push_number(&mut text, picture.greatest(), b'\n')?;
     }
     Ok(text)
 }
@@ -73,23 +139,21 @@ fn digit_of(form: Form, greatest: u16) -> u8
 
 /// The dots as numbers.
 fn push_numbers(alloc: Global, text: &mut Vec<u8>, picture: &Picture) -> Result<(), NoMemory>
-    requires some { 0 < picture.now.width }
     ensures ok { OnOk result (text.new.items
-        ≡ text.old.items ++ numbers_text (numbers_in_line (picture_seen picture.now)) 0 picture.now.dots.items) }
+        ≡ text.old.items ++ numbers_text (numbers_in_line picture.now) 0 picture.now.dots) }
 {
-    let most = if picture.greatest == 1 { 32 } else { 8 };
-    let numbers = write_numbers(alloc, &picture.dots, usize::from(picture.width.min(most)))?;
+    let most = if picture.greatest() == 1 { 32 } else { 8 };
+    let in_line = picture.width().min(most).max(1);
+    let numbers = write_numbers(alloc, picture.dots(), usize::from(in_line))?;
     text.extend_from_slice(&numbers)?;
     Ok(())
 }
 
 /// The dots as bytes.
 fn push_raw(text: &mut Vec<u8>, picture: &Picture) -> Result<(), NoMemory>
-    requires some { 0 < picture.now.width }
-    requires dots { length picture.now.dots.items ≡ picture.now.height * picture.now.width }
-    ensures ok { OnOk result (text.new.items ≡ text.old.items ++ raster_text Form.Raw (picture_seen picture.now)) }
+    ensures ok { OnOk result (text.new.items ≡ text.old.items ++ raster_text Form.Raw picture.now) }
 {
-    if picture.greatest == 1 {
+    if picture.greatest() == 1 {
         push_packed(text, picture)
     } else {
         push_bytes(text, picture)
@@ -98,12 +162,10 @@ fn push_raw(text: &mut Vec<u8>, picture: &Picture) -> Result<(), NoMemory>
 
 /// Eight dots a byte, row by row.
 fn push_packed(text: &mut Vec<u8>, picture: &Picture) -> Result<(), NoMemory>
-    requires some { 0 < picture.now.width }
-    requires dots { length picture.now.dots.items ≡ picture.now.height * picture.now.width }
-    ensures ok { OnOk result (text.new.items ≡ text.old.items ++ packed_text (picture_seen picture.now)) }
+    ensures ok { OnOk result (text.new.items ≡ text.old.items ++ packed_text picture.now) }
 {
-    let in_row = usize::from(picture.width).div_ceil(8);
-    for b in 0..usize::from(picture.height) * in_row {
+    let in_row = usize::from(picture.width()).div_ceil(8);
+    for b in 0..usize::from(picture.height()) * in_row {
         let byte = eight_dots(picture, b / in_row, 8 * (b % in_row));
         let Ok(()) = text.push(byte) else {
             return Err(NoMemory);
@@ -116,8 +178,7 @@ fn push_packed(text: &mut Vec<u8>, picture: &Picture) -> Result<(), NoMemory>
 pub(crate) fn eight_dots(picture: &Picture, y: usize, x: usize) -> u8
     requires row { y < picture.now.height }
     requires column { x ≤ 65536 }
-    requires dots { length picture.now.dots.items ≡ picture.now.height * picture.now.width }
-    ensures value { result ≡ eight_dots (picture_seen picture.now) y x }
+    ensures value { result ≡ eight_dots picture.now y x }
 {
     let bit = |k: usize| bit_at(picture, y, x + k);
     128 * bit(0)
@@ -133,13 +194,12 @@ pub(crate) fn eight_dots(picture: &Picture, y: usize, x: usize) -> u8
 /// One dot, or 0 behind the end of the row.
 fn bit_at(picture: &Picture, y: usize, x: usize) -> u8
     requires row { y < picture.now.height }
-    requires dots { length picture.now.dots.items ≡ picture.now.height * picture.now.width }
-    ensures value { result ≡ bit_at (picture_seen picture.now) y x }
+    ensures value { result ≡ bit_at picture.now y x }
     ensures within { result ≤ 1 }
 {
-    let width = usize::from(picture.width);
+    let width = usize::from(picture.width());
     if x < width {
-        (picture.dots[y * width + x] % 2) as u8
+        (picture.dots()[y * width + x] % 2) as u8
     } else {
         0
     }
@@ -147,10 +207,10 @@ fn bit_at(picture: &Picture, y: usize, x: usize) -> u8
 
 /// A byte or two for each dot.
 fn push_bytes(text: &mut Vec<u8>, picture: &Picture) -> Result<(), NoMemory>
-    ensures ok { OnOk result (text.new.items ≡ text.old.items ++ bytes_text (picture_seen picture.now)) }
+    ensures ok { OnOk result (text.new.items ≡ text.old.items ++ bytes_text picture.now) }
 {
-    for dot in &picture.dots {
-        push_dot(text, *dot, picture.greatest)?;
+    for dot in picture.dots() {
+        push_dot(text, *dot, picture.greatest())?;
     }
     Ok(())
 }

@@ -4,8 +4,8 @@ ghost use Rattle.std.specs.Prelude.{◌≡◌, ◌≢◌, ◌+◌, ◌-◌, ◌*
 ghost use Rattle.std.specs.Prelude.{length, nat_lt, if◌then◌else◌, map, drop, false};
 ghost use Rattle.std.specs.List.{All, position_or_len, range_with_len};
 ghost use Rattle.cm_bits.specs.Text.{has_bytes};
-ghost use Rattle.lab_figures.specs.Pictures.{picture_seen, row_bytes};
-ghost use Rattle.lab_figures.specs.PictureReading.{GivesPicture, is_space, behind_blanks, line_of_rest};
+ghost use Rattle.lab_figures.specs.Pictures.{row_bytes};
+ghost use Rattle.lab_figures.specs.PictureReading.{GivesPicture, GivesDots, is_space, behind_blanks, line_of_rest};
 ghost use Rattle.lab_figures.specs.PictureReading.{picture_number_at};
 ghost use Rattle.lab_figures.specs.PictureReading.{number_part};
 ghost use Rattle.lab_figures.specs.PictureReading.{form_in, greatest_part, sizes_part, picture_header_part, plain_dot};
@@ -58,21 +58,18 @@ pub fn read_picture(
     height: u16,
 ) -> Result<Picture, PictureFault>
     requires some { 0 < width }
-    ensures value { IfOk result (λ picture. picture_in width height text.now ≡ Ok (picture_seen picture)) }
-    ensures count { IfOk result (λ picture. length picture.dots.items ≡ height * width) }
-    ensures within { IfOk result (λ picture. All (λ dot. dot ≤ picture.greatest) picture.dots.items) }
+    ensures value { IfOk result (λ picture. picture_in width height text.now ≡ Ok picture) }
+    ensures count { IfOk result (λ picture. length picture.dots ≡ height * width) }
+    ensures within { IfOk result (λ picture. All (λ dot. dot ≤ picture.greatest) picture.dots) }
     ensures refused { IfErr result (λ fault. fault ≢ PictureFault.Memory
         → picture_in width height text.now ≡ Err fault) }
+    ensures header { (fault : PictureFault) → picture_header_part text.now width height ≡ Err fault
+        → result ≡ Err fault }
 {
     let header = read_header(text, width, height)?;
     let dots = read_dots(alloc, text, header, width, height)?;
     judge(&dots, header.greatest, usize::from(width))?;
-    Ok(Picture {
-        width,
-        height,
-        greatest: header.greatest,
-        dots,
-    })
+    Ok(Picture::new(width, height, header.greatest, dots))
 }
 
 /// What stands before the dots, where it tells this width and height.
@@ -225,12 +222,9 @@ fn read_dots(
     width: u16,
     height: u16,
 ) -> Result<Vec<u64>, PictureFault>
-    requires some { 0 < width }
-    ensures value { IfOk result (λ dots.
-        dots_part header.entry.form text.now header.entry.greatest width height header.entry.rest.now ≡ Ok dots.items) }
+    ensures value { GivesDots (λ dots. dots.items) result
+        (dots_part header.entry.form text.now header.entry.greatest width height header.entry.rest.now) }
     ensures count { IfOk result (λ dots. length dots.items ≡ height * width) }
-    ensures refused { IfErr result (λ fault. fault ≢ PictureFault.Memory
-        → dots_part header.entry.form text.now header.entry.greatest width height header.entry.rest.now ≡ Err fault) }
 {
     match header.form {
         Form::Plain => {
@@ -249,10 +243,8 @@ fn read_plain(
     count: usize,
     bytes: &[u8],
 ) -> Result<Vec<u64>, PictureFault>
-    ensures value { IfOk result (λ dots. plain_dots text.now greatest count bytes.now ≡ Ok dots.items) }
+    ensures value { GivesDots (λ dots. dots.items) result (plain_dots text.now greatest count bytes.now) }
     ensures count { IfOk result (λ dots. length dots.items ≡ count) }
-    ensures refused { IfErr result (λ fault. fault ≢ PictureFault.Memory
-        → plain_dots text.now greatest count bytes.now ≡ Err fault) }
 {
     let Ok(mut dots) = Vec::with_capacity(alloc, count) else {
         return Err(PictureFault::Memory);
@@ -320,11 +312,8 @@ fn read_raw(
     height: u16,
     bytes: &[u8],
 ) -> Result<Vec<u64>, PictureFault>
-    requires some { 0 < width }
-    ensures value { IfOk result (λ dots. raw_dots greatest width height bytes.now ≡ Ok dots.items) }
+    ensures value { GivesDots (λ dots. dots.items) result (raw_dots greatest width height bytes.now) }
     ensures count { IfOk result (λ dots. length dots.items ≡ height * width) }
-    ensures refused { IfErr result (λ fault. fault ≢ PictureFault.Memory
-        → raw_dots greatest width height bytes.now ≡ Err fault) }
 {
     let raster = match bytes {
         [space, raster @ ..] if is_space(*space) => raster,
@@ -362,7 +351,6 @@ fn dots_of(
     width: u16,
     height: u16,
 ) -> Result<Vec<u64>, PictureFault>
-    requires some { 0 < width }
     requires raster { length raster.now ≡ raster_len greatest width height }
     ensures value { IfOk result (λ dots.
         dots.items ≡ map (raw_dot raster.now greatest width) (range_with_len 0 (height * width))) }
@@ -384,7 +372,6 @@ fn dots_of(
 
 /// The dot of a number.
 fn raw_dot(raster: &[u8], greatest: u16, width: u16, height: u16, i: usize) -> u64
-    requires some { 0 < width }
     requires dot { i < height * width }
     requires raster { length raster.now ≡ raster_len greatest width height }
     ensures value { result ≡ raw_dot raster.now greatest width i }

@@ -13,9 +13,9 @@ use Rattle.cm_session.specs.declared.fault.SessionFault.TheVariants.{Read, Write
 use Rattle.cm_session.specs.Ends.{ended_lines, open_line}
 use Rattle.cm_debug.specs.BufferedOutput.{IsShortWriteAfter}
 use Rattle.lab_front.specs.Front.{Front}
-use Rattle.lab_front.specs.Ends.{LINE_LIMIT, ALL, AreShort, Ends, IsAnswered}
+use Rattle.lab_front.specs.Ends.{LINE_LIMIT, ALL, AreShort, AreLeadingLines, Ends, IsAnswered}
 use Rattle.lab_front.specs.Hearing.{LineAborts, HasHeard, HearingStops}
-use Rattle.lab_front.proofs.Lines.{AreLinesOf, line_more, last_line, all_ended, left_open, no_open}
+use Rattle.lab_front.proofs.Lines.{AreLinesOf, line_more, few_more, ended_size-more, last_line, all_ended, left_open, no_open}
 use Rattle.lab_front.proofs.Told.{IsTold, answered_all, stopped, broken_off, line_stops}
 
 -- ---- a line of what was heard
@@ -69,29 +69,39 @@ pub line_ends : (n cap : ℕ) (start : Machine) (out_before before after : Optio
     (place len : ℕ) (done : List (List ℕ)) (front : Front) (out_after on : Option (List ℕ)) (sent : ℕ) (kept : List ℕ)
     (machine : Machine) (fault : SessionFault) → rest ≡ take (length heard - place) (drop place heard)
     → line ≡ take len rest → len < length rest → get_or rest len 0 ≡ 10 → IsUnended line → AreLinesOf given done
-    → Consumes before after (given ++ drop place heard) → IsTold n cap start out_before done front out_after sent kept
+    → length (drop place heard) ≤ LINE_LIMIT + 1 → Consumes before after (given ++ drop place heard)
+    → IsTold n cap start out_before done front out_after sent kept
     → LineAborts n cap front line sent kept out_after machine on fault → Ends n cap before after start out_before machine on (Err fault)
 line_ends n cap start out_before before after heard given rest line place len done front out_after on sent kept machine fault is
-    part inside ends free lines consumed told' breaks = record {
+    part inside ends free lines within consumed told' breaks = record {
       taken = given ++ drop place heard;
       consumed = consumed;
       over = line_stops n cap start out_before (given ++ drop place heard) done (lines_of (drop (place + (len + 1)) heard)) front
           out_after on sent kept line machine fault
           (ap lines_of (a_line_on heard given rest line place len is part inside ends)
-          ∙ (line_more given line done free lines).all (drop (place + (len + 1)) heard)) told' breaks;
+          ∙ (line_more given line done free lines).all (drop (place + (len + 1)) heard))
+          (few_more given (drop place heard) done lines within) told' breaks;
     }
+
+-- the lines that have ended are the first
+first_of : (given rest : List ℕ) (done : List (List ℕ)) → AreLinesOf given done → length rest ≤ LINE_LIMIT + 1
+    → AreLeadingLines (given ++ rest) done
+first_of given rest done lines within =
+    record { undone = lines_of rest; lines_are = lines.all rest; few = few_more given rest done lines within }
 
 -- a write is cut off between two lines
 pub send_ends : (n cap : ℕ) (start : Machine) (out_before before after : Option (List ℕ)) (given rest : List ℕ)
     (done : List (List ℕ)) (front : Front) (out_after on : Option (List ℕ)) (sent : ℕ) (kept : List ℕ) (count : ℕ)
-    → AreLinesOf given done → Consumes before after (given ++ rest) → IsTold n cap start out_before done front out_after sent kept
+    → AreLinesOf given done → length rest ≤ LINE_LIMIT + 1 → Consumes before after (given ++ rest)
+    → IsTold n cap start out_before done front out_after sent kept
     → IsShortWriteAfter sent kept out_after on count → Ends n cap before after start out_before front.machine on (Err (Write count))
-send_ends n cap start out_before before after given rest done front out_after on sent kept count lines consumed told' cut = record {
-  taken = given ++ rest;
-  consumed = consumed;
-  over = stopped n cap start out_before done (lines_of rest) (lines_of (given ++ rest)) front out_after on sent kept count
-      (lines.all rest) told' cut;
-}
+send_ends n cap start out_before before after given rest done front out_after on sent kept count lines within consumed told' cut =
+    record {
+      taken = given ++ rest;
+      consumed = consumed;
+      over = stopped n cap start out_before (given ++ rest) done front out_after on sent kept count
+          (first_of given rest done lines within) told' cut;
+    }
 
 nothing_appended : (out_after : Option (List ℕ)) (kept : List ℕ) → kept ≡ [] → Appends out_after out_after kept
 nothing_appended out_after kept none = subst (Appends out_after out_after) (sym none) (Appends-nil out_after)
@@ -115,7 +125,7 @@ pub hearing_ends : (n cap : ℕ) (start : Machine) (out_before before mid after 
     (done : List (List ℕ)) (front : Front) (out_after : Option (List ℕ)) (sent : ℕ) (kept : List ℕ)
     (fault : SessionFault) → kept ≡ [] → IsUnended rest → AreLinesOf given done → Consumes before mid (given ++ rest)
     → AreShort done → length rest ≤ LINE_LIMIT → IsTold n cap start out_before done front out_after sent kept
-    → HearingStops mid after fault → Ends n cap before after start out_before front.machine out_after (Err fault)
+    → HearingStops mid after rest fault → Ends n cap before after start out_before front.machine out_after (Err fault)
 hearing_ends n cap start out_before before mid after given rest done front out_after sent kept Read none free lines consumed
     short within told' stops = record {
       taken = given ++ rest;
@@ -130,9 +140,10 @@ hearing_ends n cap start out_before before mid after given rest done front out_a
     short within told' stops = record {
       taken = (given ++ rest) ++ stops.bytes;
       consumed = Consumes-trans before mid after (given ++ rest) stops.bytes consumed stops.consumed;
-      over = broken_off n cap start out_before done (lines_of (rest ++ stops.bytes)) (lines_of ((given ++ rest) ++ stops.bytes))
-          front out_after out_after sent kept
-          (ap lines_of (append_assoc given rest stops.bytes) ∙ lines.all (rest ++ stops.bytes)) told'
+      over = broken_off n cap start out_before ((given ++ rest) ++ stops.bytes) done front out_after out_after sent kept
+          (subst (λ (xs : List ℕ). AreLeadingLines xs done) (sym (append_assoc given rest stops.bytes))
+          (first_of given (rest ++ stops.bytes) done lines (let few = stops.few in
+          omega (arith, within, few, length-append rest stops.bytes)))) told'
           (nothing_appended out_after kept none);
     }
 hearing_ends n cap start out_before before mid after given rest done front out_after sent kept TooMuch none free lines consumed
@@ -157,16 +168,19 @@ over_is len bytes taken all same so (inr many) = inr (omega (arith, many, so))
 
 pub over_ends : (n cap : ℕ) (start : Machine) (out_before before after : Option (List ℕ)) (given rest : List ℕ)
     (done : List (List ℕ)) (front : Front) (out_after : Option (List ℕ)) (sent : ℕ) (kept : List ℕ) → kept ≡ []
-    → IsUnended rest → AreLinesOf given done → Consumes before after (given ++ rest) → AreShort done
-    → (LINE_LIMIT < length rest) ⊎ (ALL ≤ length (given ++ rest)) → IsTold n cap start out_before done front out_after sent kept
+    → IsUnended rest → AreLinesOf given done → length rest ≤ LINE_LIMIT + 1 → Consumes before after (given ++ rest)
+    → AreShort done → (LINE_LIMIT < length rest) ⊎ (ALL ≤ length (given ++ rest))
+    → IsTold n cap start out_before done front out_after sent kept
     → Ends n cap before after start out_before front.machine out_after (Err TooMuch)
-over_ends n cap start out_before before after given rest done front out_after sent kept none free lines consumed short over told' =
+over_ends n cap start out_before before after given rest done front out_after sent kept none free lines within consumed short
+    over told' =
     record {
       taken = given ++ rest;
       consumed = consumed;
       over = (
         short_ended given rest done free lines short,
         too_many given rest done free lines over,
+        omega (arith, within, ap length (left_open given rest done free lines)),
         ended_answered n cap start out_before given rest done front out_after sent kept none free lines told',
       );
     }
@@ -226,14 +240,14 @@ last_parts given heard done free some lines =
 pub last_ends : (n cap : ℕ) (start : Machine) (out_before before after : Option (List ℕ)) (given heard : List ℕ)
     (done : List (List ℕ)) (front : Front) (out_after on : Option (List ℕ)) (sent : ℕ) (kept : List ℕ) (machine : Machine)
     (fault : SessionFault) → IsUnended heard → 0 < length heard → AreLinesOf given done
-    → Consumes before after (given ++ heard) → IsTold n cap start out_before done front out_after sent kept
+    → length heard ≤ LINE_LIMIT + 1 → Consumes before after (given ++ heard) → IsTold n cap start out_before done front out_after sent kept
     → LineAborts n cap front heard sent kept out_after machine on fault → Ends n cap before after start out_before machine on (Err fault)
-last_ends n cap start out_before before after given heard done front out_after on sent kept machine fault free some lines consumed
-    told' breaks = record {
+last_ends n cap start out_before before after given heard done front out_after on sent kept machine fault free some lines within
+    consumed told' breaks = record {
       taken = given ++ heard;
       consumed = consumed;
       over = line_stops n cap start out_before (given ++ heard) done [] front out_after on sent kept heard machine fault
-          (last_parts given heard done free some lines) told' breaks;
+          (last_parts given heard done free some lines) (few_more given heard done lines within) told' breaks;
     }
 
 -- a short line more
@@ -262,15 +276,20 @@ answered_ends n cap start out_before before after given heard done front out_aft
 -- or not
 pub cut_ends : (n cap : ℕ) (start : Machine) (out_before before after : Option (List ℕ)) (given heard : List ℕ)
     (done : List (List ℕ)) (front : Front) (out_after on : Option (List ℕ)) (sent : ℕ) (kept : List ℕ) (count : ℕ)
-    → IsUnended heard → 0 < length heard → AreLinesOf given done → Consumes before after (given ++ heard)
+    → IsUnended heard → 0 < length heard → AreLinesOf given done → length heard ≤ LINE_LIMIT + 1
+    → Consumes before after (given ++ heard)
     → IsTold n cap start out_before (done ++ heard ∷ []) front out_after sent kept → IsShortWriteAfter sent kept out_after on count
     → Ends n cap before after start out_before front.machine on (Err (Write count))
-cut_ends n cap start out_before before after given heard done front out_after on sent kept count free some lines consumed told' cut =
+cut_ends n cap start out_before before after given heard done front out_after on sent kept count free some lines within consumed
+    told' cut =
     record {
       taken = given ++ heard;
       consumed = consumed;
-      over = stopped n cap start out_before (done ++ heard ∷ []) [] (lines_of (given ++ heard)) front out_after on sent kept count
-          (last_parts given heard done free some lines) told' cut;
+      over = stopped n cap start out_before (given ++ heard) (done ++ heard ∷ []) front out_after on sent kept count (record {
+        undone = [];
+        lines_are = last_parts given heard done free some lines;
+        few = omega (arith, few_more given heard done lines within, ended_size-more done heard);
+      }) told' cut;
     }
 
 -- ---- how much was heard

@@ -6,10 +6,10 @@ use Rattle.lab_front.specs.Ends.{CountsFrontLacks}
 use Rattle.lab_front.specs.Hearing.{HearingStops}
 
 -- no more bytes came
-pub lacks_unheard : (before after : ℕ) (source rest : Option (List ℕ)) (fault : SessionFault) → after ≡ before
-    → HearingStops source rest fault → CountsFrontLacks before after (Err fault)
-lacks_unheard before after source rest Read same stops = same
-lacks_unheard before after source rest (Write count) same stops = absurd stops
-lacks_unheard before after source rest TooMuch same stops = absurd stops
-lacks_unheard before after source rest Memory same stops = same
-lacks_unheard before after source rest NoThread same stops = absurd stops
+pub lacks_unheard : (before after : ℕ) (source left : Option (List ℕ)) (rest : List ℕ) (fault : SessionFault) → after ≡ before
+    → HearingStops source left rest fault → CountsFrontLacks before after (Err fault)
+lacks_unheard before after source left rest Read same stops = same
+lacks_unheard before after source left rest (Write count) same stops = absurd stops
+lacks_unheard before after source left rest TooMuch same stops = absurd stops
+lacks_unheard before after source left rest Memory same stops = same
+lacks_unheard before after source left rest NoThread same stops = absurd stops

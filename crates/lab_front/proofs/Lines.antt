@@ -1,20 +1,23 @@
 -- The lines of bytes that were heard: those that have ended, and what is open.
-use Rattle.std.proofs.Common.{◌≡◌, ℕ, ◌<◌, false, List, [], ◌∷◌, ◌++◌, length, refl, ap, ◌∙◌, sym, arith}
-use Rattle.std.proofs.Common.{append_assoc, append-nil}
+use Rattle.std.proofs.Common.{◌≡◌, ℕ, ◌+◌, ◌<◌, ◌≤◌, false, List, [], ◌∷◌, ◌++◌, length, refl, ap, ◌∙◌, sym, arith}
+use Rattle.std.proofs.Common.{append_assoc, append-nil, length-append}
 use Rattle.std.specs.List.{slice_split, All}
 use Rattle.std.proofs.lemmas.List.Splits.{slice_split_at, slice_split_none, length-slice_split}
 use Rattle.std.proofs.lemmas.List.Elements.{All-from_get_or}
+use Rattle.std.proofs.lemmas.List.Sums.{sum_by_push}
 use Rattle.cm_bits.specs.Text.{is_line_end, lines_of, without_empty_last, IsUnended}
 use Rattle.cm_session.specs.Ends.{ended_lines, open_line, but_last, last_of}
+use Rattle.lab_front.specs.Ends.{LINE_LIMIT, ended_size}
 
 -- bytes that end with the end of a line, or are none, are these lines, whatever follows
 pub record AreLinesOf (given : List ℕ) (done : List (List ℕ)) : Type 0 where
   pub all : (rest : List ℕ) → lines_of (given ++ rest) ≡ done ++ lines_of rest
   pub ended : (rest : List ℕ) → ended_lines (given ++ rest) ≡ done ++ ended_lines rest
   pub still_open : (rest : List ℕ) → open_line (given ++ rest) ≡ open_line rest
+  pub size : length given ≡ ended_size done
 
 pub no_lines : AreLinesOf [] []
-no_lines = record { all = λ rest. refl; ended = λ rest. refl; still_open = λ rest. refl }
+no_lines = record { all = λ rest. refl; ended = λ rest. refl; still_open = λ rest. refl; size = refl }
 
 free_of : (bytes : List ℕ) → IsUnended bytes → All (λ (byte : ℕ). is_line_end byte ≡ false) bytes
 free_of bytes free = All-from_get_or (λ (byte : ℕ). is_line_end byte ≡ false) bytes 0 free
@@ -53,6 +56,10 @@ first_open line rest free =
     ap last_of (slice_split_at is_line_end line 10 rest (free_of line free) refl)
     ∙ not_last_open line (slice_split is_line_end rest) (some_parts rest)
 
+pub ended_size-more : (done : List (List ℕ)) (line : List ℕ)
+    → ended_size (done ++ line ∷ []) ≡ ended_size done + (length line + 1)
+ended_size-more done line = sum_by_push (λ (l : List ℕ). length l + 1) done line
+
 behind : (given line rest : List ℕ)
     → (given ++ (line ++ 10 ∷ [])) ++ rest ≡ given ++ (line ++ 10 ∷ rest)
 behind given line rest = append_assoc given (line ++ 10 ∷ []) rest
@@ -72,7 +79,19 @@ line_more given line done free is = record {
       ∙ sym (append_assoc done (line ∷ []) (ended_lines rest));
   still_open = λ rest.
       ap open_line (behind given line rest) ∙ is.still_open (line ++ 10 ∷ rest) ∙ first_open line rest free;
+  size = omega (
+    arith,
+    is.size,
+    length-append given (line ++ 10 ∷ []),
+    length-append line (10 ∷ []),
+    ended_size-more done line,
+  );
 }
+
+-- what goes on behind lines by one byte more than a line may have at most
+pub few_more : (given rest : List ℕ) (done : List (List ℕ)) → AreLinesOf given done → length rest ≤ LINE_LIMIT + 1
+    → length (given ++ rest) ≤ ended_size done + (LINE_LIMIT + 1)
+few_more given rest done is within = omega (arith, within, is.size, length-append given rest)
 
 -- ---- the end
 

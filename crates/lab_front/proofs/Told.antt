@@ -1,5 +1,5 @@
 -- Lines that are done and answered, one more, and those at which a front end breaks off.
-use Rattle.std.proofs.Common.{◌≡◌, ℕ, ◌+◌, List, [], ◌∷◌, ◌++◌, length, take, Option, Some, None, inl, inr}
+use Rattle.std.proofs.Common.{◌≡◌, ℕ, ◌+◌, ◌≤◌, List, [], ◌∷◌, ◌++◌, length, take, Option, Some, None, inl, inr}
 use Rattle.std.proofs.Common.{refl, ap, ◌∙◌, sym, subst, arith, append_assoc, append-nil, length-append, Err}
 use Rattle.std.proofs.KnownBytes.{Appends-trans, Appends-nil}
 use Rattle.std.specs.Io.KnownBytes.{Appends, append_known}
@@ -11,8 +11,9 @@ use Rattle.cm_debug.specs.BufferedOutput.{IsShortWriteAfter, AbortsBetween}
 use Rattle.cm_debug.proofs.Sending.{front_written, all_written, with_none}
 use Rattle.lab_front.specs.Front.{Front, FrontAnswered, front_opening, front_answered_with, front_preceded_by}
 use Rattle.lab_front.specs.Front.{front_after_line, front_after_lines, front_answers}
-use Rattle.lab_front.specs.Ends.{IsAnswered, IsStopped, IsFrontAborted, EndsOver}
+use Rattle.lab_front.specs.Ends.{LINE_LIMIT, ended_size, AreLeadingLines, IsAnswered, IsStopped, IsFrontAborted, EndsOver}
 use Rattle.lab_front.specs.Hearing.{LineAborts}
+use Rattle.lab_front.proofs.Lines.{ended_size-more}
 
 -- ---- lines in two parts
 
@@ -131,34 +132,32 @@ answered_all n cap start out_before done front out_after sent kept none told' = 
 }
 
 -- a write was cut off
-pub stopped : (n cap : ℕ) (start : Machine) (out_before : Option (List ℕ)) (done undone lines : List (List ℕ)) (front : Front)
-    (out_after on : Option (List ℕ)) (sent : ℕ) (kept : List ℕ) (count : ℕ) → lines ≡ done ++ undone
+pub stopped : (n cap : ℕ) (start : Machine) (out_before : Option (List ℕ)) (taken : List ℕ) (done : List (List ℕ)) (front : Front)
+    (out_after on : Option (List ℕ)) (sent : ℕ) (kept : List ℕ) (count : ℕ) → AreLeadingLines taken done
     → IsTold n cap start out_before done front out_after sent kept → IsShortWriteAfter sent kept out_after on count
-    → IsStopped n cap start out_before lines front.machine on count
-stopped n cap start out_before done undone lines front out_after on sent kept count parts told' cut =
-    let first : List ℕ = front_answers n cap start done in
+    → IsStopped n cap start out_before taken front.machine on count
+stopped n cap start out_before taken done front out_after on sent kept count first told' cut =
+    let said : List ℕ = front_answers n cap start done in
     let none : kept ++ [] ≡ kept = append-nil kept in
     record {
       done = done;
-      undone = undone;
-      lines_are = parts;
+      first = first;
       within = omega (arith, cut.count_is, cut.within, told'.sent_is);
-      written = subst (Appends out_before on) (λ i. take (sym cut.count_is i) (append-nil first i))
-          (front_written out_before out_after on kept first [] [] sent cut.part told'.written told'.sent_is
+      written = subst (Appends out_before on) (λ i. take (sym cut.count_is i) (append-nil said i))
+          (front_written out_before out_after on kept said [] [] sent cut.part told'.written told'.sent_is
           (omega (arith, cut.within, ap length none))
           (subst (λ (xs : List ℕ). Appends out_after on (take cut.part xs)) (sym none) cut.written));
       machine_is = ap (λ (f : Front). f.machine) told'.front_is;
     }
 
 -- something was wanting, and what was kept is written
-pub broken_off : (n cap : ℕ) (start : Machine) (out_before : Option (List ℕ)) (done undone lines : List (List ℕ))
-    (front : Front) (out_after on : Option (List ℕ)) (sent : ℕ) (kept : List ℕ) → lines ≡ done ++ undone
+pub broken_off : (n cap : ℕ) (start : Machine) (out_before : Option (List ℕ)) (taken : List ℕ) (done : List (List ℕ))
+    (front : Front) (out_after on : Option (List ℕ)) (sent : ℕ) (kept : List ℕ) → AreLeadingLines taken done
     → IsTold n cap start out_before done front out_after sent kept → Appends out_after on kept
-    → IsFrontAborted n cap start out_before lines front.machine on
-broken_off n cap start out_before done undone lines front out_after on sent kept parts told' wrote = record {
+    → IsFrontAborted n cap start out_before taken front.machine on
+broken_off n cap start out_before taken done front out_after on sent kept first told' wrote = record {
   done = done;
-  undone = undone;
-  lines_are = parts;
+  first = first;
   answered = record {
     written = all_written out_before out_after on kept (front_answers n cap start done) told'.written wrote;
     machine_is = ap (λ (f : Front). f.machine) told'.front_is;
@@ -169,31 +168,36 @@ broken_off n cap start out_before done undone lines front out_after on sent kept
 pub line_stops : (n cap : ℕ) (start : Machine) (out_before : Option (List ℕ)) (taken : List ℕ)
     (done undone : List (List ℕ)) (front : Front) (out_after on : Option (List ℕ)) (sent : ℕ) (kept line : List ℕ)
     (machine : Machine) (fault : SessionFault) → lines_of taken ≡ (done ++ line ∷ []) ++ undone
-    → IsTold n cap start out_before done front out_after sent kept
+    → length taken ≤ ended_size done + (LINE_LIMIT + 1) → IsTold n cap start out_before done front out_after sent kept
     → LineAborts n cap front line sent kept out_after machine on fault
     → EndsOver n cap taken start out_before machine on (Err fault)
-line_stops n cap start out_before taken done undone front out_after on sent kept line machine (Write count) parts told'
-    (inl before) =
-    subst (λ (m : Machine). IsStopped n cap start out_before (lines_of taken) m on count) (sym before.0)
-    (stopped n cap start out_before done (line ∷ undone) (lines_of taken) front out_after on sent kept count
-    (parts ∙ append_assoc done (line ∷ []) undone) told' before.1)
-line_stops n cap start out_before taken done undone front out_after on sent kept line machine (Write count) parts told'
-    (inr after) =
-    subst (λ (m : Machine). IsStopped n cap start out_before (lines_of taken) m on count) (sym after.0)
-    (stopped n cap start out_before (done ++ line ∷ []) undone (lines_of taken) (front_after_line n cap front line).front out_after on
-    sent (kept ++ (front_after_line n cap front line).answer) count parts
-    (told_kept n cap start out_before done front out_after sent kept line told') after.1)
-line_stops n cap start out_before taken done undone front out_after on sent kept line machine Memory parts told' before =
-    subst (λ (m : Machine). IsFrontAborted n cap start out_before (lines_of taken) m on) (sym before.0)
-    (broken_off n cap start out_before done (line ∷ undone) (lines_of taken) front out_after on sent kept
-    (parts ∙ append_assoc done (line ∷ []) undone) told' before.1)
-line_stops n cap start out_before taken done undone front out_after on sent kept line machine NoThread parts told' before =
-    subst (λ (m : Machine). IsFrontAborted n cap start out_before (lines_of taken) m on) (sym before.0)
-    (broken_off n cap start out_before done (line ∷ undone) (lines_of taken) front out_after on sent kept
-    (parts ∙ append_assoc done (line ∷ []) undone) told' before.1)
-line_stops n cap start out_before taken done undone front out_after on sent kept line machine Read parts told' none = absurd none
-line_stops n cap start out_before taken done undone front out_after on sent kept line machine TooMuch parts told' none =
-    absurd none
+line_stops n cap start out_before taken done undone front out_after on sent kept line machine fault parts few told' stops =
+    by fault stops where
+      before : AreLeadingLines taken done
+      before = record { undone = line ∷ undone; lines_are = parts ∙ append_assoc done (line ∷ []) undone; few = few }
+
+      after : AreLeadingLines taken (done ++ line ∷ [])
+      after = record { undone = undone; lines_are = parts; few = omega (arith, few, ended_size-more done line) }
+
+      aborted : machine ≡ front.machine → Appends out_after on kept
+          → IsFrontAborted n cap start out_before taken machine on
+      aborted is wrote = subst (λ (m : Machine). IsFrontAborted n cap start out_before taken m on) (sym is)
+          (broken_off n cap start out_before taken done front out_after on sent kept before told' wrote)
+
+      by : (fault : SessionFault) → LineAborts n cap front line sent kept out_after machine on fault
+          → EndsOver n cap taken start out_before machine on (Err fault)
+      by (Write count) (inl cut) =
+          subst (λ (m : Machine). IsStopped n cap start out_before taken m on count) (sym cut.0)
+          (stopped n cap start out_before taken done front out_after on sent kept count before told' cut.1)
+      by (Write count) (inr cut) =
+          subst (λ (m : Machine). IsStopped n cap start out_before taken m on count) (sym cut.0)
+          (stopped n cap start out_before taken (done ++ line ∷ []) (front_after_line n cap front line).front out_after on
+          sent (kept ++ (front_after_line n cap front line).answer) count after
+          (told_kept n cap start out_before done front out_after sent kept line told') cut.1)
+      by Memory wants = aborted wants.0 wants.1
+      by NoThread wants = aborted wants.0 wants.1
+      by Read none = absurd none
+      by TooMuch none = absurd none
 
 -- what is wanting before a line
 pub wanting : (n cap : ℕ) (front : Front) (line : List ℕ) (sent : ℕ) (kept : List ℕ) (out_after on : Option (List ℕ))

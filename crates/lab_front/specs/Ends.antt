@@ -1,5 +1,5 @@
 -- How a front end ends: what it took, what it wrote and the machine that it left, after each of its faults too. Ours.
-use Rattle.std.specs.Prelude.{◌≡◌, ℕ, ◌<◌, ◌≤◌, ◌⊎◌, Option, Result, Ok, Err, List, ◌++◌, length, take}
+use Rattle.std.specs.Prelude.{◌≡◌, ℕ, ◌+◌, ◌<◌, ◌≤◌, ◌⊎◌, Option, Result, Ok, Err, List, ◌++◌, length, sum_by, take}
 use Rattle.std.specs.List.{All}
 use Rattle.std.specs.Io.KnownBytes.{Appends, Consumes}
 use Rattle.cm_bits.specs.Text.{lines_of}
@@ -28,22 +28,30 @@ pub record IsAnswered (n cap : ℕ) (start : Machine) (out_before : Option (List
   pub written : Appends out_before out_after (front_answers n cap start lines)
   pub machine_is : machine ≡ front_left n cap start lines
 
--- some of these lines are done, and the machine is that after them; so many bytes of their answers are written, not all
-pub record IsStopped (n cap : ℕ) (start : Machine) (out_before : Option (List ℕ)) (lines : List (List ℕ))
+-- how many bytes lines have, each with its end
+abbrev pub ended_size : List (List ℕ) → ℕ
+ended_size lines = sum_by (λ line. length line + 1) lines
+
+-- these are the first lines of a text, which goes on behind them by one byte more than a line may have at most
+pub record AreLeadingLines (taken : List ℕ) (done : List (List ℕ)) : Type 0 where
+  pub undone : List (List ℕ)
+  pub lines_are : lines_of taken ≡ done ++ undone
+  pub few : length taken ≤ ended_size done + (LINE_LIMIT + 1)
+
+-- some lines of a text are done, and the machine is that after them; so many bytes of their answers are written, not all
+pub record IsStopped (n cap : ℕ) (start : Machine) (out_before : Option (List ℕ)) (taken : List ℕ)
     (machine : Machine) (out_after : Option (List ℕ)) (count : ℕ) : Type 0 where
   pub done : List (List ℕ)
-  pub undone : List (List ℕ)
-  pub lines_are : lines ≡ done ++ undone
+  pub first : AreLeadingLines taken done
   pub within : count < length (front_answers n cap start done)
   pub written : Appends out_before out_after (take count (front_answers n cap start done))
   pub machine_is : machine ≡ front_left n cap start done
 
--- some of these lines are done and their answers written, and nothing of the others
-pub record IsFrontAborted (n cap : ℕ) (start : Machine) (out_before : Option (List ℕ)) (lines : List (List ℕ))
+-- some lines of a text are done and their answers written, and nothing of the others
+pub record IsFrontAborted (n cap : ℕ) (start : Machine) (out_before : Option (List ℕ)) (taken : List ℕ)
     (machine : Machine) (out_after : Option (List ℕ)) : Type 0 where
   pub done : List (List ℕ)
-  pub undone : List (List ℕ)
-  pub lines_are : lines ≡ done ++ undone
+  pub first : AreLeadingLines taken done
   pub answered : IsAnswered n cap start out_before done machine out_after
 
 -- how a front end ends that took this text
@@ -55,14 +63,14 @@ EndsOver n cap taken start out_before machine out_after (Err Read) =
     AreShort (ended_lines taken) × (length (open_line taken) ≤ LINE_LIMIT)
     × IsAnswered n cap start out_before (ended_lines taken) machine out_after
 EndsOver n cap taken start out_before machine out_after (Err (Write count)) =
-    IsStopped n cap start out_before (lines_of taken) machine out_after count
+    IsStopped n cap start out_before taken machine out_after count
 EndsOver n cap taken start out_before machine out_after (Err TooMuch) =
     AreShort (ended_lines taken) × ((LINE_LIMIT < length (open_line taken)) ⊎ (ALL ≤ length taken))
-    × IsAnswered n cap start out_before (ended_lines taken) machine out_after
+    × (length (open_line taken) ≤ LINE_LIMIT + 1) × IsAnswered n cap start out_before (ended_lines taken) machine out_after
 EndsOver n cap taken start out_before machine out_after (Err Memory) =
-    IsFrontAborted n cap start out_before (lines_of taken) machine out_after
+    IsFrontAborted n cap start out_before taken machine out_after
 EndsOver n cap taken start out_before machine out_after (Err NoThread) =
-    IsFrontAborted n cap start out_before (lines_of taken) machine out_after
+    IsFrontAborted n cap start out_before taken machine out_after
 
 -- it took a text from its source, the known bytes of which began with it, and ended so
 pub record Ends (n cap : ℕ) (before after : Option (List ℕ)) (start : Machine) (out_before : Option (List ℕ))

@@ -1,9 +1,10 @@
 -- Bytes of lines as they come, and how a line breaks off. Ours.
-use Rattle.std.specs.Prelude.{◌≡◌, ℕ, ◌+◌, ◌≤◌, ◌⊎◌, Option, List, ◌++◌, length}
+use Rattle.std.specs.Prelude.{◌≡◌, ℕ, ◌+◌, ◌-◌, ◌≤◌, ◌⊎◌, Option, List, ◌++◌, length}
 use Rattle.std.specs.Io.KnownBytes.{Appends, Consumes, IsAtEnd, Keeps}
 use Rattle.cm_model.specs.Machine.{Machine}
 use Rattle.cm_session.specs.declared.fault.SessionFault.{SessionFault}
 use Rattle.cm_session.specs.declared.fault.SessionFault.TheVariants.{Read, Write, TooMuch, Memory, NoThread}
+use Rattle.cm_session.specs.Reading.{ConsumesAtMost}
 use Rattle.cm_debug.specs.BufferedOutput.{IsShortWriteAfter}
 use Rattle.lab_front.specs.Front.{Front, front_after_line}
 use Rattle.lab_front.specs.Ends.{LINE_LIMIT}
@@ -18,18 +19,13 @@ pub record HasHeard (before after : Option (List ℕ)) (rest heard : List ℕ) (
   pub few : count ≤ 65536
   pub end : count ≡ 0 → IsAtEnd after
 
--- bytes were taken, and not heard
-pub record HasLost (before after : Option (List ℕ)) : Type 0 where
-  pub bytes : List ℕ
-  pub consumed : Consumes before after bytes
-
--- why no more is heard
-abbrev pub HearingStops : Option (List ℕ) → Option (List ℕ) → SessionFault → Type 0
-HearingStops before after Read = Keeps before after
-HearingStops before after Memory = HasLost before after
-HearingStops before after TooMuch = ⊥
-HearingStops before after (Write count) = ⊥
-HearingStops before after NoThread = ⊥
+-- why no more is heard behind the rest; where memory is wanting, bytes that were taken are lost
+abbrev pub HearingStops : Option (List ℕ) → Option (List ℕ) → List ℕ → SessionFault → Type 0
+HearingStops before after rest Read = Keeps before after
+HearingStops before after rest Memory = ConsumesAtMost (LINE_LIMIT + 1 - length rest) before after
+HearingStops before after rest TooMuch = ⊥
+HearingStops before after rest (Write count) = ⊥
+HearingStops before after rest NoThread = ⊥
 
 -- how a line breaks off: before it, with what was gathered written or a front of that; or after it, with a front
 -- written

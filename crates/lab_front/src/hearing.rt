@@ -52,7 +52,8 @@ pub fn hear<I: Source>(
     requires reader { I.has_failed commands.old ≡ false }
     ensures ok { IfOk result (HasHeard (I.left commands.old) (I.left commands.new) (drop place heard.old.items)
         heard.new.items) }
-    ensures err { IfErr result (HearingStops (I.left commands.old) (I.left commands.new)) }
+    ensures err { IfErr result (HearingStops (I.left commands.old) (I.left commands.new)
+        (drop place heard.old.items)) }
     ensures failed { (I.has_failed commands.new ≡ true) ↔ IsErrOf result SessionFault.Read }
 {
     let Ok(()) = let_go(alloc, heard, place) else {

@@ -80,9 +80,9 @@ pub fn push_buffers<const N: usize, const CAP: usize>(
     let Ok(picture) = show(alloc, machine, Shown::Buffers) else {
         return Err(NoMemory);
     };
-    let rows = usize::from(picture.height);
-    let columns = usize::from(picture.width);
-    push_numbers(alloc, text, &picture.dots, rows, columns)
+    let rows = usize::from(picture.height());
+    let columns = usize::from(picture.width());
+    push_numbers(alloc, text, picture.dots(), rows, columns)
 }
 
 /// Numbers, so many in a line, after a line that tells how many lines they are.

@@ -2,3 +2,4 @@ pub mod Growing
 pub mod Joining
 pub mod Reading
 pub mod Standing
+pub mod Twelve

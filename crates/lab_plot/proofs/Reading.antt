@@ -1,12 +1,12 @@
 -- The lines of a table, one after another.
-use Rattle.std.proofs.Common.{◌≡◌, ℕ, zero, suc, ◌+◌, ◌<◌, Bool, true, false, List, ◌∷◌, Option, Some, None, Result}
+use Rattle.std.proofs.Common.{◌≡◌, ℕ, zero, suc, ◌+◌, ◌<◌, Bool, true, false, List, ◌∷◌, Option, Some, None, Result, Ok, Err}
 use Rattle.std.proofs.Common.{ap, ◌∙◌, arith, if◌then◌else◌}
 use Rattle.lab_plot.specs.declared.points.Kind.{Kind}
 use Rattle.lab_plot.specs.declared.points.Point.{Point}
 use Rattle.lab_plot.specs.declared.fault.PlotFault.{PlotFault}
 use Rattle.lab_plot.specs.Cells.{cell, has_words, is_cell}
-use Rattle.lab_plot.specs.Pictures.{of_header, of_lines}
-use Rattle.lab_plot.specs.Points.{points_with, points_after}
+use Rattle.lab_plot.specs.Pictures.{fault_of, head_fault, of_header, of_lines}
+use Rattle.lab_plot.specs.Points.{points_with, points_after, table_kind}
 use Rattle.lab_plot.specs.Rows.{◌>>=◌, cell_fault, fault_from}
 
 -- ---- the cells of a line
@@ -61,3 +61,22 @@ pub of_lines-blank : (number : ℕ) (line : List ℕ) (lines : List (List ℕ)) 
     → of_lines number (line ∷ lines) ≡ of_lines (number + 1) lines
 unfolding of_lines from_line
 of_lines-blank number line lines has = ap (from_line number line lines) has
+
+-- the same of what is wrong before a table begins
+head_line : ℕ → List ℕ → List (List ℕ) → Bool → Option PlotFault
+head_line number line lines has = if has then fault_of (table_kind number line) else head_fault (number + 1) lines
+
+pub head_fault-words : (number : ℕ) (line : List ℕ) (lines : List (List ℕ)) → has_words line ≡ true
+    → head_fault number (line ∷ lines) ≡ fault_of (table_kind number line)
+unfolding head_fault head_line
+head_fault-words number line lines has = ap (head_line number line lines) has
+
+pub head_fault-blank : (number : ℕ) (line : List ℕ) (lines : List (List ℕ)) → has_words line ≡ false
+    → head_fault number (line ∷ lines) ≡ head_fault (number + 1) lines
+unfolding head_fault head_line
+head_fault-blank number line lines has = ap (head_line number line lines) has
+
+-- a fault that there is
+pub fault_of-some : {A : Type 0} (r : Result A PlotFault) (fault : PlotFault) → fault_of r ≡ Some fault → r ≡ Err fault
+fault_of-some (Ok x) fault e = grind (arith, e)
+fault_of-some (Err other) fault e = grind (arith, e)

@@ -5,13 +5,12 @@ use Rattle.std.specs.List.{fold}
 use Rattle.std.specs.Prelude.{if◌then◌else◌, nat_lt}
 use Rattle.std.proofs.Math.Nat.{add-mod_right, div-le_of_le-mul, mod-add-div', mod-le, mod-lt, mul-mod_left}
 use Rattle.std.proofs.lemmas.Bool.Decides.{nat_tests}
-use Rattle.lab_plot.specs.declared.axes.Axis.{Axis}
 use Rattle.lab_plot.specs.declared.panels.Panel.{Panel}
 use Rattle.lab_plot.specs.declared.points.Kind.{Kind}
 use Rattle.lab_plot.specs.declared.points.Kind.TheVariants.{Cycles, Messages, Loads, Latencies, Compared}
 use Rattle.lab_plot.specs.declared.points.Point.{Point}
 use Rattle.lab_plot.specs.declared.panels.Panel.TheVariants.{Moved, Held, Latency, Throughput, Bins, Took, Columns}
-use Rattle.lab_plot.specs.Axes.{place_along, axis_by, axis_of, highest, higher, in_columns, leftmost, rightmost}
+use Rattle.lab_plot.specs.Axes.{Axis, place_along, axis_by, axis_of, highest, higher, in_columns, leftmost, rightmost}
 use Rattle.lab_plot.specs.Axes.{tick_step, whole_steps}
 use Rattle.lab_plot.specs.Pictures.{frame_of, right_unit}
 use Rattle.lab_plot.specs.Shown.{columns_shown, first_column, unit_of}
@@ -26,22 +25,25 @@ no_rest step number =
     ap (λ (n : ℕ). n % step) whole ∙ mul-mod_left (number / step) step
 
 -- whole steps are no less than what they go over, and some
-record Covers (step range : ℕ) (steps : ℕ) : Type 0 where
-  all : range ≤ steps
-  some : 0 < steps
-  whole : steps % step ≡ 0
+pub record Covers (step range : ℕ) (steps : ℕ) : Type 0 where
+  pub all : range ≤ steps
+  pub near : steps ≤ range + step
+  pub some : 0 < steps
+  pub whole : steps % step ≡ 0
 
-covers : (step range : ℕ) → 0 < step → Covers step range (whole_steps step range)
+pub covers : (step range : ℕ) → 0 < step → Covers step range (whole_steps step range)
 covers step range some = by (eqb (range % step) 0 && nat_lt 0 range) refl where
   by : (b : Bool) → (eqb (range % step) 0 && nat_lt 0 range) ≡ b
       → Covers step range (if b then range else range + step - range % step)
   by true e = record {
     all = omega arith;
+    near = omega arith;
     some = grind (arith, nat_tests, e);
     whole = grind (arith, nat_tests, e);
   }
   by false e = record {
     all = omega (arith, mod-lt range some);
+    near = omega arith;
     some = omega (arith, mod-lt range some, mod-le range step);
     whole = (let over : range + step - range % step ≡ (range - range % step) + step = omega (arith, mod-le range step) in
         ap (λ (n : ℕ). n % step) over ∙ (add-mod_right (range - range % step) step ∙ no_rest step range));
@@ -53,7 +55,9 @@ joined_by step least most some order =
     let over = covers step (most - (least - least % step)) some in
     record {
       begins = omega arith;
+      begins_late = omega (arith, mod-lt least some);
       ends = omega (arith, over.all);
+      ends_soon = omega (arith, over.near, order);
       goes = over.some;
       first_tick = no_rest step least;
       last_tick = over.whole;

@@ -2,8 +2,13 @@
 use Rattle.std.specs.Prelude.{ℕ, zero, suc, ◌+◌, ◌-◌, ◌*◌, ◌/◌, ◌%◌, ◌==◌, ◌&&◌, Bool, nat_lt, nat_le, if◌then◌else◌, max, min}
 use Rattle.std.specs.Prelude.{List}
 use Rattle.std.specs.List.{fold}
-use Rattle.lab_plot.specs.declared.axes.Axis.{Axis}
 use Rattle.lab_plot.specs.declared.points.Point.{Point}
+
+-- an axis, in thousandths: the number at which it begins, the distance of two ticks, and how far it goes
+pub record Axis : Type 0 where
+  pub low : ℕ
+  pub step : ℕ
+  pub span : ℕ
 
 -- ---- what there is to show
 

@@ -7,7 +7,7 @@ use Rattle.cm_bits.specs.Text.{has_bytes, number_of, is_comma, is_point}
 
 -- ---- blanks
 
--- the bytes from the first on that is no blank: no space, tab, CR or LF
+-- the bytes from the first on that is no blank: no space, tab, CR, LF or form feed
 abbrev pub past_blanks : List ℕ → List ℕ
 past_blanks bytes = drop (prefix_len is_ascii_whitespace bytes) bytes
 
@@ -86,7 +86,8 @@ width_of line = length (slice_split is_comma line)
 abbrev pub escaped_byte : ℕ → List ℕ
 escaped_byte byte =
     if byte == 38 then codes "&amp;"
-    else (if byte == 60 then codes "&lt;" else (if nat_lt 31 byte && nat_lt byte 127 then byte ∷ [] else 63 ∷ []))
+    else (if byte == 60 then codes "&lt;"
+    else (if byte == 62 then codes "&gt;" else (if nat_lt 31 byte && nat_lt byte 127 then byte ∷ [] else 63 ∷ [])))
 
 -- a name, as XML writes it
 unfoldable pub escaped : List ℕ → List ℕ

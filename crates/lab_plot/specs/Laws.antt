@@ -1,5 +1,5 @@
 -- Laws of pictures, each the contract of a function of its name. Ours.
-use Rattle.std.specs.Prelude.{◌≡◌, ℕ, ◌<◌, ◌≤◌, true, List, [], ◌∷◌, ◌++◌, codes, Some, None, Ok, Err}
+use Rattle.std.specs.Prelude.{◌≡◌, ℕ, ◌*◌, ◌^◌, ◌<◌, ◌≤◌, true, List, [], ◌∷◌, ◌++◌, codes, Some, None, Ok, Err}
 use Rattle.std.specs.List.{All}
 use Rattle.lab_plot.specs.declared.fault.PlotFault.TheVariants as fault
 use Rattle.lab_plot.specs.declared.panels.Panel.{Panel}
@@ -20,6 +20,11 @@ use Rattle.lab_plot.specs.Ticks.{across_text, cycle_tick}
 -- an axis of two numbers goes from a tick at the lesser or before it to one at the greater or behind it
 abbrev pub AxesJoinTheirNumbers : Type 0
 AxesJoinTheirNumbers = (unit least most : ℕ) → 0 < unit → least ≤ most → Joins (axis_of unit least most) least most
+
+-- an axis has at most twelve ticks, so that all of them are drawn
+abbrev pub AxesHaveTwelveTicks : Type 0
+AxesHaveTwelveTicks = (unit least most : ℕ) → 0 < unit → least ≤ most → most < 2 ^ 64
+    → (axis_of unit least most).span < 12 * (axis_of unit least most).step
 
 -- each point of a panel's columns stands on it, whichever points a picture has
 abbrev pub PointsStandOnTheirPanels : Type 0
@@ -91,5 +96,6 @@ pub record NamesAreShownSo : Type 0 where
   pub whole : shortened 15 (codes "a<b&c") ≡ codes "a&lt;b&amp;c"
   pub fifteen : shortened 15 (codes "who comes first") ≡ codes "who comes first"
   pub longer : shortened 15 (codes "who came first, or last") ≡ codes "who came first&#8230;"
+  pub brackets : shortened 15 (codes "a]]>b") ≡ codes "a]]&gt;b"
   pub title : cell (codes "rate:mean, first ,oldest") 1 ≡ codes "first"
   pub none : cell (codes "rate") 1 ≡ []

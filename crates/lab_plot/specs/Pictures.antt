@@ -1,5 +1,5 @@
 -- The picture of a table, as an SVG. Ours.
-use Rattle.std.specs.Prelude.{ℕ, ◌+◌, ◌*◌, ◌-◌, Bool, true, false, min, if◌then◌else◌, Result, Ok, Err}
+use Rattle.std.specs.Prelude.{ℕ, ◌+◌, ◌*◌, ◌-◌, Bool, true, false, if◌then◌else◌, Option, Some, None, Result, Ok, Err}
 use Rattle.std.specs.Prelude.{List, [], ◌∷◌, ◌++◌, codes}
 use Rattle.cm_bits.specs.Text.{lines_of}
 use Rattle.lab_plot.specs.declared.panels.Frame.{Frame}
@@ -64,8 +64,8 @@ panel_shown kind header x points panel i =
 abbrev pub panels_text : Kind → List ℕ → ℕ → List Point → List ℕ
 panels_text Cycles header x points = panel_shown Cycles header x points Moved 0 ++ panel_shown Cycles header x points Held 1
 panels_text Messages header x points = panel_shown Messages (codes "petit cycles,messages") x points Bins 0
-panels_text Latencies header x points = panel_shown Latencies header x points (Took (min 9 (width_of header - 1))) 0
-panels_text Compared header x points = panel_shown Compared header x points (Columns (min 9 (width_of header - 1))) 0
+panels_text Latencies header x points = panel_shown Latencies header x points (Took (width_of header - 1)) 0
+panels_text Compared header x points = panel_shown Compared header x points (Columns (width_of header - 1)) 0
 panels_text Loads header x points = panel_shown Loads header x points Latency 0 ++ panel_shown Loads header x points Throughput 1
 
 -- how many panels a picture has
@@ -125,6 +125,18 @@ unfoldable pub of_lines : ℕ → List (List ℕ) → Result (List ℕ) PlotFaul
 of_lines number [] = Err Empty
 of_lines number (line ∷ lines) =
     if has_words line then of_header number line lines else of_lines (number + 1) lines
+
+-- the fault, if there is one
+abbrev pub fault_of : {A : Type 0} → Result A PlotFault → Option PlotFault
+fault_of (Ok x) = None
+fault_of (Err fault) = Some fault
+
+-- what is wrong with the lines from this number on before a table begins: all are blank, or the first that is not is
+-- the first of no table
+unfoldable pub head_fault : ℕ → List (List ℕ) → Option PlotFault
+head_fault number [] = Some Empty
+head_fault number (line ∷ lines) =
+    if has_words line then fault_of (table_kind number line) else head_fault (number + 1) lines
 
 -- the picture of a text that is a table, or its first fault
 unfoldable pub table_picture : List ℕ → Result (List ℕ) PlotFault

@@ -1,10 +1,14 @@
 -- The rows of a table, and what is wrong with a line that is none. Ours.
 use Rattle.std.specs.Prelude.{ℕ, zero, suc, ◌+◌, ◌==◌, ◌&&◌, Bool, if◌then◌else◌, Option, Some, None, Result, Ok, Err}
-use Rattle.std.specs.Prelude.{List, bytes_eq}
+use Rattle.std.specs.Prelude.{◌≡◌, ◌≢◌, List, MatchResult, bytes_eq}
 use Rattle.std.specs.List.{list_all, range_with_len}
 use Rattle.lab_plot.specs.declared.fault.PlotFault.{PlotFault}
-use Rattle.lab_plot.specs.declared.fault.PlotFault.TheVariants.{Cell, Large, Width}
+use Rattle.lab_plot.specs.declared.fault.PlotFault.TheVariants.{Cell, Large, Memory, Width}
 use Rattle.lab_plot.specs.Cells.{cell, is_cell, is_written, width_of}
+
+-- a call answers what a definition gives, where its answer is seen in this way, or memory is out
+abbrev pub GivesPlot : {X Y : Type 0} → (X → Y) → Result X PlotFault → Result Y PlotFault → Type 0
+GivesPlot view result given = MatchResult result (λ x. given ≡ Ok (view x)) (λ fault. fault ≢ Memory → given ≡ Err fault)
 
 infixl 10 ◌>>=◌
 -- what comes after, unless a fault came before

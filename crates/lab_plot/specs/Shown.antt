@@ -1,15 +1,9 @@
 -- What a panel of a picture shows: which columns, and what is written upward. Ours.
-use Rattle.std.specs.Prelude.{ℕ, ◌<◌, List, codes}
+use Rattle.std.specs.Prelude.{ℕ, List, codes, min}
 use Rattle.std.specs.List.{after_first}
-use Rattle.lab_plot.specs.declared.panels.Frame.{Frame}
 use Rattle.lab_plot.specs.declared.panels.Panel.{Panel}
 use Rattle.lab_plot.specs.declared.panels.Panel.TheVariants.{Moved, Held, Latency, Throughput, Bins, Took, Columns}
 use Rattle.lab_plot.specs.Cells.{cell, is_colon}
-
--- both axes of a frame have a length
-pub record CanBeDrawn (frame : Frame) : Type 0 where
-  pub across : 0 < frame.across.span
-  pub up : 0 < frame.up.span
 
 -- what is written upward: where columns are compared, what stands behind the colon in the first line's first cell
 abbrev pub label_of : Panel → List ℕ → List ℕ
@@ -31,15 +25,15 @@ first_column Bins = 1
 first_column (Took count) = 1
 first_column (Columns count) = 1
 
--- how many columns a panel shows
+-- how many columns a panel shows: nine at most
 abbrev pub columns_shown : Panel → ℕ
 columns_shown Moved = 4
 columns_shown Held = 2
 columns_shown Latency = 2
 columns_shown Throughput = 1
 columns_shown Bins = 1
-columns_shown (Took count) = count
-columns_shown (Columns count) = count
+columns_shown (Took count) = min count 9
+columns_shown (Columns count) = min count 9
 
 -- ticks upward stand at whole numbers; at thousandths, where numbers are not whole
 abbrev pub unit_of : Panel → ℕ

@@ -1,9 +1,8 @@
 -- The ticks of a panel and their numbers. Ours.
 use Rattle.std.specs.Prelude.{ℕ, ◌+◌, ◌-◌, ◌*◌, nat_le, nat_lt, if◌then◌else◌, List, [], ◌++◌, codes}
 use Rattle.std.specs.List.{flat_map, range_with_len}
-use Rattle.lab_plot.specs.declared.axes.Axis.{Axis}
 use Rattle.lab_plot.specs.declared.panels.Frame.{Frame}
-use Rattle.lab_plot.specs.Axes.{place_along}
+use Rattle.lab_plot.specs.Axes.{Axis, place_along}
 use Rattle.lab_plot.specs.Pieces.{number_text, piece}
 
 -- how far behind the beginning of an axis the k-th tick stands

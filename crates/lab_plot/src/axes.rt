@@ -1,25 +1,38 @@
 //! Axes: from which number to which, and where their ticks stand.
 
-ghost use Rattle.std.specs.Prelude.{◌≡◌, ◌+◌, ◌<◌, ◌≤◌, ◌^◌};
+ghost use Rattle.std.specs.Prelude.{◌≡◌, ◌<◌, ◌≤◌, ◌^◌};
 ghost use Rattle.lab_plot.specs.Axes.{in_columns, highest, leftmost, rightmost, wider, power_in, round_step, tick_step};
 ghost use Rattle.lab_plot.specs.Axes.{whole_steps, axis_of, place_along};
 
 use crate::points::Point;
+use std::marker::Model;
 
 /// An axis. Its numbers are in thousandths.
 #[derive(Clone, Copy)]
 pub struct Axis {
     /// The number at which it begins.
-    pub low: u64,
+    pub(crate) low: u64,
     /// The distance of two ticks.
-    pub step: u64,
+    pub(crate) step: u64,
     /// How far it goes: one step or more.
-    pub span: u128,
+    pub(crate) span: u128,
+}
+
+impl Model for Axis {
+    ghost use Rattle.std.specs.Prelude.{◌<◌};
+    ghost use Rattle.lab_plot.specs.Axes.{Axis};
+
+    ghost Value = { Axis };
+
+    ghost view = { λ axis. record { low = axis.low; step = axis.step; span = axis.span } };
+
+    ghost invariant = { λ axis. 0 < axis.span };
+
+    ghost inverse = { λ axis. record { low = axis.low; step = axis.step; span = axis.span } };
 }
 
 /// The greatest number upward of so many columns from one on, or 0.
 pub(crate) fn highest(first: usize, count: usize, points: &[Point]) -> u64
-    requires few { first + count < 2 ^ 64 }
     ensures value { result ≡ highest first count points.now }
 {
     let mut most = 0;
@@ -32,10 +45,9 @@ pub(crate) fn highest(first: usize, count: usize, points: &[Point]) -> u64
 }
 
 fn in_columns(first: usize, count: usize, column: usize) -> bool
-    requires few { first + count < 2 ^ 64 }
     ensures value { result ≡ in_columns first count column }
 {
-    first <= column && column < first + count
+    first <= column && column - first < count
 }
 
 /// The least number to the right, where this was the one so far.
@@ -126,7 +138,6 @@ fn whole_steps(step: u64, range: u64) -> u128
 pub fn axis_of(unit: u64, least: u64, most: u64) -> Axis
     requires some { 0 < unit }
     ensures value { result ≡ axis_of unit least most }
-    ensures some { 0 < result.span }
 {
     let step = step_of(unit, most.saturating_sub(least));
     let low = least - least % step;
@@ -139,7 +150,6 @@ pub fn axis_of(unit: u64, least: u64, most: u64) -> Axis
 
 /// The place of a number along an axis that is drawn so long.
 pub fn along(axis: Axis, number: u128, length: u32) -> u128
-    requires some { 0 < axis.span }
     requires low { number < 2 ^ 80 }
     ensures value { result ≡ place_along axis number length }
 {

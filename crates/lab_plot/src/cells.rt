@@ -193,6 +193,7 @@ fn push_escaped_byte(text: &mut Vec<u8>, byte: u8) -> Result<(), NoMemory>
     match byte {
         b'&' => push_words(text, b"&amp;"),
         b'<' => push_words(text, b"&lt;"),
+        b'>' => push_words(text, b"&gt;"),
         _ if byte > 31 && byte < 127 => push_words(text, &[byte]),
         _ => push_words(text, b"?"),
     }

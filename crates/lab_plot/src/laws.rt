@@ -1,12 +1,18 @@
 //! Laws of pictures.
 
-ghost use Rattle.lab_plot.specs.Laws.{AxesHaveRoundTicks, AxesJoinTheirNumbers, FirstLinesTellTables};
+ghost use Rattle.lab_plot.specs.Laws.{AxesHaveRoundTicks, AxesHaveTwelveTicks, AxesJoinTheirNumbers};
+ghost use Rattle.lab_plot.specs.Laws.{FirstLinesTellTables};
 ghost use Rattle.lab_plot.specs.Laws.{NamesAreShownSo, PetitCyclesHaveTheirNumbers, PointsStandOnTheirPanels};
 ghost use Rattle.lab_plot.specs.Laws.{RowsHaveFaults, RowsTellPoints};
 
 /// A law: an axis of two numbers goes from a tick at the lesser or before it to one at the greater or behind it.
 pub fn axes_join_their_numbers()
     ensures { AxesJoinTheirNumbers }
+{}
+
+/// A law: an axis has at most twelve ticks, so that all of them are drawn.
+pub fn axes_have_twelve_ticks()
+    ensures { AxesHaveTwelveTicks }
 {}
 
 /// A law: each point of a panel's columns stands on it, whichever points a picture has.
@@ -20,7 +26,7 @@ pub fn rows_tell_points()
     ensures { RowsTellPoints }
 {}
 
-/// A law: these first lines are of these tables, or of none.
+/// A law: examples of first lines, each with the kind of table that has this line, or with the answer that none has.
 #[tactic(auto, unfolding(crate::specs::Cells::trimmed, crate::specs::Rows::has_names))]
 pub fn first_lines_tell_tables()
     ensures { FirstLinesTellTables }

@@ -19,9 +19,9 @@ pub use axes::{Axis, along, axis_of};
 pub use cells::{behind, cell, has_words, place, trim};
 pub use fault::PlotFault;
 pub use laws::{
-    axes_have_round_ticks, axes_join_their_numbers, first_lines_tell_tables, names_are_shown_so,
-    petit_cycles_have_their_numbers, points_stand_on_their_panels, rows_have_faults,
-    rows_tell_points,
+    axes_have_round_ticks, axes_have_twelve_ticks, axes_join_their_numbers,
+    first_lines_tell_tables, names_are_shown_so, petit_cycles_have_their_numbers,
+    points_stand_on_their_panels, rows_have_faults, rows_tell_points,
 };
 pub use lines::{colour, push_circle, push_line_open, push_name};
 pub use panels::{push_place, push_sides};

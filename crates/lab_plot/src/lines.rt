@@ -5,7 +5,7 @@ ghost use Rattle.std.specs.List.{flat_map, range_with_len};
 ghost use Rattle.lab_plot.specs.Lines.{colour, is_of, place_x, place_y, foot, tip, column_corner, circle, dot};
 ghost use Rattle.lab_plot.specs.Lines.{line_open, line_text};
 ghost use Rattle.lab_plot.specs.Lines.{dots_text, name_open, name_text, curve_text};
-ghost use Rattle.lab_plot.specs.Shown.{columns_shown, CanBeDrawn};
+ghost use Rattle.lab_plot.specs.Shown.{columns_shown};
 
 use crate::axes::along;
 use crate::cells::{cell, push_shortened};
@@ -17,15 +17,13 @@ use lab_digits::{push_piece, push_words};
 /// The lines of a panel.
 pub(crate) fn push_curves(
     text: &mut Vec<u8>,
-    frame: Frame,
+    frame: &Frame,
     header: &[u8],
     points: &[Point],
     panel: Panel,
 ) -> Result<(), NoMemory>
-    requires frame { CanBeDrawn frame }
-    requires lines { columns_shown panel ≤ 9 }
     ensures ok { OnOk result (text.new.items ≡ text.old.items
-        ++ flat_map (curve_text frame header.now points.now panel) (range_with_len 0 (columns_shown panel))) }
+        ++ flat_map (curve_text frame.now header.now points.now panel) (range_with_len 0 (columns_shown panel))) }
 {
     for k in 0..panel.count() {
         push_curve(text, frame, header, points, panel, k)?;
@@ -37,16 +35,15 @@ pub(crate) fn push_curves(
 #[tactic(auto, unfolding(crate::specs::Lines::curve_text))]
 fn push_curve(
     text: &mut Vec<u8>,
-    frame: Frame,
+    frame: &Frame,
     header: &[u8],
     points: &[Point],
     panel: Panel,
     k: usize,
 ) -> Result<(), NoMemory>
-    requires frame { CanBeDrawn frame }
     requires few { k < 9 }
     ensures ok { OnOk result (text.new.items
-        ≡ text.old.items ++ curve_text frame header.now points.now panel k) }
+        ≡ text.old.items ++ curve_text frame.now header.now points.now panel k) }
 {
     let column = panel.first() + k;
     push_line(text, frame, points, column, k)?;
@@ -58,13 +55,12 @@ fn push_curve(
 #[tactic(auto, unfolding(crate::specs::Lines::line_text))]
 fn push_line(
     text: &mut Vec<u8>,
-    frame: Frame,
+    frame: &Frame,
     points: &[Point],
     column: usize,
     k: usize,
 ) -> Result<(), NoMemory>
-    requires frame { CanBeDrawn frame }
-    ensures ok { OnOk result (text.new.items ≡ text.old.items ++ line_text frame points.now column k) }
+    ensures ok { OnOk result (text.new.items ≡ text.old.items ++ line_text frame.now points.now column k) }
 {
     push_line_open(text, colour(k))?;
     push_corners(text, frame, points, column)?;
@@ -85,12 +81,11 @@ pub fn push_line_open(text: &mut Vec<u8>, paint: &[u8]) -> Result<(), NoMemory>
 
 fn push_corners(
     text: &mut Vec<u8>,
-    frame: Frame,
+    frame: &Frame,
     points: &[Point],
     column: usize,
 ) -> Result<(), NoMemory>
-    requires frame { CanBeDrawn frame }
-    ensures ok { OnOk result (text.new.items ≡ text.old.items ++ flat_map (column_corner frame column) points.now) }
+    ensures ok { OnOk result (text.new.items ≡ text.old.items ++ flat_map (column_corner frame.now column) points.now) }
 {
     for point in points {
         push_corner(text, frame, column, point)?;
@@ -101,12 +96,11 @@ fn push_corners(
 /// A corner of the line of a column, if it is one.
 fn push_corner(
     text: &mut Vec<u8>,
-    frame: Frame,
+    frame: &Frame,
     column: usize,
     point: &Point,
 ) -> Result<(), NoMemory>
-    requires frame { CanBeDrawn frame }
-    ensures ok { OnOk result (text.new.items ≡ text.old.items ++ column_corner frame column point.now) }
+    ensures ok { OnOk result (text.new.items ≡ text.old.items ++ column_corner frame.now column point.now) }
 {
     if !is_of(column, point) {
         return Ok(());
@@ -117,9 +111,8 @@ fn push_corner(
 }
 
 /// Below a point, where lines stand on the axis.
-fn push_foot(text: &mut Vec<u8>, frame: Frame, point: &Point) -> Result<(), NoMemory>
-    requires frame { CanBeDrawn frame }
-    ensures ok { OnOk result (text.new.items ≡ text.old.items ++ foot frame point.now) }
+fn push_foot(text: &mut Vec<u8>, frame: &Frame, point: &Point) -> Result<(), NoMemory>
+    ensures ok { OnOk result (text.new.items ≡ text.old.items ++ foot frame.now point.now) }
 {
     if !frame.stems {
         return Ok(());
@@ -128,9 +121,8 @@ fn push_foot(text: &mut Vec<u8>, frame: Frame, point: &Point) -> Result<(), NoMe
     push_words(text, b",2400")
 }
 
-fn push_tip(text: &mut Vec<u8>, frame: Frame, point: &Point) -> Result<(), NoMemory>
-    requires frame { CanBeDrawn frame }
-    ensures ok { OnOk result (text.new.items ≡ text.old.items ++ tip frame point.now) }
+fn push_tip(text: &mut Vec<u8>, frame: &Frame, point: &Point) -> Result<(), NoMemory>
+    ensures ok { OnOk result (text.new.items ≡ text.old.items ++ tip frame.now point.now) }
 {
     push_piece(text, b" ", place_x(frame, point))?;
     push_piece(text, b",", place_y(frame, point))
@@ -140,13 +132,12 @@ fn push_tip(text: &mut Vec<u8>, frame: Frame, point: &Point) -> Result<(), NoMem
 #[tactic(auto, unfolding(crate::specs::Lines::dots_text))]
 fn push_dots(
     text: &mut Vec<u8>,
-    frame: Frame,
+    frame: &Frame,
     points: &[Point],
     column: usize,
     k: usize,
 ) -> Result<(), NoMemory>
-    requires frame { CanBeDrawn frame }
-    ensures ok { OnOk result (text.new.items ≡ text.old.items ++ dots_text frame points.now column k) }
+    ensures ok { OnOk result (text.new.items ≡ text.old.items ++ dots_text frame.now points.now column k) }
 {
     let count = points.iter().filter(|point| is_of(column, point)).count();
     if count <= 64 {
@@ -158,13 +149,12 @@ fn push_dots(
 
 fn push_all_dots(
     text: &mut Vec<u8>,
-    frame: Frame,
+    frame: &Frame,
     points: &[Point],
     column: usize,
     k: usize,
 ) -> Result<(), NoMemory>
-    requires frame { CanBeDrawn frame }
-    ensures ok { OnOk result (text.new.items ≡ text.old.items ++ flat_map (dot frame column k) points.now) }
+    ensures ok { OnOk result (text.new.items ≡ text.old.items ++ flat_map (dot frame.now column k) points.now) }
 {
     for point in points {
         push_dot(text, frame, column, k, point)?;
@@ -175,13 +165,12 @@ fn push_all_dots(
 /// A dot of a column, if the point is one.
 fn push_dot(
     text: &mut Vec<u8>,
-    frame: Frame,
+    frame: &Frame,
     column: usize,
     k: usize,
     point: &Point,
 ) -> Result<(), NoMemory>
-    requires frame { CanBeDrawn frame }
-    ensures ok { OnOk result (text.new.items ≡ text.old.items ++ dot frame column k point.now) }
+    ensures ok { OnOk result (text.new.items ≡ text.old.items ++ dot frame.now column k point.now) }
 {
     if !is_of(column, point) {
         return Ok(());
@@ -212,17 +201,15 @@ fn is_of(column: usize, point: &Point) -> bool
 }
 
 /// Where a point stands from the left.
-fn place_x(frame: Frame, point: &Point) -> u128
-    requires frame { CanBeDrawn frame }
-    ensures value { result ≡ place_x frame point.now }
+fn place_x(frame: &Frame, point: &Point) -> u128
+    ensures value { result ≡ place_x frame.now point.now }
 {
     along(frame.across, u128::from(point.x), 5600)
 }
 
 /// Where it stands from above.
-fn place_y(frame: Frame, point: &Point) -> u128
-    requires frame { CanBeDrawn frame }
-    ensures value { result ≡ place_y frame point.now }
+fn place_y(frame: &Frame, point: &Point) -> u128
+    ensures value { result ≡ place_y frame.now point.now }
 {
     2400u128.saturating_sub(along(frame.up, u128::from(point.y), 2400))
 }

@@ -2,7 +2,7 @@
 
 ghost use Rattle.std.specs.Prelude.{◌≡◌, ◌++◌, ◌<◌, ◌≤◌, OnOk};
 ghost use Rattle.lab_plot.specs.Panels.{box_text, below_text, left_text, sides_text, place_text, panel_text};
-ghost use Rattle.lab_plot.specs.Shown.{label_of, first_column, columns_shown, unit_of, CanBeDrawn};
+ghost use Rattle.lab_plot.specs.Shown.{label_of, first_column, columns_shown, unit_of};
 
 use crate::axes::Axis;
 use crate::cells::{behind, cell, push_shortened};
@@ -32,9 +32,9 @@ pub(crate) enum Panel {
     Throughput,
     /// How many messages took how long.
     Bins,
-    /// The same under loads of so many rates.
+    /// The same under loads of so many rates, of which nine are shown.
     Took(usize),
-    /// So many columns that are compared.
+    /// So many columns that are compared, of which nine are shown.
     Columns(usize),
 }
 
@@ -67,12 +67,13 @@ impl Panel {
     /// How many columns it shows.
     pub fn count(self) -> usize
         ensures value { result ≡ columns_shown self }
+        ensures within { result ≤ 9 }
     {
         match self {
             Panel::Moved => 4,
             Panel::Held | Panel::Latency => 2,
             Panel::Throughput | Panel::Bins => 1,
-            Panel::Took(count) | Panel::Columns(count) => count,
+            Panel::Took(count) | Panel::Columns(count) => count.min(9),
         }
     }
 
@@ -101,14 +102,12 @@ pub(crate) fn push_panel(
     text: &mut Vec<u8>,
     top: u32,
     across: &[u8],
-    frame: Frame,
+    frame: &Frame,
     table: &Table<'_>,
     panel: Panel,
 ) -> Result<(), NoMemory>
-    requires frame { CanBeDrawn frame }
-    requires lines { columns_shown panel ≤ 9 }
     ensures ok { OnOk result (text.new.items
-        ≡ text.old.items ++ panel_text top across.now frame table.now.header.now table.now.points.now panel) }
+        ≡ text.old.items ++ panel_text top across.now frame.now table.now.header.now table.now.points.now panel) }
 {
     push_place(text, u128::from(top))?;
     push_ticks(text, frame)?;

@@ -1,14 +1,15 @@
 //! The picture of a table.
 
-ghost use Rattle.std.specs.Prelude.{◌≡◌, ◌≢◌, ◌++◌, ◌<◌, ◌≤◌, Ok, Err, IfOk, IfErr, OnOk};
-ghost use Rattle.cm_bits.specs.Text.{lines_left};
+ghost use Rattle.std.specs.Prelude.{◌≡◌, ◌≢◌, ◌++◌, ◌<◌, ◌≤◌, Ok, Err, Some, IfOk, IfErr, OnOk};
+ghost use Rattle.cm_bits.specs.Text.{lines_left, lines_of};
 ghost use Rattle.lab_plot.specs.Heads.{title_of, size_text, ground_text, title_text, picture_head};
 ghost use Rattle.lab_plot.specs.Pictures.{across_label, right_unit, has_stems, frame_of, panel_shown, panels_text};
 ghost use Rattle.lab_plot.specs.Pictures.{panel_count};
 ghost use Rattle.lab_plot.specs.Pictures.{table_drawing, axis_start, drawn_points, nothing_of, of_points};
 ghost use Rattle.lab_plot.specs.Pictures.{drawing_of_kind, of_header};
-ghost use Rattle.lab_plot.specs.Pictures.{table_picture};
-ghost use Rattle.lab_plot.specs.Shown.{columns_shown, CanBeDrawn};
+ghost use Rattle.lab_plot.specs.Pictures.{head_fault, table_picture};
+ghost use Rattle.lab_plot.specs.Points.{table_kind};
+ghost use Rattle.lab_plot.specs.Rows.{GivesPlot};
 
 use crate::axes::{axis_of, highest, leftmost, rightmost};
 use crate::bins::bins;
@@ -25,17 +26,17 @@ use std::alloc::Global;
 pub fn plot(alloc: Global, text: &[u8]) -> Result<Vec<u8>, PlotFault>
     ensures value { IfOk result (λ picture. table_picture text.now ≡ Ok picture.items) }
     ensures refused { IfErr result (λ fault. fault ≢ PlotFault.Memory → table_picture text.now ≡ Err fault) }
+    ensures head { (fault : PlotFault) → head_fault 1 (lines_of text.now) ≡ Some fault → result ≡ Err fault }
 {
     let mut lines = Lines::new(text);
-    for number in 1..u64::MAX {
-        let Some(line) = lines.next() else {
-            return Err(PlotFault::Empty);
-        };
+    let mut before = 0;
+    while let Some(line) = lines.next() {
         if has_words(line) {
-            return plot_table(alloc, number, line, lines);
+            return plot_table(alloc, before + 1, line, lines);
         }
+        before += 1;
     }
-    Err(PlotFault::Memory)
+    Err(PlotFault::Empty)
 }
 
 /// The picture of these lines behind the first, which has this number, if that is of a table.
@@ -45,10 +46,8 @@ fn plot_table(
     header: &[u8],
     lines: Lines<'_>,
 ) -> Result<Vec<u8>, PlotFault>
-    ensures value { IfOk result (λ picture.
-        of_header number header.now (lines_left lines.entry) ≡ Ok picture.items) }
-    ensures refused { IfErr result (λ fault. fault ≢ PlotFault.Memory
-        → of_header number header.now (lines_left lines.entry) ≡ Err fault) }
+    ensures value { GivesPlot (λ text. text.items) result (of_header number header.now (lines_left lines.entry)) }
+    ensures head { (fault : PlotFault) → table_kind number header.now ≡ Err fault → result ≡ Err fault }
 {
     match kind_of(number, header) {
         Ok(kind) => plot_rows(alloc, number, kind, header, lines),
@@ -64,10 +63,8 @@ fn plot_rows(
     header: &[u8],
     lines: Lines<'_>,
 ) -> Result<Vec<u8>, PlotFault>
-    ensures value { IfOk result (λ picture.
-        drawing_of_kind number header.now (lines_left lines.entry) kind ≡ Ok picture.items) }
-    ensures refused { IfErr result (λ fault. fault ≢ PlotFault.Memory
-        → drawing_of_kind number header.now (lines_left lines.entry) kind ≡ Err fault) }
+    ensures value { GivesPlot (λ text. text.items) result
+        (drawing_of_kind number header.now (lines_left lines.entry) kind) }
 {
     match read_points(alloc, kind, width(header), number, lines) {
         Ok(points) => draw_points(alloc, kind, header, points),
@@ -82,9 +79,7 @@ fn draw_points(
     header: &[u8],
     points: Vec<Point>,
 ) -> Result<Vec<u8>, PlotFault>
-    ensures value { IfOk result (λ picture. of_points kind header.now points.items ≡ Ok picture.items) }
-    ensures refused { IfErr result (λ fault. fault ≢ PlotFault.Memory
-        → of_points kind header.now points.items ≡ Err fault) }
+    ensures value { GivesPlot (λ text. text.items) result (of_points kind header.now points.items) }
 {
     let Some(first) = points.first() else {
         return Err(nothing_of(kind));
@@ -155,11 +150,11 @@ fn drawing(
             push_shown(&mut text, kind, &table, start, Panel::Throughput, 1)?;
         }
         Kind::Latencies => {
-            let panel = Panel::Took(width(header).saturating_sub(1).min(9));
+            let panel = Panel::Took(width(header).saturating_sub(1));
             push_shown(&mut text, kind, &table, start, panel, 0)?;
         }
         Kind::Compared => {
-            let panel = Panel::Columns(width(header).saturating_sub(1).min(9));
+            let panel = Panel::Columns(width(header).saturating_sub(1));
             push_shown(&mut text, kind, &table, start, panel, 0)?;
         }
     }
@@ -231,19 +226,16 @@ fn push_shown(
     i: u32,
 ) -> Result<(), NoMemory>
     requires few { i < 2 }
-    requires lines { columns_shown panel ≤ 9 }
     ensures ok { OnOk result (text.new.items
         ≡ text.old.items ++ panel_shown kind table.now.header.now start table.now.points.now panel i) }
 {
     let frame = frame_of(kind, start, table.points, panel);
-    push_panel(text, 600 + 3300 * i, across_of(kind), frame, table, panel)
+    push_panel(text, 600 + 3300 * i, across_of(kind), &frame, table, panel)
 }
 
 /// The axes of a panel: all panels of a picture have one to the right.
 fn frame_of(kind: Kind, start: u64, points: &[Point], panel: Panel) -> Frame
-    requires lines { columns_shown panel ≤ 9 }
     ensures value { result ≡ frame_of kind start points.now panel }
-    ensures frame { CanBeDrawn result }
 {
     let most = highest(panel.first(), panel.count(), points);
     Frame {

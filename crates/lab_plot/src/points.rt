@@ -1,11 +1,12 @@
 //! The points of a table.
 
-ghost use Rattle.std.specs.Prelude.{◌≡◌, ◌≢◌, ◌++◌, ◌∷◌, [], ◌+◌, ◌-◌, ◌<◌, ◌^◌, Ok, Err, IfOk, IfErr, IfSome, OnOk};
+ghost use Rattle.std.specs.Prelude.{◌≡◌, ◌++◌, ◌∷◌, [], ◌+◌, ◌-◌, ◌<◌, ◌^◌, IfSome, OnOk};
 ghost use Rattle.std.specs.List.{flat_map, range_with_len};
 ghost use Rattle.cm_bits.specs.Text.{lines_left};
 ghost use Rattle.lab_plot.specs.Cells.{cell, cell_number};
 ghost use Rattle.lab_plot.specs.Points.{is_of_loads, is_of_latencies, is_of_rates, drawn_if_few, table_kind};
 ghost use Rattle.lab_plot.specs.Points.{point_of, point_in, latency_point, row_points, points_with, points_after};
+ghost use Rattle.lab_plot.specs.Rows.{GivesPlot};
 
 use crate::cells::{cell, has_words, number_at, width};
 use crate::fault::PlotFault;
@@ -110,10 +111,8 @@ pub(crate) fn read_points(
     first: u64,
     lines: Lines<'_>,
 ) -> Result<Vec<Point>, PlotFault>
-    ensures value { IfOk result (λ points.
-        points_after kind columns (first + 1) [] (lines_left lines.entry) ≡ Ok points.items) }
-    ensures refused { IfErr result (λ fault. fault ≢ PlotFault.Memory
-        → points_after kind columns (first + 1) [] (lines_left lines.entry) ≡ Err fault) }
+    ensures value { GivesPlot (λ points. points.items) result
+        (points_after kind columns (first + 1) [] (lines_left lines.entry)) }
 {
     let mut points = Vec::new(alloc);
     let mut before = first;
@@ -138,9 +137,7 @@ fn push_line(
     number: u64,
     line: &[u8],
 ) -> Result<(), PlotFault>
-    ensures ok { OnOk result (points_with kind columns number points.old.items line.now ≡ Ok points.new.items) }
-    ensures err { IfErr result (λ fault. fault ≢ PlotFault.Memory
-        → points_with kind columns number points.old.items line.now ≡ Err fault) }
+    ensures ok { GivesPlot (λ _. points.new.items) result (points_with kind columns number points.old.items line.now) }
 {
     if !has_words(line) {
         return Ok(());

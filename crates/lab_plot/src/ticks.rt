@@ -1,8 +1,7 @@
 //! The ticks of a panel.
 
-ghost use Rattle.std.specs.Prelude.{◌≡◌, ◌++◌, ◌<◌, ◌≤◌, OnOk};
+ghost use Rattle.std.specs.Prelude.{◌≡◌, ◌++◌, ◌≤◌, OnOk};
 ghost use Rattle.std.specs.List.{flat_map, range_with_len};
-ghost use Rattle.lab_plot.specs.Shown.{CanBeDrawn};
 ghost use Rattle.lab_plot.specs.Ticks.{tick_at, up_text, up_tick, across_text, across_tick, middle_at, cycle_tick};
 ghost use Rattle.lab_plot.specs.Ticks.{ticks_text};
 
@@ -14,16 +13,14 @@ use lab_digits::{push_piece, push_words};
 
 /// All ticks.
 #[tactic(auto, unfolding(crate::specs::Ticks::ticks_text))]
-pub(crate) fn push_ticks(text: &mut Vec<u8>, frame: Frame) -> Result<(), NoMemory>
-    requires frame { CanBeDrawn frame }
-    ensures ok { OnOk result (text.new.items ≡ text.old.items ++ ticks_text frame) }
+pub(crate) fn push_ticks(text: &mut Vec<u8>, frame: &Frame) -> Result<(), NoMemory>
+    ensures ok { OnOk result (text.new.items ≡ text.old.items ++ ticks_text frame.now) }
 {
     push_up_ticks(text, frame.up)?;
     push_across_ticks(text, frame.across)
 }
 
 fn push_up_ticks(text: &mut Vec<u8>, axis: Axis) -> Result<(), NoMemory>
-    requires some { 0 < axis.span }
     ensures ok { OnOk result (text.new.items ≡ text.old.items ++ flat_map (up_tick axis) (range_with_len 0 12)) }
 {
     for k in 0..12u8 {
@@ -35,7 +32,6 @@ fn push_up_ticks(text: &mut Vec<u8>, axis: Axis) -> Result<(), NoMemory>
 /// A tick upward and its number, if the axis goes so far.
 #[tactic(auto, unfolding(crate::specs::Ticks::up_tick))]
 fn push_up_tick(text: &mut Vec<u8>, axis: Axis, k: u8) -> Result<(), NoMemory>
-    requires some { 0 < axis.span }
     ensures ok { OnOk result (text.new.items ≡ text.old.items ++ up_tick axis k) }
 {
     let from = u128::from(k) * u128::from(axis.step);
@@ -60,7 +56,6 @@ pub fn push_up(text: &mut Vec<u8>, y: u128) -> Result<(), NoMemory>
 
 /// Ticks to the right and their numbers.
 fn push_across_ticks(text: &mut Vec<u8>, axis: Axis) -> Result<(), NoMemory>
-    requires some { 0 < axis.span }
     ensures ok { OnOk result (text.new.items ≡ text.old.items ++ flat_map (across_tick axis) (range_with_len 0 12)) }
 {
     for k in 0..12u8 {
@@ -72,7 +67,6 @@ fn push_across_ticks(text: &mut Vec<u8>, axis: Axis) -> Result<(), NoMemory>
 /// A tick to the right and its number, if the axis goes so far.
 #[tactic(auto, unfolding(crate::specs::Ticks::across_tick))]
 fn push_across_tick(text: &mut Vec<u8>, axis: Axis, k: u8) -> Result<(), NoMemory>
-    requires some { 0 < axis.span }
     ensures ok { OnOk result (text.new.items ≡ text.old.items ++ across_tick axis k) }
 {
     let from = u128::from(k) * u128::from(axis.step);
@@ -88,7 +82,6 @@ fn push_across_tick(text: &mut Vec<u8>, axis: Axis, k: u8) -> Result<(), NoMemor
 
 /// Ticks to the right where petit cycles begin, and their numbers in the middle of these.
 pub fn push_cycle_ticks(text: &mut Vec<u8>, axis: Axis) -> Result<(), NoMemory>
-    requires some { 0 < axis.span }
     ensures ok { OnOk result (text.new.items ≡ text.old.items ++ flat_map (cycle_tick axis) (range_with_len 0 12)) }
 {
     for k in 0..12u8 {
@@ -100,7 +93,6 @@ pub fn push_cycle_ticks(text: &mut Vec<u8>, axis: Axis) -> Result<(), NoMemory>
 /// Such a tick and its number, if a petit cycle begins there.
 #[tactic(auto, unfolding(crate::specs::Ticks::cycle_tick))]
 fn push_cycle_tick(text: &mut Vec<u8>, axis: Axis, k: u8) -> Result<(), NoMemory>
-    requires some { 0 < axis.span }
     ensures ok { OnOk result (text.new.items ≡ text.old.items ++ cycle_tick axis k) }
 {
     let from = u128::from(k) * u128::from(axis.step);

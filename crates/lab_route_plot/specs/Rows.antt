@@ -3,8 +3,7 @@
 use Rattle.std.specs.Prelude.{ℕ, ◌+◌, ◌-◌, ◌*◌, ◌/◌, ◌^◌, ◌==◌, if◌then◌else◌, max, min, Option, Some, None}
 use Rattle.std.specs.Prelude.{List, [], ◌∷◌, ◌++◌, length}
 use Rattle.std.specs.List.{fold, list_any, position}
-use Rattle.lab_plot.specs.declared.axes.Axis.{Axis}
-use Rattle.lab_plot.specs.Axes.{place_along, axis_of}
+use Rattle.lab_plot.specs.Axes.{Axis, place_along, axis_of}
 use Rattle.lab_route_plot.specs.declared.legs.Leg.{Leg}
 use Rattle.lab_route_plot.specs.declared.rows.Grid.{Grid}
 

@@ -1,12 +1,15 @@
 //! The picture of a route.
 
-ghost use Rattle.std.specs.Prelude.{◌≡◌, ◌≢◌, ◌++◌, ◌<◌, [], Ok, Err, IfOk, IfErr, OnOk};
+ghost use Rattle.std.specs.Prelude.{◌≡◌, ◌≢◌, ◌++◌, [], true, false, Some, Ok, Err, IfOk, IfErr, OnOk};
 ghost use Rattle.std.specs.List.{flat_map};
+ghost use Rattle.lab_plot.specs.Pictures.{head_fault};
+ghost use Rattle.lab_plot.specs.Rows.{GivesPlot};
 ghost use Rattle.lab_route_plot.specs.Drawing.{is_route, row_text, segment, leg_corner, referral, delivery, way_line};
 ghost use Rattle.lab_route_plot.specs.Drawing.{begin_text, names_text, lines_text, route_panel_text, route_drawing};
 ghost use Rattle.lab_route_plot.specs.Drawing.{of_legs};
 ghost use Rattle.lab_route_plot.specs.Drawing.{route_or_table_picture};
 ghost use Rattle.lab_route_plot.specs.Rows.{plan_seen};
+ghost use Rattle.lab_route_plot.specs.Cycles.{are_all_cycles};
 ghost use Rattle.lab_route_plot.specs.Legs.{legs_after};
 ghost use Rattle.cm_bits.specs.Text.{lines_of};
 
@@ -26,6 +29,9 @@ pub fn plot(alloc: Global, text: &[u8], cycles: Cycles) -> Result<Vec<u8>, PlotF
     ensures value { IfOk result (λ picture. route_or_table_picture cycles text.now ≡ Ok picture.items) }
     ensures refused { IfErr result (λ fault. fault ≢ PlotFault.Memory
         → route_or_table_picture cycles text.now ≡ Err fault) }
+    ensures no_route { is_route text.now ≡ false → are_all_cycles cycles ≡ false → result ≡ Err PlotFault.NoRoute }
+    ensures head { (fault : PlotFault) → is_route text.now ≡ false → are_all_cycles cycles ≡ true
+        → head_fault 1 (lines_of text.now) ≡ Some fault → result ≡ Err fault }
 {
     if is_route(text) {
         return plot_route(alloc, text, cycles);
@@ -46,9 +52,7 @@ fn is_route(text: &[u8]) -> bool
 
 /// The picture of a route.
 fn plot_route(alloc: Global, text: &[u8], cycles: Cycles) -> Result<Vec<u8>, PlotFault>
-    ensures value { IfOk result (λ picture. of_legs (legs_after cycles 1 [] (lines_of text.now)) ≡ Ok picture.items) }
-    ensures refused { IfErr result (λ fault. fault ≢ PlotFault.Memory
-        → of_legs (legs_after cycles 1 [] (lines_of text.now)) ≡ Err fault) }
+    ensures value { GivesPlot (λ picture. picture.items) result (of_legs (legs_after cycles 1 [] (lines_of text.now))) }
 {
     match read_legs(alloc, text, cycles) {
         Ok(legs) => plot_legs(alloc, &legs),
@@ -58,8 +62,7 @@ fn plot_route(alloc: Global, text: &[u8], cycles: Cycles) -> Result<Vec<u8>, Plo
 
 /// That of its legs, if there are any.
 fn plot_legs(alloc: Global, legs: &[Leg]) -> Result<Vec<u8>, PlotFault>
-    ensures value { IfOk result (λ picture. of_legs (Ok legs.now) ≡ Ok picture.items) }
-    ensures refused { IfErr result (λ fault. fault ≢ PlotFault.Memory → of_legs (Ok legs.now) ≡ Err fault) }
+    ensures value { GivesPlot (λ picture. picture.items) result (of_legs (Ok legs.now)) }
 {
     match legs {
         [] => Err(PlotFault::NoCycle),
@@ -82,7 +85,6 @@ fn drawing(alloc: Global, first: &Leg, legs: &[Leg]) -> Result<Vec<u8>, NoMemory
 /// Its panel.
 #[tactic(auto, unfolding(crate::specs::Drawing::route_panel_text))]
 fn push_panel(text: &mut Vec<u8>, grid: &Grid, first: &Leg, legs: &[Leg]) -> Result<(), NoMemory>
-    requires some { 0 < grid.now.across.span }
     ensures ok { OnOk result (text.new.items ≡ text.old.items
         ++ route_panel_text (plan_seen grid.now) first.now legs.now) }
 {
@@ -122,7 +124,6 @@ fn push_row(text: &mut Vec<u8>, grid: &Grid, chip: u16) -> Result<(), NoMemory>
 /// The way, over it what was referred, and where the message was delivered.
 #[tactic(auto, unfolding(crate::specs::Drawing::lines_text))]
 fn push_lines(text: &mut Vec<u8>, grid: &Grid, legs: &[Leg]) -> Result<(), NoMemory>
-    requires some { 0 < grid.now.across.span }
     ensures ok { OnOk result (text.new.items ≡ text.old.items ++ lines_text (plan_seen grid.now) legs.now) }
 {
     push_way(text, grid, legs)?;
@@ -132,7 +133,6 @@ fn push_lines(text: &mut Vec<u8>, grid: &Grid, legs: &[Leg]) -> Result<(), NoMem
 
 #[tactic(auto, unfolding(crate::specs::Drawing::way_line))]
 fn push_way(text: &mut Vec<u8>, grid: &Grid, legs: &[Leg]) -> Result<(), NoMemory>
-    requires some { 0 < grid.now.across.span }
     ensures ok { OnOk result (text.new.items ≡ text.old.items ++ way_line (plan_seen grid.now) legs.now) }
 {
     push_line_open(text, colour(0))?;
@@ -141,7 +141,6 @@ fn push_way(text: &mut Vec<u8>, grid: &Grid, legs: &[Leg]) -> Result<(), NoMemor
 }
 
 fn push_corners(text: &mut Vec<u8>, grid: &Grid, legs: &[Leg]) -> Result<(), NoMemory>
-    requires some { 0 < grid.now.across.span }
     ensures ok { OnOk result (text.new.items ≡ text.old.items ++ flat_map (leg_corner (plan_seen grid.now)) legs.now) }
 {
     for leg in legs {
@@ -152,7 +151,6 @@ fn push_corners(text: &mut Vec<u8>, grid: &Grid, legs: &[Leg]) -> Result<(), NoM
 
 /// Lines where the message was referred.
 fn push_referrals(text: &mut Vec<u8>, grid: &Grid, legs: &[Leg]) -> Result<(), NoMemory>
-    requires some { 0 < grid.now.across.span }
     ensures ok { OnOk result (text.new.items ≡ text.old.items ++ flat_map (referral (plan_seen grid.now)) legs.now) }
 {
     for leg in legs {
@@ -163,7 +161,6 @@ fn push_referrals(text: &mut Vec<u8>, grid: &Grid, legs: &[Leg]) -> Result<(), N
 
 #[tactic(auto, unfolding(crate::specs::Drawing::referral))]
 fn push_referral(text: &mut Vec<u8>, grid: &Grid, leg: &Leg) -> Result<(), NoMemory>
-    requires some { 0 < grid.now.across.span }
     ensures ok { OnOk result (text.new.items ≡ text.old.items ++ referral (plan_seen grid.now) leg.now) }
 {
     match leg.step {
@@ -184,7 +181,6 @@ fn push_segment(
     before: &[u8],
     between: &[u8],
 ) -> Result<(), NoMemory>
-    requires some { 0 < grid.now.across.span }
     ensures ok { OnOk result (text.new.items
         ≡ text.old.items ++ segment (plan_seen grid.now) before.now between.now leg.now) }
 {
@@ -196,7 +192,6 @@ fn push_segment(
 
 /// A dot where the message was delivered.
 fn push_deliveries(text: &mut Vec<u8>, grid: &Grid, legs: &[Leg]) -> Result<(), NoMemory>
-    requires some { 0 < grid.now.across.span }
     ensures ok { OnOk result (text.new.items ≡ text.old.items ++ flat_map (delivery (plan_seen grid.now)) legs.now) }
 {
     for leg in legs {
@@ -206,7 +201,6 @@ fn push_deliveries(text: &mut Vec<u8>, grid: &Grid, legs: &[Leg]) -> Result<(), 
 }
 
 fn push_delivery(text: &mut Vec<u8>, grid: &Grid, leg: &Leg) -> Result<(), NoMemory>
-    requires some { 0 < grid.now.across.span }
     ensures ok { OnOk result (text.new.items ≡ text.old.items ++ delivery (plan_seen grid.now) leg.now) }
 {
     match leg.step {
@@ -220,7 +214,6 @@ fn push_delivery(text: &mut Vec<u8>, grid: &Grid, leg: &Leg) -> Result<(), NoMem
 
 /// A dot where the way begins.
 fn push_begin(text: &mut Vec<u8>, grid: &Grid, first: &Leg) -> Result<(), NoMemory>
-    requires some { 0 < grid.now.across.span }
     ensures ok { OnOk result (text.new.items ≡ text.old.items ++ begin_text (plan_seen grid.now) first.now) }
 {
     let x = place_x(grid, first.cycle, first.start);

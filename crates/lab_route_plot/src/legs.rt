@@ -1,10 +1,11 @@
 //! The legs of a message's way, as the lines of a route tell them.
 
-ghost use Rattle.std.specs.Prelude.{◌≡◌, ◌≢◌, ◌++◌, ◌∷◌, [], ◌<◌, ◌≤◌, ◌^◌, Ok, Err, None, IfOk, IfErr};
+ghost use Rattle.std.specs.Prelude.{◌≡◌, ◌++◌, ◌∷◌, [], ◌<◌, ◌≤◌, ◌^◌, None, IfOk};
 ghost use Rattle.std.specs.Prelude.{IfSome, OnOk, length};
 ghost use Rattle.std.specs.List.{after_first, before_first};
 ghost use Rattle.cm_bits.specs.Text.{lines_of, number_of, words_of};
 ghost use Rattle.lab_plot.specs.Cells.{cell, is_colon};
+ghost use Rattle.lab_plot.specs.Rows.{GivesPlot};
 ghost use Rattle.lab_route_plot.specs.Cycles.{are_all_cycles, is_among_cycles};
 ghost use Rattle.lab_route_plot.specs.Legs.{dim_between, option_below, cycle_behind, cycle_in, chip_of_word, is_number};
 ghost use Rattle.lab_route_plot.specs.Legs.{is_referral};
@@ -70,9 +71,7 @@ pub(crate) struct Leg {
 
 /// The legs that the lines of a route tell.
 pub(crate) fn read_legs(alloc: Global, text: &[u8], cycles: Cycles) -> Result<Vec<Leg>, PlotFault>
-    ensures value { IfOk result (λ legs. legs_after cycles 1 [] (lines_of text.now) ≡ Ok legs.items) }
-    ensures refused { IfErr result (λ fault. fault ≢ PlotFault.Memory
-        → legs_after cycles 1 [] (lines_of text.now) ≡ Err fault) }
+    ensures value { GivesPlot (λ legs. legs.items) result (legs_after cycles 1 [] (lines_of text.now)) }
 {
     let mut legs = Vec::new(alloc);
     let mut number = 1u64;
@@ -91,9 +90,7 @@ pub(crate) fn read_legs(alloc: Global, text: &[u8], cycles: Cycles) -> Result<Ve
 
 /// The legs of a line of this number, whatever blanks stand around it; a blank line has none.
 fn push_line(legs: &mut Vec<Leg>, number: u64, line: &[u8], cycles: Cycles) -> Result<(), PlotFault>
-    ensures ok { OnOk result (legs_with cycles number legs.old.items line.now ≡ Ok legs.new.items) }
-    ensures err { IfErr result (λ fault. fault ≢ PlotFault.Memory
-        → legs_with cycles number legs.old.items line.now ≡ Err fault) }
+    ensures ok { GivesPlot (λ _. legs.new.items) result (legs_with cycles number legs.old.items line.now) }
 {
     if has_words(line) {
         push_told(legs, number, trim(line), cycles)
@@ -104,9 +101,7 @@ fn push_line(legs: &mut Vec<Leg>, number: u64, line: &[u8], cycles: Cycles) -> R
 
 /// Those of a line that has to be one of a route.
 fn push_told(legs: &mut Vec<Leg>, number: u64, line: &[u8], cycles: Cycles) -> Result<(), PlotFault>
-    ensures ok { OnOk result (legs_told cycles number legs.old.items line.now ≡ Ok legs.new.items) }
-    ensures err { IfErr result (λ fault. fault ≢ PlotFault.Memory
-        → legs_told cycles number legs.old.items line.now ≡ Err fault) }
+    ensures ok { GivesPlot (λ _. legs.new.items) result (legs_told cycles number legs.old.items line.now) }
 {
     if !is_told(line) {
         return Err(PlotFault::Route(number));

@@ -1,7 +1,7 @@
 //! Where a way stands in its picture: a row for each chip, downward in the order in which the message comes there; to
 //! the right petit cycles, and in each its dimensions.
 
-ghost use Rattle.std.specs.Prelude.{◌≡◌, ◌==◌, ◌<◌, ◌≤◌, IfOk, OnOk};
+ghost use Rattle.std.specs.Prelude.{◌≡◌, ◌==◌, ◌≤◌, IfOk, OnOk};
 ghost use Rattle.std.specs.List.{position};
 ghost use Rattle.lab_route_plot.specs.Rows.{rows_with, route_rows, most_dims, last_cycle, in_thousandths, across_axis};
 ghost use Rattle.lab_route_plot.specs.Rows.{plan_seen};
@@ -25,7 +25,6 @@ pub(crate) struct Grid {
 /// The grid of a way that begins in this petit cycle.
 pub(crate) fn grid_of(alloc: Global, first: u64, legs: &[Leg]) -> Result<Grid, NoMemory>
     ensures value { IfOk result (λ grid. plan_seen grid ≡ plan_of first legs.now) }
-    ensures some { IfOk result (λ grid. 0 < grid.across.span) }
 {
     Ok(Grid {
         rows: rows_of(alloc, legs)?,
@@ -72,7 +71,6 @@ fn most_dims(legs: &[Leg]) -> u16
 /// The axis from this petit cycle to the last.
 fn across_of(first: u64, legs: &[Leg]) -> Axis
     ensures value { result ≡ across_axis first legs.now }
-    ensures some { 0 < result.span }
 {
     axis_of(
         1000,
@@ -81,6 +79,7 @@ fn across_of(first: u64, legs: &[Leg]) -> Axis
     )
 }
 
+/// The latest petit cycle of a way's legs, or 0 if there are none.
 fn last_cycle(legs: &[Leg]) -> u64
     ensures value { result ≡ last_cycle legs.now }
 {
@@ -91,6 +90,7 @@ fn last_cycle(legs: &[Leg]) -> u64
     last
 }
 
+/// The number of a petit cycle in thousandths, the unit in which `axis_of` of lab_plot counts; at most 2^64 - 1.
 fn in_thousandths(cycle: u64) -> u64
     ensures value { result ≡ in_thousandths cycle }
 {
@@ -99,7 +99,6 @@ fn in_thousandths(cycle: u64) -> u64
 
 /// The place from the left of a petit cycle, behind so many of its dimensions.
 pub(crate) fn place_x(grid: &Grid, cycle: u64, dims: u16) -> u128
-    requires some { 0 < grid.now.across.span }
     ensures value { result ≡ route_x (plan_seen grid.now) cycle dims }
 {
     let part = 1000 * u128::from(dims) / u128::from(grid.dims.max(1));

@@ -88,6 +88,7 @@ gathered n f g same =
     ∙ sum_by-range f (λ c. length (g c)) 0 (2 ^ n) (λ c from below. same c (omega (arith, below)))
     ∙ sym (length-flat_map g (range_with_len 0 (2 ^ n)))
 
+-- the counts of messages taken in at all chips make as many as the account has lines of them
 taken : (n cap : ℕ) (before after : Machine)
     → sum (tabulate 0 (2 ^ n) (taken_count_at (log_lengths n before) after)) ≡ length (newly_injected n before after)
 unfolding newly_injected
@@ -95,6 +96,7 @@ taken n cap before after =
     gathered n (taken_count_at (log_lengths n before) after) (λ c. filter_map injected_triple (new_events before after c))
     (λ c below. ap (count_by is_injection_event) (behind n before after c below) ∙ sym (injections (new_events before after c)))
 
+-- and those of messages delivered
 gone : (n cap : ℕ) (before after : Machine)
     → sum (tabulate 0 (2 ^ n) (delivered_count_at (log_lengths n before) after)) ≡ length (newly_delivered n before after)
 unfolding newly_delivered
@@ -102,6 +104,7 @@ gone n cap before after =
     gathered n (delivered_count_at (log_lengths n before) after) (λ c. filter_map delivered_triple (new_events before after c))
     (λ c below. ap (count_by is_delivery_event) (behind n before after c below) ∙ sym (deliveries (new_events before after c)))
 
+-- and those of messages that stand in routers
 stands : (n : ℕ) (after : Machine) → sum (tabulate 0 (2 ^ n) (standing_count_at after)) ≡ length (standing_lines n after)
 unfolding standing_lines
 stands n after =

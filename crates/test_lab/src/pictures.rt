@@ -94,8 +94,8 @@ static ROWS: [Row; 15] = [
         greatest: 1,
         dots: &[],
         form: Form::Plain,
-        text: b"",
-        is_written: false,
+        text: b"P1\n0 3\n",
+        is_written: true,
     },
     Row {
         width: 4,
@@ -273,20 +273,14 @@ static BAD: [Bad; 27] = [
 /// The picture of a row.
 fn picture(alloc: Global, row: &Row) -> Option<Picture> {
     let dots = Vec::from_slice(alloc, row.dots).ok()?;
-    Some(Picture {
-        width: row.width,
-        height: row.height,
-        greatest: row.greatest,
-        dots,
-    })
+    if dots.len() != usize::from(row.height) * usize::from(row.width) {
+        return None;
+    }
+    Some(Picture::new(row.width, row.height, row.greatest, dots))
 }
 
 /// Whether a picture has this text in this form.
 fn is_written(alloc: Global, picture: &Picture, form: Form, text: &[u8]) -> bool {
-    let count = usize::from(picture.height) * usize::from(picture.width);
-    if picture.width == 0 || picture.dots.len() != count {
-        return false;
-    }
     match write_in(alloc, picture, Format::Netpbm(form)) {
         Ok(written) => written.as_slice() == text,
         Err(_) => false,
@@ -295,11 +289,11 @@ fn is_written(alloc: Global, picture: &Picture, form: Form, text: &[u8]) -> bool
 
 /// Whether a text is this picture.
 fn is_read(alloc: Global, picture: &Picture, text: &[u8]) -> bool {
-    if picture.width == 0 {
+    if picture.width() == 0 {
         return true;
     }
-    match read_picture(alloc, text, picture.width, picture.height) {
-        Ok(read) => read.greatest == picture.greatest && read.dots == picture.dots,
+    match read_picture(alloc, text, picture.width(), picture.height()) {
+        Ok(read) => read.greatest() == picture.greatest() && read.dots() == picture.dots(),
         Err(_) => false,
     }
 }

@@ -109,7 +109,7 @@ static ROWS: [Row; 12] = [
             "points=' 2800,960 5600,360'/>\n",
             ">N = 6</text>\n",
             "points=' 2800,480'/>\n",
-            ">&lt;8></text>\n</g>\n</svg>\n",
+            ">&lt;8&gt;</text>\n</g>\n</svg>\n",
         ],
     },
     // One row of zeros: an axis goes one step at the least.

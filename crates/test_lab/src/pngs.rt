@@ -91,16 +91,11 @@ static ROWS: [Row; 6] = [
 
 /// Whether a picture has these bytes.
 fn is_written(alloc: Global, row: &Row) -> Option<bool> {
-    let picture = Picture {
-        width: row.width,
-        height: row.height,
-        greatest: row.greatest,
-        dots: Vec::from_slice(alloc, row.dots).ok()?,
-    };
-    let count = usize::from(picture.height) * usize::from(picture.width);
-    if picture.width == 0 || picture.dots.len() != count {
+    let dots = Vec::from_slice(alloc, row.dots).ok()?;
+    if dots.len() != usize::from(row.height) * usize::from(row.width) {
         return None;
     }
+    let picture = Picture::new(row.width, row.height, row.greatest, dots);
     let written = write_in(alloc, &picture, Format::Png).ok()?;
     Some(written.as_slice() == row.bytes)
 }

@@ -4,7 +4,9 @@ use Rattle.lab_data.specs.Data.{processors}
 use Rattle.lab_data.proofs.Orders.{grid_rows}
 use Rattle.lab_data.proofs.pictures.of_grid.Goals as goal
 
-pub returns-clause-count : goal.returns-clause-count
-returns-clause-count g c =
-    let size : processors g.row.N ≡ rows g.row.N * columns g.row.N = grid_rows g.row.N in
-    cc
+pub new-requires : goal.new-requires
+new-requires g c = record {
+  dots =
+      let size : processors g.row.N ≡ rows g.row.N * columns g.row.N = grid_rows g.row.N in
+      cc;
+}

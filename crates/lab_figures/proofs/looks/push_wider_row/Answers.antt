@@ -1,6 +1,6 @@
 use Rattle.std.proofs.Common.{◌≡◌, ℕ, ◌*◌, ◌/◌, ◌++◌, map, length, ap, ◌∙◌, arith}
 use Rattle.std.specs.List.{range_with_len}
-use Rattle.lab_figures.specs.Pictures.{dot_at, picture_seen}
+use Rattle.lab_figures.specs.Pictures.{dot_at}
 use Rattle.lab_figures.specs.Looks.{wider_row}
 use Rattle.lab_figures.proofs.Enlarging.{one_longer}
 use Rattle.lab_figures.proofs.Growing.{each_more}
@@ -8,7 +8,7 @@ use Rattle.lab_figures.proofs.looks.push_wider_row.Goals as goal
 
 pub loop-x-preserved : goal.loop-x-preserved
 loop-x-preserved c =
-    let dots = λ (x : ℕ). dot_at (picture_seen c.args.picture.now) (c.args.y / c.args.k) (x / c.args.k) in
+    let dots = λ (x : ℕ). dot_at c.args.picture.now (c.args.y / c.args.k) (x / c.args.k) in
     record {
       value = each_more dots c.args.dots.now.items c.loop-x.dots.items c.push.new.self.items c.loop-x.x
           c.dot_at.result c.loop-x.invariant.value c.in-Ok.ensures.items c.dot_at.ensures.value;
@@ -19,8 +19,8 @@ loop-x-preserved c =
 pub returns-clause-ok : goal.returns-clause-ok
 unfolding wider_row
 returns-clause-ok c =
-    let dots = λ (x : ℕ). dot_at (picture_seen c.args.picture.now) (c.args.y / c.args.k) (x / c.args.k) in
+    let dots = λ (x : ℕ). dot_at c.args.picture.now (c.args.y / c.args.k) (x / c.args.k) in
     let all : c.loop-x.x ≡ c.args.k * c.from.result = omega (arith, c.loop-x-test.false, c.loop-x.auto.x-end) in
     c.loop-x.invariant.value
     ∙ ap (λ (count : ℕ). c.args.dots.now.items ++ map dots (range_with_len 0 count))
-    (all ∙ ap (λ (width : ℕ). c.args.k * width) c.from.ensures)
+    (all ∙ ap (λ (width : ℕ). c.args.k * width) (c.from.ensures ∙ c.width.ensures.value))

@@ -3,7 +3,7 @@ use Rattle.std.proofs.Common.{if◌then◌else◌}
 use Rattle.cm_bits.specs.Text.{lines_left, lines_of}
 use Rattle.lab_figures.specs.declared.numbers.NumbersFault.TheVariants.{TooFew}
 use Rattle.lab_figures.specs.Numbers.{numbers_after_lines}
-use Rattle.lab_figures.proofs.Counting.{few_lines}
+use Rattle.lab_digits.proofs.Counting.{few_lines}
 use Rattle.lab_figures.proofs.Texts.{after_one_line}
 use Rattle.lab_figures.proofs.numbers.read_numbers.Goals as goal
 

@@ -6,4 +6,4 @@ use Rattle.lab_figures.proofs.picture.push_bytes.Given as goal
 -- so many dots are written
 abbrev pub invariant-loop-dot : goal.invariant-loop-dot
 invariant-loop-dot l =
-    l.text.items ≡ l.initial.text.items ++ flat_map (dot_bytes l.picture.greatest) (take l.dot-index l.picture.dots.items)
+    l.text.items ≡ l.initial.text.items ++ flat_map (dot_bytes l.picture.greatest) (take l.dot-index l.picture.dots)

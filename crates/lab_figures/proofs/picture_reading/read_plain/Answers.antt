@@ -5,8 +5,8 @@ use Rattle.lab_figures.specs.PictureReading.{after_dots}
 use Rattle.lab_figures.proofs.Dots.{after_one_dot, after_all_dots, plain_dots_are}
 use Rattle.lab_figures.proofs.picture_reading.read_plain.Goals as goal
 
-pub returns-in-Err-clause-refused : goal.returns-in-Err-clause-refused
-returns-in-Err-clause-refused c = λ _.
+pub returns-in-Err-clause-value : goal.returns-in-Err-clause-value
+returns-in-Err-clause-value c = λ _.
     plain_dots_are c.args.text.now c.args.greatest c.args.count c.args.bytes.now (Err c.in-Err.fault)
     (sym c.loop-i.invariant.read
     ∙ after_one_dot c.args.text.now c.args.greatest c.args.count c.loop-i.i c.loop-i.dots.items c.loop-i.rest.now
@@ -28,8 +28,8 @@ loop-i-preserved c = record {
       ∙ c.loop-i.invariant.read;
 }
 
-pub returns-then-has_more-clause-refused : goal.returns-then-has_more-clause-refused
-returns-then-has_more-clause-refused c = λ _.
+pub returns-then-has_more-clause-value : goal.returns-then-has_more-clause-value
+returns-then-has_more-clause-value c = λ _.
     plain_dots_are c.args.text.now c.args.greatest c.args.count c.args.bytes.now (Ok (c.loop-i.dots.items, c.loop-i.rest.now))
     (sym c.loop-i.invariant.read
     ∙ after_all_dots c.args.text.now c.args.greatest c.args.count c.loop-i.i c.loop-i.dots.items c.loop-i.rest.now

@@ -58,7 +58,8 @@ returns-in-Err-clause-ends g c =
     (g.O.Sink.contents c.loop-front.out) (g.O.Sink.contents c.tell_line.new.out) c.loop-front.answers.sent
     c.loop-front.answers.bytes.items c.tell_line.new.machine.machine c.in-Err.fault
     (ap (λ (xs : List ℕ). take (length xs - place) (drop place xs)) c.deref.ensures.value) refl inside
-    (c.line_len-len.ensures.ends inside) c.line_len-len.ensures.unended so.lines so.consumed so.told c.in-Err.ensures.err
+    (c.line_len-len.ensures.ends inside) c.line_len-len.ensures.unended so.lines
+    (omega (arith, so.open_len, length-drop place c.loop-front.heard.items)) so.consumed so.told c.in-Err.ensures.err
 
 pub loop-front-preserved-then-len-rest : goal.loop-front-preserved-then-len-rest
 loop-front-preserved-then-len-rest g c =
@@ -110,7 +111,8 @@ returns-in-Err-send-clause-ends g c =
     (drop c.loop-front.place c.loop-front.heard.items) so.done
     (front_of c.loop-front.machine.machine c.loop-front.front) (g.O.Sink.contents c.loop-front.out)
     (g.O.Sink.contents c.send.new.out) c.loop-front.answers.sent c.loop-front.answers.bytes.items c.in-Err-send.cut.0
-    so.lines so.consumed so.told c.in-Err-send.ensures.err
+    so.lines (omega (arith, so.open_len, length-drop c.loop-front.place c.loop-front.heard.items)) so.consumed so.told
+    c.in-Err-send.ensures.err
 
 pub returns-then-is_too_much-clause-ends : goal.returns-then-is_too_much-clause-ends
 returns-then-is_too_much-clause-ends g c =
@@ -132,7 +134,8 @@ returns-then-is_too_much-clause-ends g c =
     over_ends g.row.N g.row.CAP start out_before (g.I.Source.left c.args.commands.now)
     (g.I.Source.left c.loop-front.commands) so.given (drop place heard)
     so.done front (g.O.Sink.contents c.send.new.out) c.send.new.self.sent
-    c.send.new.self.bytes.items c.in-Ok-send.ensures.none free so.lines so.consumed so.short
+    c.send.new.self.bytes.items c.in-Ok-send.ensures.none free so.lines
+    (omega (arith, so.open_len, length-drop place heard)) so.consumed so.short
     (over_is len (length (drop place heard)) c.loop-front.taken (length (so.given ++ drop place heard)) open_is
     (all_len heard so.given place c.loop-front.taken so.within so.taken)
     (c.is_too_much.ensures.over c.if-is_too_much.true))
@@ -261,7 +264,7 @@ returns-in-Err-tell_line-clause-ends g c =
     (g.O.Sink.contents c.tell_line-2.new.out) c.send.new.self.sent c.send.new.self.bytes.items
     c.tell_line-2.new.machine.machine c.in-Err-tell_line.fault (subst IsUnended (sym same) free)
     (has_some now now c.hear.new.heard.len c.is_empty.result (omega (arith, c.hear.new.heard.ok.0)) c.is_empty.ensures
-    c.if-is_empty.false refl) so.lines
+    c.if-is_empty.false refl) so.lines more.within
     (heard_more before mid after so.given (drop place heard) now c.in-Ok-hear.count so.consumed more)
     (told_sent g.row.N g.row.CAP start out_before so.done front (g.O.Sink.contents c.loop-front.out)
     (g.O.Sink.contents c.send.new.out) c.loop-front.answers.sent c.send.new.self.sent c.loop-front.answers.bytes.items
@@ -354,7 +357,7 @@ returns-clause-ends g c =
     (g.O.Sink.contents c.tell_line-2.new.out) (g.O.Sink.contents c.send-2.new.out) c.tell_line-2.new.answers.sent
     c.tell_line-2.new.answers.bytes.items c.in-Err-send-2.cut.0 (subst IsUnended (sym same) free)
     (has_some now now c.hear.new.heard.len c.is_empty.result (omega (arith, c.hear.new.heard.ok.0)) c.is_empty.ensures
-    c.if-is_empty.false refl) so.lines
+    c.if-is_empty.false refl) so.lines more.within
     (heard_more before mid after so.given (drop place heard) now c.in-Ok-hear.count so.consumed more)
     (subst (λ (l : List ℕ). IsTold g.row.N g.row.CAP start out_before (so.done ++ l ∷ []) last
     (g.O.Sink.contents c.tell_line-2.new.out) c.tell_line-2.new.answers.sent c.tell_line-2.new.answers.bytes.items)
@@ -377,7 +380,7 @@ returns-in-Err-send-clause-threads g c = inl c.loop-front.invariant.threads
 
 pub returns-in-Err-hear-clause-threads : goal.returns-in-Err-hear-clause-threads
 returns-in-Err-hear-clause-threads g c =
-    lacks_unheard _ _ _ _ c.in-Err-hear.fault c.loop-front.invariant.threads c.in-Err-hear.ensures.err
+    lacks_unheard _ _ _ _ _ c.in-Err-hear.fault c.loop-front.invariant.threads c.in-Err-hear.ensures.err
 
 pub returns-in-Err-tell_line-clause-threads : goal.returns-in-Err-tell_line-clause-threads
 returns-in-Err-tell_line-clause-threads g c =

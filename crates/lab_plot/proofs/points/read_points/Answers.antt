@@ -15,17 +15,19 @@ loop-line-preserved c =
     ∙ ap (λ (n : ℕ). points_after c.args.kind c.args.columns n points (line ∷ lines)) c.in-Some-checked_add.ensures.1
     ∙ (rw c.in-Some.ensures.steps at c.loop-line.invariant)
 
-pub returns-in-Err-clause-refused : goal.returns-in-Err-clause-refused
-returns-in-Err-clause-refused c = λ other.
-    let number = c.in-Some-checked_add.number in
-    let line = c.in-Some.line.now in
-    let lines = lines_left c.next.new.self in
-    let points = c.loop-line.points.items in
-    sym (rw c.in-Some.ensures.steps at c.loop-line.invariant)
-    ∙ sym (ap (λ (n : ℕ). points_after c.args.kind c.args.columns n points (line ∷ lines))
-    c.in-Some-checked_add.ensures.1)
-    ∙ after_one_line c.args.kind c.args.columns number points line lines (Err c.in-Err.fault) (c.in-Err.ensures.err other)
+pub returns-in-Err : goal.returns-in-Err
+returns-in-Err c = record {
+  value = λ other.
+      let number = c.in-Some-checked_add.number in
+      let line = c.in-Some.line.now in
+      let lines = lines_left c.next.new.self in
+      let points = c.loop-line.points.items in
+      sym (rw c.in-Some.ensures.steps at c.loop-line.invariant)
+      ∙ sym (ap (λ (n : ℕ). points_after c.args.kind c.args.columns n points (line ∷ lines))
+      c.in-Some-checked_add.ensures.1)
+      ∙ after_one_line c.args.kind c.args.columns number points line lines (Err c.in-Err.fault) (c.in-Err.ensures.ok other);
+}
 
-pub returns-clause-value : goal.returns-clause-value
+pub returns : goal.returns
 unfolding points_after
-returns-clause-value c = sym (rw c.in-None.ensures.steps.0 at c.loop-line.invariant)
+returns c = record { value = sym (rw c.in-None.ensures.steps.0 at c.loop-line.invariant) }

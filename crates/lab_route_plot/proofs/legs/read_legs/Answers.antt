@@ -4,11 +4,13 @@ use Rattle.lab_route_plot.specs.Legs.{legs_after}
 use Rattle.lab_route_plot.proofs.Reading.{after_line}
 use Rattle.lab_route_plot.proofs.legs.read_legs.Goals as goal
 
-pub returns-in-Err-clause-refused : goal.returns-in-Err-clause-refused
-returns-in-Err-clause-refused c = λ other.
-    sym (rw c.in-Some.ensures.steps at c.loop-line.invariant)
-    ∙ after_line c.args.cycles c.loop-line.number c.loop-line.legs.items c.in-Some.line.now (lines_left c.next.new.self)
-    (Err c.in-Err.fault) (c.in-Err.ensures.err other)
+pub returns-in-Err : goal.returns-in-Err
+returns-in-Err c = record {
+  value = λ other.
+      sym (rw c.in-Some.ensures.steps at c.loop-line.invariant)
+      ∙ after_line c.args.cycles c.loop-line.number c.loop-line.legs.items c.in-Some.line.now (lines_left c.next.new.self)
+      (Err c.in-Err.fault) (c.in-Err.ensures.ok other);
+}
 
 pub loop-line-preserved : goal.loop-line-preserved
 loop-line-preserved c =
@@ -18,6 +20,6 @@ loop-line-preserved c =
     ∙ sym (after_line c.args.cycles c.loop-line.number c.loop-line.legs.items c.in-Some.line.now lines (Ok legs) c.in-Ok.ensures.ok)
     ∙ (rw c.in-Some.ensures.steps at c.loop-line.invariant)
 
-pub returns-clause-value : goal.returns-clause-value
+pub returns : goal.returns
 unfolding legs_after
-returns-clause-value c = sym (rw c.in-None.ensures.steps.0 at c.loop-line.invariant)
+returns c = record { value = sym (rw c.in-None.ensures.steps.0 at c.loop-line.invariant) }
