@@ -40,7 +40,7 @@ def sentence(document, begin):
 
 def own_forms(formats):
     """The words of each command of `cm1`, with those in brackets that may be left out."""
-    quoted = re.findall(r"`([^`]+)`", section(formats, "The command line")[0])
+    quoted = [" ".join(it.split()) for it in re.findall(r"`([^`]+)`", section(formats, "The command line")[0])]
     forms = {it.split()[0]: it for it in reversed(quoted) if it.split()[0] in CM1}
     if forms.keys() != CM1.keys():
         raise Wrong(f"FORMATS, 'The command line', has not the forms of {', '.join(CM1)}")
