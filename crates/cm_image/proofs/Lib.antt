@@ -13,3 +13,4 @@ mod Lengths
 mod Counting
 mod Blanks
 mod Longest
+mod Eights
