@@ -14,3 +14,4 @@ mod Counting
 mod Blanks
 mod Longest
 mod Eights
+mod Judging

@@ -1,6 +1,6 @@
 -- The planes of all addresses, as they are listed one after another.
 use Rattle.std.proofs.Common.{◌≡◌, ℕ, zero, suc, ◌+◌, ◌*◌, ◌/◌, ◌%◌, ◌<◌, ◌≤◌, ◌≢◌, ◌++◌, List, [], ◌∷◌, refl, sym, ap, ◌∙◌}
-use Rattle.std.proofs.Common.{arith, take, get_or, map, replicate, append_assoc}
+use Rattle.std.proofs.Common.{arith, take, get_or, map, append_assoc}
 use Rattle.std.specs.Int.{w16}
 use Rattle.std.specs.List.{flat_map, range_with_len}
 use Rattle.std.proofs.lemmas.Bool.{cond-false, ne_eqb}
@@ -11,7 +11,6 @@ use Rattle.cm_message.specs.Bytes.{number_bytes}
 use Rattle.cm_image_format.specs.Whole.{memory_plane_of}
 use Rattle.cm_image.specs.Planes.{listings, plane_listing, listed_below, planes_below}
 use Rattle.cm_image.proofs.Dumping.{made_zero, made_more, listed_step}
-use lib.Lanes.{zip2}
 
 pub listings_none : (planes text : List ℕ) → text ≡ text ++ listings planes 0
 unfolding listings
@@ -63,39 +62,36 @@ listed_on planes (suc n) at end is some =
 
 -- ---- eight addresses at once
 
--- eight addresses from one on
-abbrev eight_from : ℕ → List ℕ
-eight_from at = zip2 (λ a b. (a + b) % 65536) (replicate 8 at) (0 ∷ 1 ∷ 2 ∷ 3 ∷ 4 ∷ 5 ∷ 6 ∷ 7 ∷ [])
-
--- these, with their planes laid between them: from a place on
-abbrev pub laid_between : ℕ → List ℕ → ℕ → List ℕ
-laid_between at planes from =
-    map (λ n. get_or (eight_from at ++ planes) (n % 2 * 8 + n / 2) 0) (range_with_len from 8)
+-- eight addresses with their planes laid between them, from a place on
+abbrev pub laid_between : List ℕ → List ℕ → ℕ → List ℕ
+laid_between addresses planes from = map (λ n. get_or (addresses ++ planes) (n % 2 * 8 + n / 2) 0) (range_with_len from 8)
 
 pair : (a b c d : ℕ) (xs ys : List ℕ) → a ≡ b → c ≡ d → xs ≡ ys → a ∷ c ∷ xs ≡ b ∷ d ∷ ys
 pair a b c d xs ys first second rest = λ i. first i ∷ second i ∷ rest i
 
-pub four_entries : (planes eight : List ℕ) (at : ℕ) → at + 8 ≤ 65536
+pub four_entries : (planes addresses eight : List ℕ) (at : ℕ) → addresses ≡ map (λ j. at + j) (range_with_len 0 8)
     → ((n : ℕ) → n < 8 → get_or eight n 0 ≡ get_or planes (at + n) 0)
-    → laid_between at eight 0 ≡ entries planes at 4
-four_entries planes eight at below same =
+    → laid_between addresses eight 0 ≡ entries planes at 4
+four_entries planes addresses eight at follow same =
     let plane : (n k : ℕ) → n < 8 → at + n ≡ k → get_or eight n 0 ≡ get_or planes k 0 =
     λ n k h is. same n h ∙ ap (λ (j : ℕ). get_or planes j 0) is in
-    pair _ _ _ _ _ _ (omega (arith, below)) (plane 0 _ (omega arith) (omega arith))
-    (pair _ _ _ _ _ _ (omega (arith, below)) (plane 1 _ (omega arith) (omega arith))
-    (pair _ _ _ _ _ _ (omega (arith, below)) (plane 2 _ (omega arith) (omega arith))
-    (pair _ _ _ _ _ _ (omega (arith, below)) (plane 3 _ (omega arith) (omega arith)) refl)))
+    ap (λ (l : List ℕ). laid_between l eight 0) follow
+    ∙ pair _ _ _ _ _ _ (omega arith) (plane 0 _ (omega arith) (omega arith))
+    (pair _ _ _ _ _ _ (omega arith) (plane 1 _ (omega arith) (omega arith))
+    (pair _ _ _ _ _ _ (omega arith) (plane 2 _ (omega arith) (omega arith))
+    (pair _ _ _ _ _ _ (omega arith) (plane 3 _ (omega arith) (omega arith)) refl)))
 
-pub next_entries : (planes eight : List ℕ) (at : ℕ) → at + 8 ≤ 65536
+pub next_entries : (planes addresses eight : List ℕ) (at : ℕ) → addresses ≡ map (λ j. at + j) (range_with_len 0 8)
     → ((n : ℕ) → n < 8 → get_or eight n 0 ≡ get_or planes (at + n) 0)
-    → laid_between at eight 8 ≡ entries planes (at + 4) 4
-next_entries planes eight at below same =
+    → laid_between addresses eight 8 ≡ entries planes (at + 4) 4
+next_entries planes addresses eight at follow same =
     let plane : (n k : ℕ) → n < 8 → at + n ≡ k → get_or eight n 0 ≡ get_or planes k 0 =
     λ n k h is. same n h ∙ ap (λ (j : ℕ). get_or planes j 0) is in
-    pair _ _ _ _ _ _ (omega (arith, below)) (plane 4 _ (omega arith) (omega arith))
-    (pair _ _ _ _ _ _ (omega (arith, below)) (plane 5 _ (omega arith) (omega arith))
-    (pair _ _ _ _ _ _ (omega (arith, below)) (plane 6 _ (omega arith) (omega arith))
-    (pair _ _ _ _ _ _ (omega (arith, below)) (plane 7 _ (omega arith) (omega arith)) refl)))
+    ap (λ (l : List ℕ). laid_between l eight 8) follow
+    ∙ pair _ _ _ _ _ _ (omega arith) (plane 4 _ (omega arith) (omega arith))
+    (pair _ _ _ _ _ _ (omega arith) (plane 5 _ (omega arith) (omega arith))
+    (pair _ _ _ _ _ _ (omega arith) (plane 6 _ (omega arith) (omega arith))
+    (pair _ _ _ _ _ _ (omega arith) (plane 7 _ (omega arith) (omega arith)) refl)))
 
 -- four more, behind those that were put
 pub four_more : (planes before after lanes : List ℕ) (at i j end : ℕ) → take i before ≡ listings planes at

@@ -11,7 +11,7 @@ ghost use Rattle.cm_image.specs.Planes.{AreCounted, chips_text, plane_listing, l
 ghost use Rattle.cm_image.specs.Sending.{GoesOut, GoesOutInPart, is_dump_write};
 
 use crate::dumps::{LISTING_LEN, push_flags, push_messages, push_plane};
-use crate::numbers::{EIGHT, EIGHT_LEN, put_eight};
+use crate::numbers::{EIGHT, EIGHT_LEN, eight_from, put_eight};
 use cm_array::Machine;
 use cm_bits::{ADDRESSES, NoMemory, Plane};
 use cm_element::{ChipView, PITCH};
@@ -118,8 +118,7 @@ fn list_eight(listed: &mut [u8], at: usize, planes: &[Plane])
         → take (4 * (at + 8)) listed.new ≡ listings planes.now (at + 8) }
 {
     let words = u16x8::from_slice(&planes[at..at + EIGHT]);
-    let addresses = u16x8::splat(at as u16) + u16x8::from_array([0, 1, 2, 3, 4, 5, 6, 7]);
-    let (first, second) = addresses.interleave(words);
+    let (first, second) = eight_from(at).interleave(words);
     put_eight(listed, LISTING_LEN * at, first);
     put_eight(listed, LISTING_LEN * at + EIGHT_LEN, second);
 }

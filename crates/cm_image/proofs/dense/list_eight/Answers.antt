@@ -13,7 +13,8 @@ returns c =
     let same : (n : ℕ) → n < 8 → get_or (chunk 0 8 part) n 0 ≡ get_or planes (at + n) 0 =
     λ n h. get_or-take 8 part n 0 h ∙ get_or-take (at + 8 - at) (drop at planes) n 0 (omega (arith, h))
     ∙ get_or-drop at planes n 0 in
-    let within : at + 8 ≤ 65536 = omega (arith, c.requires.within) in
+    let addresses : List ℕ = c.eight_from.result in
+    let follow = c.eight_from.ensures.value in
     let first : ℕ = 4 * at + 16 in
     let last : ℕ = first + 16 in
     let end : 4 * (at + 8) ≡ last = omega arith in
@@ -23,13 +24,13 @@ returns c =
           λ a l h zero. let there : at + (a - at) ≡ a = omega (arith, l) in
           some (a - at) (omega (arith, l, h)) (ap (λ (k : ℕ). get_or planes k 0) there ∙ zero) in
           ap (λ (k : ℕ). take k c.put_eight-2.new.bytes) end
-          ∙ four_more planes c.put_eight.new.bytes c.put_eight-2.new.bytes (laid_between at (chunk 0 8 part) 8) (at + 4) first
+          ∙ four_more planes c.put_eight.new.bytes c.put_eight-2.new.bytes (laid_between addresses (chunk 0 8 part) 8) (at + 4) first
           last (at + 8)
-          (four_more planes listed c.put_eight.new.bytes (laid_between at (chunk 0 8 part) 0) at (4 * at) first (at + 4)
+          (four_more planes listed c.put_eight.new.bytes (laid_between addresses (chunk 0 8 part) 0) at (4 * at) first (at + 4)
           told c.put_eight.ensures.value
-          (four_entries planes (chunk 0 8 part) at within same) (omega arith)
+          (four_entries planes addresses (chunk 0 8 part) at follow same) (omega arith)
           (λ a l h. each a l (omega (arith, h))))
           c.put_eight-2.ensures.value
-          (next_entries planes (chunk 0 8 part) at within same) (omega arith)
+          (next_entries planes addresses (chunk 0 8 part) at follow same) (omega arith)
           (λ a l h. each a (omega (arith, l)) h);
     }
