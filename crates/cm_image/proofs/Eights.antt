@@ -1,10 +1,12 @@
--- Eight numbers of two bytes, and their bytes, the highest of each first.
-use Rattle.std.proofs.Common.{◌≡◌, ℕ, zero, suc, ◌+◌, ◌-◌, ◌*◌, ◌/◌, ◌%◌, ◌<◌, ◌≤◌, ◌++◌, false, List, [], ◌∷◌, Ok, refl, sym, ap, ◌∙◌}
-use Rattle.std.proofs.Common.{⊎_elim, arith, take, drop, length, get_or, map, replicate, nat_lt, length-take, length-drop}
+-- Eight numbers of two bytes, as the lanes of a vector and as bytes of a list, the highest of each first.
+use Rattle.std.proofs.Common.{◌≡◌, ℕ, zero, suc, ◌+◌, ◌-◌, ◌*◌, ◌/◌, ◌%◌, ◌<◌, ◌≤◌, ◌++◌, false, List, [], ◌∷◌, Ok}
+use Rattle.std.proofs.Common.{refl, sym, ap, ◌∙◌, ⊎_elim, arith, take, drop, length, get_or, map, replicate, nat_lt}
+use Rattle.std.proofs.Common.{length-take, length-drop}
 use Rattle.std.specs.Int.{w8, w16}
 use Rattle.std.specs.List.{flat_map, range_with_len}
 use Rattle.std.proofs.lemmas.Bool.{cases_lt, le-ltb}
-use Rattle.std.proofs.lemmas.List.{drop-drop, drop_more, get_or-take, get_or-drop, get_or_append_left, get_or-append_right}
+use Rattle.std.proofs.lemmas.List.{drop-drop, drop_more, get_or-take, get_or-drop, get_or_append_left}
+use Rattle.std.proofs.lemmas.List.{get_or-append_right}
 use Rattle.std.proofs.lemmas.List.FromFn.{get_or-map-range_with_len}
 use Rattle.std.proofs.lemmas.Slice.{take-put_mid}
 use Rattle.std.proofs.lemmas.Simd.{below_from_Fits, Each1-from_get_or, get_or_narrower, get_or_wider, length-chunk}
@@ -16,6 +18,8 @@ use Rattle.cm_image_format.specs.Reading.{number_at}
 use borrow.Rule.Slice.PartMut.{put_mid}
 use lib.Lanes.{Each1, zip2, pick_l, put_chunk, chunk, number_l, digits_l}
 use mir.Val.{Fits}
+
+-- ---- eight numbers that are written
 
 -- the bytes of eight numbers, the lowest of each first
 abbrev low_first : List ℕ → List ℕ
@@ -42,6 +46,7 @@ high_byte numbers j k words is h =
     ap (λ (n : ℕ). get_or (low_first numbers) n 0) is
     ∙ get_or_narrower 65536 2 256 16 numbers j 1 refl words (omega arith) (omega (arith, is, h))
 
+-- turned about, they are written one number after another
 pub eight_turned : (numbers : List ℕ) → length numbers ≡ 8 → Each1 (Fits w16) numbers
     → high_first numbers ≡ flat_map (number_bytes w16) numbers
 unfolding number_bytes
@@ -90,6 +95,7 @@ byte_turned bytes n m h is =
     get_or-map-range_with_len (λ k. get_or bytes (other k) 0) 0 16 n n 0 h (omega arith)
     ∙ ap (λ (k : ℕ). get_or bytes k 0) is
 
+-- two bytes of a vector as a number, the lowest first
 two_bytes : (bytes : List ℕ) (n : ℕ) → n + 2 ≤ length bytes
     → number_l 256 (chunk n 2 bytes) ≡ get_or bytes n 0 + 256 * (get_or bytes (n + 1) 0 + 256 * 0)
 two_bytes bytes n within =
@@ -128,9 +134,11 @@ digit_below zero x j h = absurd (omega (arith, h))
 digit_below (suc n) x zero h = omega arith
 digit_below (suc n) x (suc j) h = digit_below n (x / 65536) j (omega (arith, h))
 
+-- a number that was read has two bytes
 pub words_read : (bytes : List ℕ) (j : ℕ) → j < 8 → get_or (numbers_of bytes) j 0 < 65536
 words_read bytes j h = digit_below 8 (number_l 256 (bytes_turned bytes)) j h
 
+-- each of them is the number that stands in its place
 pub eight_read : (bytes : List ℕ) (i k : ℕ) → k ≡ 16 → i + 16 ≤ length bytes → ((n : ℕ) → Fits w8 (get_or bytes n 0))
     → (j : ℕ) → j < 8
     → number_at w16 (drop (i + 2 * j) bytes)
@@ -157,6 +165,7 @@ unfolding tabulate
 eight_follow first below =
     same_each_below 0 8 (λ j. (first + j) % 65536) (λ j. first + j) (λ j h. omega (arith, below, h))
 
+-- eight words that replace those of a part
 stored : (at k : ℕ) (old words : List ℕ) → k ≡ 8 → at + 8 ≤ length old → length words ≡ 8
     → put_mid at k old (put_chunk 0 (take k (drop at old)) words) ≡ put_mid at k old words
 stored at k old words is within eight =
@@ -179,10 +188,11 @@ pub words_below : (at k : ℕ) (old words : List ℕ) → k ≡ 8 → at + 8 ≤
     → get_or (put_mid at k old (put_chunk 0 (take k (drop at old)) words)) i 0 ≡ get_or old i 0
 words_below at k old words is within eight i h =
     ap (λ (xs : List ℕ). get_or xs i 0) (stored at k old words is within eight)
-    ∙ get_or_append_left (take at old) (words ++ drop k (drop at old)) 0 i (omega (arith, within, h, length-take at old))
+    ∙ get_or_append_left (take at old) (words ++ drop k (drop at old)) 0 i
+    (omega (arith, within, h, length-take at old))
     ∙ get_or-take at old i 0 h
 
--- ---- two by two
+-- ---- sixteen numbers, two by two
 
 -- every other number of two vectors, from a place on
 abbrev pub every_other : List ℕ → List ℕ → ℕ → List ℕ
@@ -213,6 +223,7 @@ other_words first second from eight small low high j h =
     ))
     (cases_lt n 8)
 
+-- of numbers that follow one another in bytes, every other one
 pub one_of_two : (first second bytes : List ℕ) (i from : ℕ) → length first ≡ 8 → from < 2
     → ((j : ℕ) → j < 8 → number_at w16 (drop (i + 2 * j) bytes) ≡ Ok (get_or first j 0, drop (i + 2 * j + 2) bytes))
     → ((j : ℕ) → j < 8
@@ -221,7 +232,8 @@ pub one_of_two : (first second bytes : List ℕ) (i from : ℕ) → length first
     → number_at w16 (drop m bytes) ≡ Ok (get_or (every_other first second from) j 0, drop (m + 2) bytes)
 one_of_two first second bytes i from eight small low high j m h is =
     let n : ℕ = from + 2 * j in
-    let lane : get_or (every_other first second from) j 0 ≡ get_or (first ++ second) n 0 = other_lane first second from j h in
+    let lane : get_or (every_other first second from) j 0 ≡ get_or (first ++ second) n 0 =
+    other_lane first second from j h in
     ⊎_elim
     (λ (l : n < 8). let there : i + 2 * n ≡ m = omega (arith, is) in
     let same : get_or first n 0 ≡ get_or (every_other first second from) j 0 =

@@ -1,13 +1,12 @@
--- What eight lanes tell of all planes that are listed: addresses that are off, and the least planes.
+-- What eight lanes tell of listed planes: whether an address is not the one that is due, and which plane is the least.
 use Rattle.std.proofs.Common.{◌≡◌, ◌≢◌, ℕ, ◌+◌, ◌-◌, ◌*◌, ◌%◌, ◌^◌, ◌<◌, ◌≤◌, nat_lt, not, Bool, false, cond, List}
 use Rattle.std.proofs.Common.{Ok, drop, length, get_or, map, replicate, ltb, eqb, refl, sym, ap, ◌∙◌, arith}
 use Rattle.std.specs.Int.{w16}
-use Rattle.std.proofs.lemmas.Bool.{cond_both, ltb-true, ltb-false, le-ltb, eqb-true, eqb-false, ne_eqb}
-use Rattle.std.proofs.lemmas.Bool.{not-false}
+use Rattle.std.proofs.lemmas.Bool.{cond_both, not-false, ltb-true, ltb-false, le-ltb, eqb-true, eqb-false, ne_eqb}
 use Rattle.std.proofs.lemmas.Nat.{le_or_l, le_or_r}
 use Rattle.std.proofs.lemmas.List.{take_all}
-use Rattle.std.proofs.lemmas.Simd.{bitmask_splat, none_from_empty_mask, tops_compared, get_or-zip2, length-zip2, get_or-sel_l}
-use Rattle.std.proofs.lemmas.Simd.{length-sel_l}
+use Rattle.std.proofs.lemmas.Simd.{bitmask_splat, none_from_empty_mask, tops_compared, get_or-zip2, length-zip2}
+use Rattle.std.proofs.lemmas.Simd.{get_or-sel_l, length-sel_l}
 use Rattle.cm_image_format.specs.Reading.{number_at}
 use Rattle.cm_image_format.specs.Image.{listed_part}
 use lib.Bits.{bit_or}
@@ -15,7 +14,7 @@ use lib.Lanes.{zip2, sel_l, mask_l, top}
 
 -- ---- addresses
 
--- lanes that are 0 where they were and where eight addresses are those that are due
+-- lanes that stay 0 where the addresses that were read are those that are due
 abbrev pub off_of : List ℕ → List ℕ → List ℕ → List ℕ
 off_of off read due = zip2 bit_or off (zip2 (λ a b. (a + (65536 - b)) % 65536) read due)
 
@@ -39,6 +38,7 @@ off_lane off read due j long eight both h =
     ∙ ap (bit_or (get_or off j 0))
     (get_or-zip2 (λ a b. (a + (65536 - b)) % 65536) read due j 0 0 0 (omega (arith, eight, h)) (omega (arith, both, h)))
 
+-- a lane that is 0 was 0 before, and its address is the one that is due
 pub off_before : (off read due : List ℕ) (j : ℕ) → length off ≡ 8 → length read ≡ 8 → length due ≡ 8 → j < 8
     → get_or (off_of off read due) j 0 ≡ 0 → get_or off j 0 ≡ 0
 off_before off read due j long eight both h none =
@@ -71,7 +71,8 @@ least_of least planes = sel_l (map (top 15) (zip2 (λ a b. cond (ltb a b) 65535 
 least_chosen : (least planes : List ℕ) → least_of least planes ≡ sel_l (zip2 ltb least planes) least planes
 least_chosen least planes = ap (λ (ms : List Bool). sel_l ms least planes) (tops_compared w16 ltb least planes)
 
-pub length-least_of : (least planes : List ℕ) → length least ≡ 8 → length planes ≡ 8 → length (least_of least planes) ≡ 8
+pub length-least_of : (least planes : List ℕ) → length least ≡ 8 → length planes ≡ 8
+    → length (least_of least planes) ≡ 8
 length-least_of least planes long eight =
     let tests : length (zip2 ltb least planes) ≡ 8 = length-zip2 ltb least planes (long ∙ sym eight) ∙ long in
     ap length (least_chosen least planes)

@@ -1,6 +1,6 @@
 -- The planes of all addresses, as they are listed one after another.
-use Rattle.std.proofs.Common.{◌≡◌, ℕ, zero, suc, ◌+◌, ◌*◌, ◌/◌, ◌%◌, ◌<◌, ◌≤◌, ◌≢◌, ◌++◌, List, [], ◌∷◌, refl, sym, ap, ◌∙◌}
-use Rattle.std.proofs.Common.{arith, take, get_or, map, append_assoc}
+use Rattle.std.proofs.Common.{◌≡◌, ℕ, zero, suc, ◌+◌, ◌*◌, ◌/◌, ◌%◌, ◌<◌, ◌≤◌, ◌≢◌, ◌++◌, List, [], ◌∷◌, refl, sym}
+use Rattle.std.proofs.Common.{ap, ◌∙◌, arith, take, get_or, map, append_assoc}
 use Rattle.std.specs.Int.{w16}
 use Rattle.std.specs.List.{flat_map, range_with_len}
 use Rattle.std.proofs.lemmas.Bool.{cond-false, ne_eqb}
@@ -38,6 +38,7 @@ abbrev pub entries : List ℕ → ℕ → ℕ → List ℕ
 entries planes at zero = []
 entries planes at (suc n) = at ∷ get_or planes at 0 ∷ entries planes (at + 1) n
 
+-- one more that is not 0
 one_on : (planes : List ℕ) (at : ℕ) → get_or planes at 0 ≢ 0
     → listings planes (at + 1) ≡ listings planes at ++ (number_bytes w16 at ++ number_bytes w16 (get_or planes at 0))
 one_on planes at some =
@@ -64,11 +65,13 @@ listed_on planes (suc n) at end is some =
 
 -- eight addresses with their planes laid between them, from a place on
 abbrev pub laid_between : List ℕ → List ℕ → ℕ → List ℕ
-laid_between addresses planes from = map (λ n. get_or (addresses ++ planes) (n % 2 * 8 + n / 2) 0) (range_with_len from 8)
+laid_between addresses planes from =
+    map (λ n. get_or (addresses ++ planes) (n % 2 * 8 + n / 2) 0) (range_with_len from 8)
 
 pair : (a b c d : ℕ) (xs ys : List ℕ) → a ≡ b → c ≡ d → xs ≡ ys → a ∷ c ∷ xs ≡ b ∷ d ∷ ys
 pair a b c d xs ys first second rest = λ i. first i ∷ second i ∷ rest i
 
+-- the first four of them are four entries, and so are the others
 pub four_entries : (planes addresses eight : List ℕ) (at : ℕ) → addresses ≡ map (λ j. at + j) (range_with_len 0 8)
     → ((n : ℕ) → n < 8 → get_or eight n 0 ≡ get_or planes (at + n) 0)
     → laid_between addresses eight 0 ≡ entries planes at 4

@@ -14,7 +14,7 @@ pub(crate) const EIGHT: usize = 8;
 /// The bytes of eight numbers.
 pub(crate) const EIGHT_LEN: usize = 16;
 
-/// The highest byte of each of eight numbers before the lowest, which comes first where a vector is bytes.
+/// Turns both bytes of each of eight numbers about: an image has the highest byte first, a vector the lowest.
 const HIGH_FIRST: [usize; EIGHT_LEN] = [1, 0, 3, 2, 5, 4, 7, 6, 9, 8, 11, 10, 13, 12, 15, 14];
 
 /// Puts the bytes of eight numbers into a list, from a place on, the highest of each number first.

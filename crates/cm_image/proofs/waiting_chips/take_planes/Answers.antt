@@ -1,4 +1,5 @@
-use Rattle.std.proofs.Common.{◌≡◌, ◌≢◌, ◌+◌, ◌*◌, ◌/◌, ◌%◌, ◌<◌, ◌≤◌, ℕ, List, length, get_or, refl, sym, ap, ◌∙◌, ⊎_elim, arith}
+use Rattle.std.proofs.Common.{◌≡◌, ◌≢◌, ◌+◌, ◌*◌, ◌/◌, ◌%◌, ◌<◌, ◌≤◌, ℕ, List, length, get_or, refl, sym, ap, ◌∙◌}
+use Rattle.std.proofs.Common.{⊎_elim, arith}
 use Rattle.std.proofs.lemmas.Bool.{cases_lt, eqb-true}
 use Rattle.std.proofs.lemmas.List.FromFn.{get_or-map-range_with_len}
 use Rattle.cm_image.proofs.Judging.{off_before, due_now, length-off_of, least_before, least_now, length-least_of}
@@ -31,7 +32,10 @@ loop-k-preserved c =
     λ m j n same h is. let there : n ≡ place + at + j = omega (arith, same, is) in
     ap (λ (i : ℕ). get_or later i 0) there ∙ put.value j h in
     record {
-      lanes = (length-off_of off read due now.lanes.0 eight.0 due_long, length-least_of least listed now.lanes.1 eight.1);
+      lanes = (
+        length-off_of off read due now.lanes.0 eight.0 due_long,
+        length-least_of least listed now.lanes.1 eight.1,
+      );
       addresses = λ m j before h none. ⊎_elim
           (λ (l : m < k). now.addresses m j l h (off_before off read due j now.lanes.0 eight.0 due_long h none))
           (λ (l : k ≤ m). number_moved bytes _ (4 * at + 4 * j) _ (4 * at + 4 * j + 2) (get_or read j 0) (8 * m + j)
@@ -49,7 +53,12 @@ loop-k-preserved c =
           (c.listings_at.ensures.plane j h))
           (cases_lt m k);
       least = λ m j before h. ⊎_elim
-          (λ (l : m < k). omega (arith, kept m j l h, now.least m j l h, least_before least listed j now.lanes.1 eight.1 h))
+          (λ (l : m < k). omega (
+            arith,
+            kept m j l h,
+            now.least m j l h,
+            least_before least listed j now.lanes.1 eight.1 h,
+          ))
           (λ (l : k ≤ m). omega (
             arith,
             here m j (place + (8 * m + j)) (omega (arith, l, before)) h refl,
