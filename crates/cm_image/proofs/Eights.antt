@@ -83,7 +83,7 @@ abbrev bytes_turned : List ℕ → List ℕ
 bytes_turned bytes = map (λ n. get_or bytes (other n) 0) (range_with_len 0 16)
 
 -- the numbers that the bytes of a vector make when they are turned
-abbrev pub numbers_of : List ℕ → List ℕ
+abbrev numbers_of : List ℕ → List ℕ
 numbers_of bytes = digits_l 65536 8 (number_l 256 (bytes_turned bytes))
 
 -- sixteen bytes of a list from a place on, as they are loaded
@@ -195,7 +195,7 @@ words_below at k old words is within eight i h =
 -- ---- sixteen numbers, two by two
 
 -- every other number of two vectors, from a place on
-abbrev pub every_other : List ℕ → List ℕ → ℕ → List ℕ
+abbrev every_other : List ℕ → List ℕ → ℕ → List ℕ
 every_other first second from = map (λ n. get_or (first ++ second) (from + 2 * n) 0) (range_with_len 0 8)
 
 other_lane : (first second : List ℕ) (from j : ℕ) → j < 8

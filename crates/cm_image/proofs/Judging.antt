@@ -15,7 +15,7 @@ use lib.Lanes.{zip2, sel_l, mask_l, top}
 -- ---- addresses
 
 -- lanes that stay 0 where the addresses that were read are those that are due
-abbrev pub off_of : List ℕ → List ℕ → List ℕ → List ℕ
+abbrev off_of : List ℕ → List ℕ → List ℕ → List ℕ
 off_of off read due = zip2 bit_or off (zip2 (λ a b. (a + (65536 - b)) % 65536) read due)
 
 length-differences : (read due : List ℕ) → length read ≡ 8 → length due ≡ 8
@@ -65,7 +65,7 @@ due_now off read due j long eight both h word below none =
 -- ---- planes
 
 -- the lesser of two planes, lane by lane
-abbrev pub least_of : List ℕ → List ℕ → List ℕ
+abbrev least_of : List ℕ → List ℕ → List ℕ
 least_of least planes = sel_l (map (top 15) (zip2 (λ a b. cond (ltb a b) 65535 0) least planes)) least planes
 
 least_chosen : (least planes : List ℕ) → least_of least planes ≡ sel_l (zip2 ltb least planes) least planes

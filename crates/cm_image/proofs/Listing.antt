@@ -34,7 +34,7 @@ same_listings chip planes (suc n) same =
     ∙ sym (listed_step chip n) ∙ ap (listed_below chip) (sym one)
 
 -- addresses from one on, each with its plane behind it
-abbrev pub entries : List ℕ → ℕ → ℕ → List ℕ
+abbrev entries : List ℕ → ℕ → ℕ → List ℕ
 entries planes at zero = []
 entries planes at (suc n) = at ∷ get_or planes at 0 ∷ entries planes (at + 1) n
 
@@ -51,7 +51,7 @@ joined : (a b c d : List ℕ) → a ++ (b ++ (c ++ d)) ≡ (a ++ (b ++ c)) ++ d
 joined a b c d = simp append_assoc
 
 -- behind the planes of the addresses below, those that are not 0 are listed by their bytes
-pub listed_on : (planes : List ℕ) (n at end : ℕ) → at + n ≡ end
+listed_on : (planes : List ℕ) (n at end : ℕ) → at + n ≡ end
     → ((a : ℕ) → at ≤ a → a < end → get_or planes a 0 ≢ 0)
     → listings planes at ++ flat_map (number_bytes w16) (entries planes at n) ≡ listings planes end
 listed_on planes zero at end is some = append-nil (listings planes at) ∙ ap (listings planes) (omega (arith, is))
