@@ -143,15 +143,16 @@ pub(crate) fn turn_row<const PITCH: usize>(
     }
 }
 
-/// Writes a word for each of so many chips, which lie `PITCH` words apart.
-pub(crate) fn write_row(planes: &mut [Plane], at: usize, words: &[Plane])
+/// Writes a word for each of so many chips, from one on. They lie `PITCH` words apart.
+pub(crate) fn write_row(planes: &mut [Plane], chip: usize, at: usize, words: &[Plane])
     requires at { at < 4096 }
-    requires planes { length words.now * 4128 ≤ length planes.old }
-    ensures value { (c : ℕ) → c < length words.now → slice_index planes.new (c * 4128 + at) ≡ slice_index words.now c }
-    ensures others { (c i : ℕ) → i < 4096 → i ≢ at
+    requires planes { (chip + length words.now) * 4128 ≤ length planes.old }
+    ensures value { (c : ℕ) → c < length words.now
+        → slice_index planes.new ((chip + c) * 4128 + at) ≡ slice_index words.now c }
+    ensures others { (c i : ℕ) → i < 4096 → (c < chip) ⊎ (i ≢ at)
         → slice_index planes.new (c * 4128 + i) ≡ slice_index planes.old (c * 4128 + i) }
 {
     for c in 0..words.len() {
-        planes[c * PITCH + at] = words[c];
+        planes[(chip + c) * PITCH + at] = words[c];
     }
 }

@@ -1,7 +1,7 @@
 //! The rows of memory of a run, of which only those that are in use are kept.
 
-ghost use Rattle.std.specs.Prelude.{◌≡◌, ◌≢◌, ℕ, ◌+◌, ◌*◌, ◌<◌, ◌≤◌, ◌^◌, false, List, length, slice_index, slice_set};
-ghost use Rattle.std.specs.Prelude.{IfOk, IsTrue, replicate, vec_capacity};
+ghost use Rattle.std.specs.Prelude.{◌≡◌, ◌≢◌, ◌⊎◌, ℕ, ◌+◌, ◌*◌, ◌<◌, ◌≤◌, ◌^◌, false, List, length};
+ghost use Rattle.std.specs.Prelude.{slice_index, slice_set, IfOk, IsTrue, replicate, vec_capacity};
 ghost use Rattle.cm_bits.specs.Bit.{bit};
 ghost use Rattle.cm_model.specs.Array.{chip_at};
 ghost use Rattle.cm_element.specs.Laid.{AreLaidRows, AreTurnedRows, IsRowLaid, IsRowTurned};
@@ -17,7 +17,7 @@ use crate::run::lay::{Band, turn_row, write_row};
 use crate::run::outputs::store_row;
 use crate::run::rows::put_row;
 use crate::run::square::{EIGHT, SQUARE, put_eight, put_square, transpose};
-use crate::run::{ADDRESSES, PITCH};
+use crate::run::{ADDRESSES, FIELD_PITCH, PITCH};
 use crate::word::{SIXTEEN, bit_of, lift, with_bit, with_lifted_bit};
 use cm_bits::{Field, NoMemory, Plane, Proc};
 use cm_model::Nano;
@@ -27,6 +27,9 @@ use std::marker::Model;
 
 /// So many addresses are looked at at once for whether one of them has a row.
 const SHELF: usize = 64;
+
+/// So many times eight addresses there are.
+const GROUPS: usize = ADDRESSES / EIGHT;
 
 /// A row for each address. Room for all is reserved, but a row is made when first one of its words is
 /// written: until then its address shares a row of zeros. Room that is never written costs nothing.
@@ -305,7 +308,7 @@ impl MemoryRows {
         self.fill(row, here, &words[there.first..]);
     }
 
-    /// Writes the planes of so many chips chip by chip.
+    /// Writes the planes of so many chips chip by chip: eight chips at once, and those that remain one by one.
     pub(crate) fn write(&self, there: Band, count: usize, planes: &mut [Plane])
         requires words { length self.now ≡ 4096 * there.stride }
         requires there { there.first + count ≤ there.stride }
@@ -313,9 +316,37 @@ impl MemoryRows {
         ensures value { (i c : ℕ) → i < 4096 → c < count → slice_index planes.new (c * 4128 + i)
             ≡ slice_index self.now (i * there.stride + (there.first + c)) }
     {
+        let eights = count / EIGHT;
+        self.write_eights(there, eights, planes);
+        self.write_rest(there, eights * EIGHT, count, planes);
+    }
+
+    /// Writes those of so many times eight chips.
+    fn write_eights(&self, there: Band, eights: usize, planes: &mut [Plane])
+        requires words { length self.now ≡ 4096 * there.stride }
+        requires there { there.first + eights * 8 ≤ there.stride }
+        requires planes { eights * 8 * 4128 ≤ length planes.old }
+        ensures value { (i c : ℕ) → i < 4096 → c < eights * 8 → slice_index planes.new (c * 4128 + i)
+            ≡ slice_index self.now (i * there.stride + (there.first + c)) }
+    {
+        let from = &self.words[there.first..];
+        turn_eights(from, &self.slots, self.stride, eights, planes);
+    }
+
+    /// Writes those of the chips that remain when so many are done.
+    fn write_rest(&self, there: Band, done: usize, count: usize, planes: &mut [Plane])
+        requires words { length self.now ≡ 4096 * there.stride }
+        requires there { there.first + count ≤ there.stride }
+        requires done { done ≤ count }
+        requires planes { count * 4128 ≤ length planes.old }
+        ensures value { (i c : ℕ) → i < 4096 → done ≤ c → c < count → slice_index planes.new (c * 4128 + i)
+            ≡ slice_index self.now (i * there.stride + (there.first + c)) }
+        ensures others { (i c : ℕ) → i < 4096 → c < done
+            → slice_index planes.new (c * 4128 + i) ≡ slice_index planes.old (c * 4128 + i) }
+    {
         for row in 0..ADDRESSES {
             let words = self.row(row, there.stride, there.first + count);
-            write_row(planes, row, &words[there.first..]);
+            write_row(planes, done, row, &words[there.first + done..]);
         }
     }
 
@@ -396,9 +427,48 @@ fn start(words: &Vec<Plane>, slots: &Vec<u16>, used: usize, stride: usize, at: u
     usize::from(slots[at]) * stride
 }
 
-/// Writes the planes of eight chips at so many times eight addresses, chip by chip. The words are those from the first
-/// of these chips on. They are given as slices, so that no word that is written can be one that tells where the words
-/// lie: nothing is looked up again for each eight.
+/// Writes the planes of so many times eight chips, chip by chip and eight addresses after eight. The words are those
+/// from the first of these chips on. They are given as slices, so that no word that is written can be one that tells
+/// where the words lie: nothing is looked up again for each eight.
+fn turn_eights(words: &[Plane], slots: &[u16], stride: usize, eights: usize, planes: &mut [Plane])
+    requires slots { length slots.now ≡ 4096 }
+    requires few { stride < 2 ^ 20 }
+    requires rows { (i : ℕ) → i < 4096 → slice_index slots.now i * stride + eights * 8 ≤ length words.now }
+    requires planes { eights * 8 * 4128 ≤ length planes.old }
+    ensures value { (i c : ℕ) → i < 4096 → c < eights * 8 → slice_index planes.new (c * 4128 + i)
+        ≡ slice_index words.now (slice_index slots.now i * stride + c) }
+{
+    for g in 0..GROUPS {
+        turn_chips(words, slots, stride, g * EIGHT, eights, planes);
+    }
+}
+
+/// Writes those of eight addresses.
+fn turn_chips(
+    words: &[Plane],
+    slots: &[u16],
+    stride: usize,
+    at: usize,
+    eights: usize,
+    planes: &mut [Plane],
+)
+    requires slots { length slots.now ≡ 4096 }
+    requires few { stride < 2 ^ 20 }
+    requires rows { (i : ℕ) → i < 4096 → slice_index slots.now i * stride + eights * 8 ≤ length words.now }
+    requires at { at + 8 ≤ 4096 }
+    requires planes { eights * 8 * 4128 ≤ length planes.old }
+    ensures value { (c k : ℕ) → c < eights * 8 → k < 8 → slice_index planes.new (c * 4128 + (at + k))
+        ≡ slice_index words.now (slice_index slots.now (at + k) * stride + c) }
+    ensures others { (c i : ℕ) → i < 4128 → (i < at) ⊎ (at + 8 ≤ i)
+        → slice_index planes.new (c * 4128 + i) ≡ slice_index planes.old (c * 4128 + i) }
+{
+    for q in 0..eights {
+        turn_square::<PITCH>(words, slots, stride, at, planes, q * EIGHT, at);
+    }
+}
+
+/// Writes the planes of eight chips at so many times eight addresses, chip by chip. It is given slices, as
+/// `turn_eights` is.
 fn turn_squares(
     words: &[Plane],
     slots: &[u16],
@@ -417,48 +487,59 @@ fn turn_squares(
         ≡ slice_index words.now (slice_index slots.now (at + k) * stride + c) }
 {
     for g in 0..eights {
-        turn_square(words, slots, stride, at + g * EIGHT, planes, g * EIGHT);
+        turn_square::<FIELD_PITCH>(words, slots, stride, at + g * EIGHT, planes, 0, g * EIGHT);
     }
 }
 
-/// Writes those of eight addresses, to a place of each chip. The compiler keeps the square in registers.
-fn turn_square(
+/// Writes those of eight chips, from one on, at eight addresses, to a place of each chip. The compiler keeps the square
+/// in registers.
+#[inline(always)]
+fn turn_square<const PITCH: usize>(
     words: &[Plane],
     slots: &[u16],
     stride: usize,
     at: usize,
     planes: &mut [Plane],
+    chip: usize,
     to: usize,
 )
     requires slots { length slots.now ≡ 4096 }
     requires few { stride < 2 ^ 20 }
-    requires rows { (i : ℕ) → i < 4096 → slice_index slots.now i * stride + 8 ≤ length words.now }
+    requires rows { (i : ℕ) → i < 4096 → slice_index slots.now i * stride + (chip + 8) ≤ length words.now }
     requires at { at + 8 ≤ 4096 }
-    requires planes { length planes.old ≡ 512 }
-    requires to { to + 8 ≤ 64 }
-    ensures value { (c k : ℕ) → c < 8 → k < 8 → slice_index planes.new (c * 64 + (to + k))
-        ≡ slice_index words.now (slice_index slots.now (at + k) * stride + c) }
-    ensures below { (c i : ℕ) → i < to → slice_index planes.new (c * 64 + i) ≡ slice_index planes.old (c * 64 + i) }
+    requires planes { (chip + 8) * PITCH ≤ length planes.old }
+    requires to { to + 8 ≤ PITCH }
+    ensures value { (c k : ℕ) → c < 8 → k < 8 → slice_index planes.new ((chip + c) * PITCH + (to + k))
+        ≡ slice_index words.now (slice_index slots.now (at + k) * stride + (chip + c)) }
+    ensures others { (c i : ℕ) → i < PITCH → ((c < chip) ⊎ (chip + 8 ≤ c)) ⊎ ((i < to) ⊎ (to + 8 ≤ i))
+        → slice_index planes.new (c * PITCH + i) ≡ slice_index planes.old (c * PITCH + i) }
 {
     let mut square: [Plane; SQUARE] = [0; SQUARE];
-    read_square(words, slots, stride, at, &mut square);
+    read_square(words, slots, stride, at, chip, &mut square);
     transpose(&mut square);
-    put_square(planes, to, &square);
+    put_square::<PITCH>(planes, chip, to, &square);
 }
 
-/// Reads the words of eight chips at eight addresses, row by row.
-fn read_square(words: &[Plane], slots: &[u16], stride: usize, at: usize, square: &mut [Plane])
+/// Reads the words of eight chips, from one on, at eight addresses, row by row.
+fn read_square(
+    words: &[Plane],
+    slots: &[u16],
+    stride: usize,
+    at: usize,
+    chip: usize,
+    square: &mut [Plane],
+)
     requires slots { length slots.now ≡ 4096 }
     requires few { stride < 2 ^ 20 }
-    requires rows { (i : ℕ) → i < 4096 → slice_index slots.now i * stride + 8 ≤ length words.now }
+    requires rows { (i : ℕ) → i < 4096 → slice_index slots.now i * stride + (chip + 8) ≤ length words.now }
     requires at { at + 8 ≤ 4096 }
     requires square { length square.old ≡ 64 }
     ensures value { (k c : ℕ) → k < 8 → c < 8 → slice_index square.new (k * 8 + c)
-        ≡ slice_index words.now (slice_index slots.now (at + k) * stride + c) }
+        ≡ slice_index words.now (slice_index slots.now (at + k) * stride + (chip + c)) }
 {
     for k in 0..EIGHT {
         let slot = usize::from(slots[at + k]);
-        put_eight(square, k * EIGHT, words, slot * stride);
+        put_eight(square, k * EIGHT, words, slot * stride + chip);
     }
 }
 

@@ -1,9 +1,8 @@
 //! The words of eight chips in eight rows, turned so that those of a chip lie side by side.
 
-ghost use Rattle.std.specs.Prelude.{◌≡◌, ℕ, ◌+◌, ◌*◌, ◌/◌, ◌%◌, ◌<◌, ◌≤◌, length, slice_index};
+ghost use Rattle.std.specs.Prelude.{◌≡◌, ◌⊎◌, ℕ, ◌+◌, ◌*◌, ◌/◌, ◌%◌, ◌<◌, ◌≤◌, length, slice_index};
 ghost use Rattle.cm_element.specs.Laid.{IsRowLaid};
 
-use super::FIELD_PITCH;
 use cm_bits::Plane;
 use std::simd::prelude::*;
 
@@ -48,17 +47,24 @@ pub(crate) fn put_eight(list: &mut [Plane], at: usize, from: &[Plane], source: u
     words.copy_to_slice(&mut list[at..at + EIGHT]);
 }
 
-/// Puts the words of each chip of a square into a list, in which those of each chip begin `FIELD_PITCH` words after
-/// those of the chip before.
-pub(crate) fn put_square(planes: &mut [Plane], to: usize, square: &[Plane])
-    requires planes { length planes.old ≡ 512 }
-    requires to { to + 8 ≤ 64 }
+/// Puts the words of each chip of a square into a list, for the chips from one on and from an address on. In this list
+/// the words of each chip begin a pitch after those of the chip before.
+#[inline(always)]
+pub(crate) fn put_square<const PITCH: usize>(
+    planes: &mut [Plane],
+    chip: usize,
+    to: usize,
+    square: &[Plane],
+)
+    requires planes { (chip + 8) * PITCH ≤ length planes.old }
+    requires to { to + 8 ≤ PITCH }
     requires square { length square.now ≡ 64 }
     ensures value { (c k : ℕ) → c < 8 → k < 8
-        → slice_index planes.new (c * 64 + (to + k)) ≡ slice_index square.now (c * 8 + k) }
-    ensures below { (c i : ℕ) → i < to → slice_index planes.new (c * 64 + i) ≡ slice_index planes.old (c * 64 + i) }
+        → slice_index planes.new ((chip + c) * PITCH + (to + k)) ≡ slice_index square.now (c * 8 + k) }
+    ensures others { (c i : ℕ) → i < PITCH → ((c < chip) ⊎ (chip + 8 ≤ c)) ⊎ ((i < to) ⊎ (to + 8 ≤ i))
+        → slice_index planes.new (c * PITCH + i) ≡ slice_index planes.old (c * PITCH + i) }
 {
     for c in 0..EIGHT {
-        put_eight(planes, c * FIELD_PITCH + to, square, c * EIGHT);
+        put_eight(planes, (chip + c) * PITCH + to, square, c * EIGHT);
     }
 }
