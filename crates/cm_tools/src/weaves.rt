@@ -17,7 +17,7 @@ use cm_bits::{Failed, Sink, Source};
 use cm_sizes::{AnyMachine, on_machine};
 use cm_system::{ProgramFault, System, Taken, abort_files, finish_files, make_ready, take_both};
 use cm_weave::World;
-use cm_weave_text::{WeaveFault, weave_self, weave_session};
+use cm_weave_text::{WeaveFault, give_up, weave_self, weave_session};
 use std::alloc::Global;
 
 /// What is asked of an exchange: the files of an image, of a program and of the steps, if one is named, into 2^`split`
@@ -92,7 +92,10 @@ fn weave_machine<const N: usize, const CAP: usize, H: System, O: Sink>(
 {
     match World::new(alloc, machine, program.acts(), line.split) {
         Ok(world) => weave_world(alloc, system, line, world, answers),
-        Err(refused) => Err(ProgramFault::from(refused.fault)),
+        Err(refused) => {
+            give_up(refused.machine);
+            Err(ProgramFault::from(refused.fault))
+        }
     }
 }
 
@@ -112,10 +115,17 @@ fn weave_world<const N: usize, const CAP: usize, H: System, O: Sink>(
 {
     let Ends { steps, part } = match open_ends(alloc, system, line) {
         Ok(ends) => ends,
-        Err(fault) => return Err(fault),
+        Err(fault) => {
+            give_up(world);
+            return Err(fault);
+        }
     };
     match step_world(alloc, world, steps, answers) {
-        Ok(machine) => finish_files(alloc, system, part, answers, &machine),
+        Ok(machine) => {
+            let finished = finish_files(alloc, system, part, answers, &machine);
+            give_up(machine);
+            finished
+        }
         Err(fault) => abort_files(system, part, ProgramFault::from(fault)),
     }
 }

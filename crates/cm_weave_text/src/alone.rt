@@ -13,6 +13,7 @@ ghost use Rattle.cm_weave_text.specs.Hearing.{exchange_in, TextAborts, HasSentFr
 
 use crate::fault::WeaveFault;
 use crate::outgoing::send;
+use crate::sessions::give_up;
 use cm_array::Machine;
 use cm_bits::Sink;
 use cm_exchange::Step;
@@ -49,7 +50,10 @@ pub fn weave_self<const N: usize, const CAP: usize, O: Sink>(
     let mut world = world;
     match tell_all(alloc, &mut world, out) {
         Ok(()) => {}
-        Err(fault) => return Err(fault),
+        Err(fault) => {
+            give_up(world);
+            return Err(fault);
+        }
     }
     match world.finish() {
         Ok(machine) => Ok(machine),

@@ -11,4 +11,4 @@ mod sessions;
 pub use alone::weave_self;
 pub use fault::WeaveFault;
 pub use reader::read_step;
-pub use sessions::weave_session;
+pub use sessions::{give_up, weave_session};

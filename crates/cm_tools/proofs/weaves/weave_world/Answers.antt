@@ -17,7 +17,7 @@ returns-in-Err g c = record {
 
 pub returns-in-Ok-step_world : goal.returns-in-Ok-step_world
 returns-in-Ok-step_world g c = record {
-  does = did_both c.in-Ok.ensures.value c.finish_files.ensures.value (λ trace more opens left. inr (record {
+  does = did_both c.in-Ok.ensures.value c.finish_files-finished.ensures.value (λ trace more opens left. inr (record {
     first = trace;
     second = more;
     did = refl;

@@ -19,8 +19,8 @@ returns-in-Ok-write_all-clause-finished g c = λ ok.
     (subst (λ (xs : List ℕ). Appends (g.O.Sink.contents c.hear_all.new.out) (g.O.Sink.contents c.write_all.new.sink) xs)
     finished-text c.in-Ok-write_all.ensures.ok)
 
-pub returns-in-Ok-finish-clause-err : goal.returns-in-Ok-finish-clause-err
-returns-in-Ok-finish-clause-err g c =
+pub returns-in-Err-write_all-clause-err : goal.returns-in-Err-write_all-clause-err
+returns-in-Err-write_all-clause-err g c =
     let same = exchange_kept g.row.N g.row.CAP c.args.world c.hear_all.new.world c.hear_all.ensures.run in
     let cut = c.in-Err-write_all.ensures.err in
     ends_before_finished (exchange_in g.row.N g.row.CAP c.args.world) c.args.world.world c.hear_all.new.world.world _ _ _
@@ -41,8 +41,8 @@ returns-in-Ok-write_all-2-clause-err g c =
     (subst (λ (xs : List ℕ). Appends (g.O.Sink.contents c.hear_all.new.out) (g.O.Sink.contents c.write_all-in-Err-finish.new.sink)
     xs) unfinished-text c.in-Ok-write_all-2.ensures.ok)
 
-pub returns-clause-err : goal.returns-clause-err
-returns-clause-err g c =
+pub returns-in-Err-write_all-2-clause-err : goal.returns-in-Err-write_all-2-clause-err
+returns-in-Err-write_all-2-clause-err g c =
     let same = exchange_kept g.row.N g.row.CAP c.args.world c.hear_all.new.world c.hear_all.ensures.run in
     let cut = c.in-Err-write_all-2.ensures.err in
     ends_before_unfinished (exchange_in g.row.N g.row.CAP c.args.world) c.args.world.world c.hear_all.new.world.world _ _
@@ -63,8 +63,8 @@ returns-in-Ok-write_all-clause-heard g c =
     (subst (λ (xs : List ℕ). Appends (g.O.Sink.contents c.hear_all.new.out) (g.O.Sink.contents c.write_all.new.sink) xs)
     finished-text c.in-Ok-write_all.ensures.ok)
 
-pub returns-in-Ok-finish-clause-heard : goal.returns-in-Ok-finish-clause-heard
-returns-in-Ok-finish-clause-heard g c =
+pub returns-in-Err-write_all-clause-heard : goal.returns-in-Err-write_all-clause-heard
+returns-in-Err-write_all-clause-heard g c =
     let same = exchange_kept g.row.N g.row.CAP c.args.world c.hear_all.new.world c.hear_all.ensures.run in
     let cut = c.in-Err-write_all.ensures.err in
     some_before_finished (exchange_in g.row.N g.row.CAP c.args.world) c.args.world.world c.hear_all.new.world.world _ _
@@ -84,8 +84,8 @@ returns-in-Ok-write_all-2-clause-heard g c =
     (subst (λ (xs : List ℕ). Appends (g.O.Sink.contents c.hear_all.new.out) (g.O.Sink.contents c.write_all-in-Err-finish.new.sink)
     xs) unfinished-text c.in-Ok-write_all-2.ensures.ok)
 
-pub returns-clause-heard : goal.returns-clause-heard
-returns-clause-heard g c =
+pub returns-in-Err-write_all-2-clause-heard : goal.returns-in-Err-write_all-2-clause-heard
+returns-in-Err-write_all-2-clause-heard g c =
     let same = exchange_kept g.row.N g.row.CAP c.args.world c.hear_all.new.world c.hear_all.ensures.run in
     let cut = c.in-Err-write_all-2.ensures.err in
     some_before_unfinished (exchange_in g.row.N g.row.CAP c.args.world) c.args.world.world c.hear_all.new.world.world _ _
