@@ -1,5 +1,5 @@
 -- The planes of one chip among the rows of many.
-use Rattle.std.proofs.Common.{◌≡◌, ◌≢◌, inl, inr, ℕ, ◌+◌, ◌*◌, ◌<◌, ◌≤◌, zero, suc, List, [], length, get_or, set}
+use Rattle.std.proofs.Common.{◌≡◌, ◌≢◌, ◌⊎◌, inl, inr, ℕ, ◌+◌, ◌*◌, ◌<◌, ◌≤◌, zero, suc, List, [], length, get_or, set}
 use Rattle.std.proofs.Common.{replicate, refl, sym, ap, ◌∙◌, ⊎_elim, arith, lit<, ext_get_or}
 use Rattle.std.proofs.Common.{get_or-set_same, get_or-set_other, length-set}
 use Rattle.std.proofs.lemmas.Bool.{cases_lt}
@@ -40,6 +40,27 @@ next_row i j stride h =
     let more : (i + 1) * stride ≤ j * stride = mul-le (i + 1) stride j stride (omega arith) (omega arith) in
     let is : (i + 1) * stride ≡ i * stride + stride = omega arith in
     omega (arith, more, is)
+
+-- Rows begin a pitch apart. A word of another row than these words, or at another place of it, lies before or after all
+-- of them.
+pub beside_part : (pitch count c d i to : ℕ) → i < pitch → to + count ≤ pitch
+    → ((c < d) ⊎ (d < c)) ⊎ ((i < to) ⊎ (to + count ≤ i))
+    → (c * pitch + i < d * pitch + to) ⊎ (d * pitch + to + count ≤ c * pitch + i)
+beside_part pitch count c d i to inside within other = ⊎_elim
+    (λ (l : c < d). let far : c * pitch + pitch ≤ d * pitch = next_row c d pitch l in inl (omega arith))
+    (λ (no_less : d ≤ c). ⊎_elim
+    (λ (m : d < c). let far : d * pitch + pitch ≤ c * pitch = next_row d c pitch m in inr (omega arith))
+    (λ (no_more : c ≤ d).
+    let same : c ≡ d = omega arith in
+    ⊎_elim
+    (λ (apart : (c < d) ⊎ (d < c)). absurd (⊎_elim (λ (l : c < d). omega arith) (λ (m : d < c). omega arith) apart))
+    (λ (beside : (i < to) ⊎ (to + count ≤ i)). rw same (⊎_elim
+    (λ (b : i < to). inl (omega (arith, b)))
+    (λ (a : to + count ≤ i). inr (omega (arith, a)))
+    beside))
+    other)
+    (cases_lt d c))
+    (cases_lt c d)
 
 pub row_within : (i rows stride : ℕ) → i < rows → i * stride + stride ≤ rows * stride
 row_within i rows stride h = next_row i rows stride h

@@ -145,7 +145,7 @@ row_stored words slots new holds planes capacity used stride address are below o
       (stored_changed (get_or slots address 0 * stride) holds planes words new stored)
 
 -- words that were put into the row of an address
-pub row_put : (words slots new : List ℕ) (word : ℕ → ℕ) (capacity used stride address first count place : ℕ)
+row_put : (words slots new : List ℕ) (word : ℕ → ℕ) (capacity used stride address first count place : ℕ)
     → AreMemorySlots words capacity slots used stride → address < 4096 → 0 < get_or slots address 0
     → first + count ≤ stride → place ≡ get_or slots address 0 * stride + first
     → ((c : ℕ) → c < count → get_or new (place + c) 0 ≡ word c)

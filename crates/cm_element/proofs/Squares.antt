@@ -1,13 +1,12 @@
 -- A square of eight rows and eight chips, which is riffled three times.
-use Rattle.std.proofs.Common.{◌≡◌, ◌⊎◌, inl, inr, ℕ, ◌+◌, ◌-◌, ◌*◌, ◌/◌, ◌%◌, ◌<◌, ◌≤◌, List, ◌++◌, length, map}
-use Rattle.std.proofs.Common.{take, drop, get_or, sym, ap, ◌∙◌, ⊎_elim, arith, length-take, length-drop}
+use Rattle.std.proofs.Common.{◌≡◌, ℕ, ◌+◌, ◌-◌, ◌*◌, ◌/◌, ◌%◌, ◌<◌, ◌≤◌, List, ◌++◌, length, map, take, drop, get_or}
+use Rattle.std.proofs.Common.{sym, ap, ◌∙◌, ⊎_elim, arith, length-take, length-drop}
 use Rattle.std.proofs.lemmas.Bool.{cases_lt}
 use Rattle.std.proofs.lemmas.List.{length-append, get_or-append_right, get_or_append_left, take_all, get_or-take, get_or-drop}
 use Rattle.std.proofs.lemmas.List.FromFn.{length-map-range_with_len, get_or-map-range_with_len}
 use Rattle.std.proofs.lemmas.Simd.{put_chunk_whole, length-chunk}
 use Rattle.std.specs.List.{range_with_len}
 use Rattle.cm_element.specs.Laid.{IsRowLaid}
-use Rattle.cm_element.proofs.Columns.{next_row}
 use borrow.Rule.Slice.PartMut.{put_mid, post_of}
 use lib.Lanes.{put_chunk, chunk}
 
@@ -155,23 +154,3 @@ eight_put at source k j old from k_is j_is within inside =
           ∙ get_or-drop at old (k + (i - at - 8)) 0
           ∙ ap (λ (n : ℕ). get_or old n 0) there;
     })
-
--- Chips lie a pitch apart. A word of one lies before eight words of another, or of other addresses, or after them.
-pub beside_eight : (pitch c d i to : ℕ) → i < pitch → to + 8 ≤ pitch
-    → ((c < d) ⊎ (d < c)) ⊎ ((i < to) ⊎ (to + 8 ≤ i))
-    → (c * pitch + i < d * pitch + to) ⊎ (d * pitch + to + 8 ≤ c * pitch + i)
-beside_eight pitch c d i to inside within other = ⊎_elim
-    (λ (l : c < d). let far : c * pitch + pitch ≤ d * pitch = next_row c d pitch l in inl (omega arith))
-    (λ (no_less : d ≤ c). ⊎_elim
-    (λ (m : d < c). let far : d * pitch + pitch ≤ c * pitch = next_row d c pitch m in inr (omega arith))
-    (λ (no_more : c ≤ d).
-    let same : c ≡ d = omega arith in
-    ⊎_elim
-    (λ (apart : (c < d) ⊎ (d < c)). absurd (⊎_elim (λ (l : c < d). omega arith) (λ (m : d < c). omega arith) apart))
-    (λ (beside : (i < to) ⊎ (to + 8 ≤ i)). rw same (⊎_elim
-    (λ (b : i < to). inl (omega (arith, b)))
-    (λ (a : to + 8 ≤ i). inr (omega (arith, a)))
-    beside))
-    other)
-    (cases_lt d c))
-    (cases_lt c d)

@@ -15,6 +15,7 @@ mod flags;
 mod lay;
 mod memory;
 mod outputs;
+mod room;
 mod rows;
 mod square;
 mod view;

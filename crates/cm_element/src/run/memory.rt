@@ -4,7 +4,7 @@ ghost use Rattle.std.specs.Prelude.{◌≡◌, ◌≢◌, ◌⊎◌, ℕ, ◌+�
 ghost use Rattle.std.specs.Prelude.{slice_index, slice_set, IfOk, IsTrue, replicate, vec_capacity};
 ghost use Rattle.cm_bits.specs.Bit.{bit};
 ghost use Rattle.cm_model.specs.Array.{chip_at};
-ghost use Rattle.cm_element.specs.Laid.{AreLaidRows, AreTurnedRows, IsRowLaid, IsRowTurned};
+ghost use Rattle.cm_element.specs.Laid.{AreLaidRows, AreTurnedRows, IsRowLaid};
 ghost use Rattle.cm_element.specs.Puts.{ArePut};
 ghost use Rattle.cm_element.specs.Runs.{chips_of, AreRows};
 ghost use Rattle.cm_element.specs.Sparse.{spread, AreMemorySlots};
@@ -13,8 +13,9 @@ ghost use Rattle.cm_element.specs.Wide.{with_memory_field};
 ghost use Rattle.cm_rows.specs.Rows.{IsComputed};
 
 use crate::run::flags::has_ones;
-use crate::run::lay::{Band, turn_row, write_row};
+use crate::run::lay::{Band, write_row};
 use crate::run::outputs::store_row;
+use crate::run::room::{ROOM, WIDTH, fill_room};
 use crate::run::rows::put_row;
 use crate::run::square::{EIGHT, SQUARE, put_eight, put_square, transpose};
 use crate::run::{ADDRESSES, FIELD_PITCH, PITCH};
@@ -364,7 +365,7 @@ impl MemoryRows {
         turn_squares(from, &self.slots, self.stride, at, eights, planes);
     }
 
-    /// Puts the planes of so many chips, which lie chip by chip, into the rows.
+    /// Puts the planes of so many chips, which lie chip by chip, into the rows, at eight addresses at once.
     pub(crate) fn turn(&mut self, here: Band, planes: &[Plane], count: usize)
         requires to { length self.old ≡ 4096 * here.stride }
         requires here { here.first + count ≤ here.stride }
@@ -372,29 +373,64 @@ impl MemoryRows {
         ensures value { AreTurnedRows here 4096 4128 count planes.now self.old self.new }
         ensures words { length self.new ≡ length self.old }
     {
-        for row in 0..ADDRESSES {
-            self.turn_row(row, here, planes, count);
+        let mut room: [Plane; ROOM] = [0; ROOM];
+        for g in 0..GROUPS {
+            self.turn_rows(g * EIGHT, here, planes, count, &mut room);
         }
     }
 
-    /// Puts those of one address into its row.
-    fn turn_row(&mut self, row: usize, here: Band, planes: &[Plane], count: usize)
-        requires row { row < 4096 }
+    /// Puts those of eight addresses into their rows, by way of a room: of as many chips at once as it has columns.
+    fn turn_rows(
+        &mut self,
+        at: usize,
+        here: Band,
+        planes: &[Plane],
+        count: usize,
+        room: &mut [Plane],
+    )
+        requires at { at + 8 ≤ 4096 }
         requires to { length self.old ≡ 4096 * here.stride }
         requires here { here.first + count ≤ here.stride }
         requires planes { count * 4128 ≤ length planes.now }
-        ensures value { IsRowTurned (row * here.stride + here.first) row 4128 count planes.now self.old self.new }
+        requires room { length room.old ≡ 2048 }
+        ensures laid { (k c : ℕ) → k < 8 → c < count
+            → slice_index self.new ((at + k) * here.stride + (here.first + c))
+            ≡ slice_index planes.now (c * 4128 + (at + k)) }
+        ensures others { (i k : ℕ) → k < here.stride
+            → ((i < at) ⊎ (at + 8 ≤ i)) ⊎ ((k < here.first) ⊎ (here.first + count ≤ k))
+            → slice_index self.new (i * here.stride + k) ≡ slice_index self.old (i * here.stride + k) }
         ensures words { length self.new ≡ length self.old }
     {
-        self.used = own(
-            &mut self.words,
-            &mut self.slots,
-            self.used,
-            self.stride,
-            row,
-        );
-        let place = start(&self.words, &self.slots, self.used, self.stride, row) + here.first;
-        turn_row::<PITCH>(&mut self.words, place, planes, row, count);
+        let mut done = 0;
+        while done < count {
+            let some = WIDTH.min(count - done);
+            fill_room(room, planes, done, at, some);
+            let part = Band {
+                stride: here.stride,
+                first: here.first + done,
+            };
+            self.lay_room(at, part, room, some);
+            done += some;
+        }
+    }
+
+    /// Puts so many words of each row of a room into the row of its address.
+    fn lay_room(&mut self, at: usize, here: Band, room: &[Plane], some: usize)
+        requires at { at + 8 ≤ 4096 }
+        requires to { length self.old ≡ 4096 * here.stride }
+        requires here { here.first + some ≤ here.stride }
+        requires room { length room.now ≡ 2048 }
+        requires some { some ≤ 256 }
+        ensures laid { (k c : ℕ) → k < 8 → c < some
+            → slice_index self.new ((at + k) * here.stride + (here.first + c)) ≡ slice_index room.now (k * 256 + c) }
+        ensures others { (i k : ℕ) → k < here.stride
+            → ((i < at) ⊎ (at + 8 ≤ i)) ⊎ ((k < here.first) ⊎ (here.first + some ≤ k))
+            → slice_index self.new (i * here.stride + k) ≡ slice_index self.old (i * here.stride + k) }
+        ensures words { length self.new ≡ length self.old }
+    {
+        for k in 0..EIGHT {
+            self.fill(at + k, here, &room[k * WIDTH..k * WIDTH + some]);
+        }
     }
 
     /// Puts words into the row of an address.
@@ -427,8 +463,8 @@ fn start(words: &Vec<Plane>, slots: &Vec<u16>, used: usize, stride: usize, at: u
     usize::from(slots[at]) * stride
 }
 
-/// Writes the planes of so many times eight chips, chip by chip and eight addresses after eight. The words are those
-/// from the first of these chips on. They are given as slices, so that no word that is written can be one that tells
+/// Writes the planes of so many times eight chips, chip by chip: at eight addresses at once. The words are those from the
+/// first of these chips on. They are given as slices, so that no word that is written can be one that tells
 /// where the words lie: nothing is looked up again for each eight.
 fn turn_eights(words: &[Plane], slots: &[u16], stride: usize, eights: usize, planes: &mut [Plane])
     requires slots { length slots.now ≡ 4096 }

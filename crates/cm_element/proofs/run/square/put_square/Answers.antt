@@ -1,7 +1,6 @@
 use Rattle.std.proofs.Common.{◌≡◌, ◌⊎◌, inl, inr, ℕ, ◌+◌, ◌*◌, ◌<◌, ◌≤◌, get_or, ap, ◌∙◌, ⊎_elim, arith}
 use Rattle.std.proofs.lemmas.Bool.{cases_lt}
-use Rattle.cm_element.proofs.Columns.{next_row}
-use Rattle.cm_element.proofs.Squares.{beside_eight}
+use Rattle.cm_element.proofs.Columns.{next_row, beside_part}
 use Rattle.cm_element.proofs.run.square.put_square.Goals as goal
 
 pub loop-c-preserved : goal.loop-c-preserved
@@ -32,5 +31,5 @@ loop-c-preserved g c =
           ⊎_elim
           (λ (b : j * pitch + i < (chip + here) * pitch + to). put.below (j * pitch + i) b)
           (λ (a : (chip + here) * pitch + to + 8 ≤ j * pitch + i). put.above (j * pitch + i) a)
-          (beside_eight pitch j (chip + here) i to inside c.requires.to apart) ∙ now.others j i inside other;
+          (beside_part pitch 8 j (chip + here) i to inside c.requires.to apart) ∙ now.others j i inside other;
     }

@@ -1,25 +1,25 @@
-use Rattle.std.proofs.Common.{ℕ, List, ◌+◌, ◌*◌, drop, get_or, sym, ◌∙◌}
-use Rattle.std.proofs.lemmas.List.{get_or-drop}
-use Rattle.cm_element.proofs.Laying.{put_more, others_more, IsPutAt}
+use Rattle.std.proofs.Common.{◌≡◌, ◌⊎◌, inl, inr, ℕ, ◌+◌, ◌-◌, ◌*◌, ◌<◌, ◌≤◌, ◌∙◌, ⊎_elim, arith}
+use Rattle.std.proofs.lemmas.Bool.{cases_lt}
 use Rattle.cm_element.proofs.run.memory.MemoryRows.turn.Goals as goal
 
-pub loop-row-preserved : goal.loop-row-preserved
-loop-row-preserved c =
+pub loop-g-preserved : goal.loop-g-preserved
+loop-g-preserved c =
+    let now = c.loop-g.invariant in
+    let put = c.turn_rows.ensures in
+    let at : ℕ = c.loop-g.g * 8 in
     let here = c.args.here in
-    let row : ℕ = c.loop-row.row in
-    let planes : List ℕ = c.args.planes.now in
-    let place : ℕ = row * here.stride + here.first in
-    let new : List ℕ = c.turn_row.new.self in
-    let put : IsPutAt place c.args.count (drop place new) c.loop-row.self new = record {
-      value = λ k h. sym (get_or-drop place new k 0);
-      below = c.turn_row.ensures.value.below;
-      above = c.turn_row.ensures.value.above;
-    } in
     record {
-      words = c.turn_row.ensures.words ∙ c.loop-row.invariant.words;
-      laid = put_more here row c.args.count (λ i k. get_or planes (k * 4128 + i) 0) c.loop-row.self new (drop place new)
-          c.requires.here put (λ k h. get_or-drop place new k 0 ∙ c.turn_row.ensures.value.laid k h)
-          c.loop-row.invariant.laid;
-      others = others_more here row c.args.count c.args.self.now c.loop-row.self new (drop place new) c.requires.here put
-          c.loop-row.invariant.others;
+      words = put.words ∙ now.words;
+      laid = λ i p less small. ⊎_elim
+          (λ (l : i < at). put.others i (here.first + p) (omega (arith, small, c.requires.here)) (inl (inl l))
+          ∙ now.laid i p l small)
+          (λ (l : at ≤ i).
+          let back : at + (i - at) ≡ i = omega arith in
+          rw back at (put.laid (i - at) p (omega arith) small))
+          (cases_lt i at);
+      others = λ i k inside out. ⊎_elim
+          (λ (l : at + 8 ≤ i). put.others i k inside (inl (inr l)) ∙ now.others i k inside (inl (omega arith)))
+          (λ (beside : (k < here.first) ⊎ (here.first + c.args.count ≤ k)). put.others i k inside (inr beside)
+          ∙ now.others i k inside (inr beside))
+          (⊎_elim (λ (l : (c.loop-g.g + 1) * 8 ≤ i). inl (omega (arith, l))) (λ beside. inr beside) out);
     }
