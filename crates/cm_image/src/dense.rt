@@ -11,7 +11,7 @@ ghost use Rattle.cm_image.specs.Planes.{AreCounted, chips_text, plane_listing, l
 ghost use Rattle.cm_image.specs.Sending.{GoesOut, GoesOutInPart, is_dump_write};
 
 use crate::dumps::{LISTING_LEN, push_flags, push_messages, push_plane};
-use crate::numbers::{EIGHT, EIGHT_LEN, eight_from, put_eight};
+use crate::numbers::{AT_ONCE, EIGHT_LEN, eight_from, put_eight};
 use cm_array::Machine;
 use cm_bits::{ADDRESSES, NoMemory, Plane};
 use cm_element::{ChipView, PITCH};
@@ -102,8 +102,8 @@ fn list_all(listed: &mut [u8], planes: &[Plane])
     requires long { 4096 ≤ length planes.now }
     ensures full { ((a : ℕ) → a < 4096 → slice_index planes.now a ≢ 0) → listed.new ≡ listings planes.now 4096 }
 {
-    for k in 0..usize::from(ADDRESSES) / EIGHT {
-        list_eight(listed, k * EIGHT, planes);
+    for k in 0..usize::from(ADDRESSES) / AT_ONCE {
+        list_eight(listed, k * AT_ONCE, planes);
     }
 }
 
@@ -117,7 +117,7 @@ fn list_eight(listed: &mut [u8], at: usize, planes: &[Plane])
         → take (4 * at) listed.old ≡ listings planes.now at
         → take (4 * (at + 8)) listed.new ≡ listings planes.now (at + 8) }
 {
-    let words = u16x8::from_slice(&planes[at..at + EIGHT]);
+    let words = u16x8::from_slice(&planes[at..at + AT_ONCE]);
     let (first, second) = eight_from(at).interleave(words);
     put_eight(listed, LISTING_LEN * at, first);
     put_eight(listed, LISTING_LEN * at + EIGHT_LEN, second);

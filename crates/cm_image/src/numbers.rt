@@ -9,7 +9,7 @@ ghost use Rattle.cm_image_format.specs.Reading.{number_at};
 use std::simd::prelude::*;
 
 /// So many numbers are written and read at once.
-pub(crate) const EIGHT: usize = 8;
+pub(crate) const AT_ONCE: usize = 8;
 
 /// The bytes of eight numbers.
 pub(crate) const EIGHT_LEN: usize = 16;

@@ -11,7 +11,7 @@ ghost use Rattle.cm_image_format.specs.Whole.{planes_of};
 ghost use Rattle.cm_image.specs.WaitingChips.{with_waiting, AreListedFrom};
 
 use crate::dumps::LISTING_LEN;
-use crate::numbers::{EIGHT, EIGHT_LEN, eight_at, eight_from};
+use crate::numbers::{AT_ONCE, EIGHT_LEN, eight_at, eight_from};
 use cm_array::Builder;
 use cm_bits::{ADDRESSES, FLAGS, NoMemory, Plane};
 use cm_element::PITCH;
@@ -177,8 +177,8 @@ fn take_planes(memory: &mut [Plane], place: usize, bytes: &[u8]) -> bool
     let mut off = none;
     let mut least = u16x8::splat(Plane::MAX);
     // Nothing is left early, so that eight are taken with no branch.
-    for k in 0..usize::from(ADDRESSES) / EIGHT {
-        let at = k * EIGHT;
+    for k in 0..usize::from(ADDRESSES) / AT_ONCE {
+        let at = k * AT_ONCE;
         let (addresses, listed) = listings_at(bytes, LISTING_LEN * at);
         put_words(memory, place + at, listed);
         off |= addresses - eight_from(at);
@@ -208,7 +208,7 @@ fn put_words(list: &mut [Plane], at: usize, words: u16x8)
     ensures value { (j : ℕ) → j < 8 → slice_index list.new (at + j) ≡ slice_index words j }
     ensures below { (i : ℕ) → i < at → slice_index list.new i ≡ slice_index list.old i }
 {
-    words.copy_to_slice(&mut list[at..at + EIGHT]);
+    words.copy_to_slice(&mut list[at..at + AT_ONCE]);
 }
 
 /// Puts the flag planes of a chip into a list from a place on.

@@ -463,9 +463,9 @@ fn start(words: &Vec<Plane>, slots: &Vec<u16>, used: usize, stride: usize, at: u
     usize::from(slots[at]) * stride
 }
 
-/// Writes the planes of so many times eight chips, chip by chip: at eight addresses at once. The words are those from the
-/// first of these chips on. They are given as slices, so that no word that is written can be one that tells
-/// where the words lie: nothing is looked up again for each eight.
+/// Writes the planes of so many times eight chips, chip by chip: at eight addresses at once. The words are those from
+/// the first of these chips on. They are given as slices, so that no word that is written can be one that tells where the
+/// words lie: nothing is looked up again for each eight.
 fn turn_eights(words: &[Plane], slots: &[u16], stride: usize, eights: usize, planes: &mut [Plane])
     requires slots { length slots.now ≡ 4096 }
     requires few { stride < 2 ^ 20 }
@@ -499,7 +499,11 @@ fn turn_chips(
         → slice_index planes.new (c * 4128 + i) ≡ slice_index planes.old (c * 4128 + i) }
 {
     for q in 0..eights {
-        turn_square::<PITCH>(words, slots, stride, at, planes, q * EIGHT, at);
+        let chips = Band {
+            stride,
+            first: q * EIGHT,
+        };
+        turn_square::<PITCH>(words, slots, chips, at, planes, at);
     }
 }
 
@@ -522,8 +526,9 @@ fn turn_squares(
     ensures value { (c k : ℕ) → c < 8 → k < eights * 8 → slice_index planes.new (c * 64 + k)
         ≡ slice_index words.now (slice_index slots.now (at + k) * stride + c) }
 {
+    let chips = Band { stride, first: 0 };
     for g in 0..eights {
-        turn_square::<FIELD_PITCH>(words, slots, stride, at + g * EIGHT, planes, 0, g * EIGHT);
+        turn_square::<FIELD_PITCH>(words, slots, chips, at + g * EIGHT, planes, g * EIGHT);
     }
 }
 
@@ -533,49 +538,47 @@ fn turn_squares(
 fn turn_square<const PITCH: usize>(
     words: &[Plane],
     slots: &[u16],
-    stride: usize,
+    chips: Band,
     at: usize,
     planes: &mut [Plane],
-    chip: usize,
     to: usize,
 )
     requires slots { length slots.now ≡ 4096 }
-    requires few { stride < 2 ^ 20 }
-    requires rows { (i : ℕ) → i < 4096 → slice_index slots.now i * stride + (chip + 8) ≤ length words.now }
+    requires few { chips.stride < 2 ^ 20 }
+    requires rows { (i : ℕ) → i < 4096 → slice_index slots.now i * chips.stride + (chips.first + 8) ≤ length words.now }
     requires at { at + 8 ≤ 4096 }
-    requires planes { (chip + 8) * PITCH ≤ length planes.old }
+    requires planes { (chips.first + 8) * PITCH ≤ length planes.old }
     requires to { to + 8 ≤ PITCH }
-    ensures value { (c k : ℕ) → c < 8 → k < 8 → slice_index planes.new ((chip + c) * PITCH + (to + k))
-        ≡ slice_index words.now (slice_index slots.now (at + k) * stride + (chip + c)) }
-    ensures others { (c i : ℕ) → i < PITCH → ((c < chip) ⊎ (chip + 8 ≤ c)) ⊎ ((i < to) ⊎ (to + 8 ≤ i))
+    ensures value { (c k : ℕ) → c < 8 → k < 8 → slice_index planes.new ((chips.first + c) * PITCH + (to + k))
+        ≡ slice_index words.now (slice_index slots.now (at + k) * chips.stride + (chips.first + c)) }
+    ensures others { (c i : ℕ) → i < PITCH → ((c < chips.first) ⊎ (chips.first + 8 ≤ c)) ⊎ ((i < to) ⊎ (to + 8 ≤ i))
         → slice_index planes.new (c * PITCH + i) ≡ slice_index planes.old (c * PITCH + i) }
 {
     let mut square: [Plane; SQUARE] = [0; SQUARE];
-    read_square(words, slots, stride, at, chip, &mut square);
+    read_square(words, slots, chips, at, &mut square);
     transpose(&mut square);
-    put_square::<PITCH>(planes, chip, to, &square);
+    put_square::<PITCH>(planes, chips.first, to, &square);
 }
 
 /// Reads the words of eight chips, from one on, at eight addresses, row by row.
 fn read_square(
     words: &[Plane],
     slots: &[u16],
-    stride: usize,
+    chips: Band,
     at: usize,
-    chip: usize,
     square: &mut [Plane],
 )
     requires slots { length slots.now ≡ 4096 }
-    requires few { stride < 2 ^ 20 }
-    requires rows { (i : ℕ) → i < 4096 → slice_index slots.now i * stride + (chip + 8) ≤ length words.now }
+    requires few { chips.stride < 2 ^ 20 }
+    requires rows { (i : ℕ) → i < 4096 → slice_index slots.now i * chips.stride + (chips.first + 8) ≤ length words.now }
     requires at { at + 8 ≤ 4096 }
     requires square { length square.old ≡ 64 }
     ensures value { (k c : ℕ) → k < 8 → c < 8 → slice_index square.new (k * 8 + c)
-        ≡ slice_index words.now (slice_index slots.now (at + k) * stride + (chip + c)) }
+        ≡ slice_index words.now (slice_index slots.now (at + k) * chips.stride + (chips.first + c)) }
 {
     for k in 0..EIGHT {
         let slot = usize::from(slots[at + k]);
-        put_eight(square, k * EIGHT, words, slot * stride + chip);
+        put_eight(square, k * EIGHT, words, slot * chips.stride + chips.first);
     }
 }
 

@@ -7,7 +7,8 @@ loop-k-preserved c =
     let put = c.put_eight.ensures.value in
     let here : ℕ = c.loop-k.k in
     let slot : c.from-slot.result ≡ get_or c.args.slots.now (c.args.at + here) 0 = c.from-slot.ensures in
-    let place : (i n : ℕ) → n * c.args.stride + c.args.chip + i ≡ n * c.args.stride + (c.args.chip + i) =
+    let chips = c.args.chips in
+    let place : (i n : ℕ) → n * chips.stride + chips.first + i ≡ n * chips.stride + (chips.first + i) =
     λ i n. omega arith in
     record {
       done = λ j i few small. ⊎_elim
@@ -15,6 +16,6 @@ loop-k-preserved c =
           (λ (l : here ≤ j). let same : j ≡ here = omega arith in
           rw same (put.laid i small
           ∙ ap (λ (n : ℕ). get_or c.args.words.now n 0) (place i c.from-slot.result)
-          ∙ ap (λ (n : ℕ). get_or c.args.words.now (n * c.args.stride + (c.args.chip + i)) 0) slot))
+          ∙ ap (λ (n : ℕ). get_or c.args.words.now (n * c.args.chips.stride + (c.args.chips.first + i)) 0) slot))
           (cases_lt j here);
     }
