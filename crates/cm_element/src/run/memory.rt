@@ -561,13 +561,7 @@ fn turn_square<const PITCH: usize>(
 }
 
 /// Reads the words of eight chips, from one on, at eight addresses, row by row.
-fn read_square(
-    words: &[Plane],
-    slots: &[u16],
-    chips: Band,
-    at: usize,
-    square: &mut [Plane],
-)
+fn read_square(words: &[Plane], slots: &[u16], chips: Band, at: usize, square: &mut [Plane])
     requires slots { length slots.now ≡ 4096 }
     requires few { chips.stride < 2 ^ 20 }
     requires rows { (i : ℕ) → i < 4096 → slice_index slots.now i * chips.stride + (chips.first + 8) ≤ length words.now }
