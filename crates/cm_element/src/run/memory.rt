@@ -464,8 +464,8 @@ fn start(words: &Vec<Plane>, slots: &Vec<u16>, used: usize, stride: usize, at: u
 }
 
 /// Writes the planes of so many times eight chips, chip by chip: at eight addresses at once. The words are those from
-/// the first of these chips on. They are given as slices, so that no word that is written can be one that tells where the
-/// words lie: nothing is looked up again for each eight.
+/// the first of these chips on. They are given as slices, so that no word that is written can be one that tells
+/// where the words lie: nothing is looked up again for each eight.
 fn turn_eights(words: &[Plane], slots: &[u16], stride: usize, eights: usize, planes: &mut [Plane])
     requires slots { length slots.now ≡ 4096 }
     requires few { stride < 2 ^ 20 }
