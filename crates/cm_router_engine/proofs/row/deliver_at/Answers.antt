@@ -54,7 +54,7 @@ loop-ticket-preserved-then-is_delivered c =
     let place = c.args.chip in
     let first : Chips = run_after c.args.deliveries.now run in
     let old : Chips = run_after c.loop-ticket.deliveries run in
-    let m = message_of_ticket c.args.row.now c.in-Some.ticket in
+    let m = message_of_ticket c.args.row.now.items c.in-Some.ticket in
     let chip : List Processor = chip_after_delivery (m ∷ []) (chip_at old place) in
     let put = step.later run in
     let now : chip_at (run_after c.is_delivered.new.deliveries run) place ≡ chip =
@@ -70,10 +70,10 @@ loop-ticket-preserved-then-is_delivered c =
     (can_receive (chip_at (run_after c.is_delivered.new.deliveries run) place)) =
     rw now (step.receivers (chip_at first place) (chip_at old place) was.scan.seen was.scan.gone was.receivers) in
     record {
-      scan = scan_to c.loop-ticket.place c.next_given-place.result c.args.row.now (nth_or_nil c.remove.new.self place)
+      scan = scan_to c.loop-ticket.place c.next_given-place.result c.args.row.now.items (nth_or_nil c.remove.new.self place)
           passing.from passing.within
           (λ j t from below at. passing.passed j t from below at (chip_at first place) _ able)
-          (rw (here, step.log, now) (scan_taken c.args.row.now queue c.in-Some.ticket is was.scan next));
+          (rw (here, step.log, now) (scan_taken c.args.row.now.items queue c.in-Some.ticket is was.scan next));
       run = written_again place first old _ chip put now was.run;
       inside = omega (arith, was.inside, ap length put, length-set old place chip);
       receivers = able;
@@ -94,7 +94,7 @@ loop-ticket-preserved c =
     let place = c.args.chip in
     let first : Chips = run_after c.args.deliveries.now run in
     let old : Chips = run_after c.loop-ticket.deliveries run in
-    let m = message_of_ticket c.args.row.now c.in-Some.ticket in
+    let m = message_of_ticket c.args.row.now.items c.in-Some.ticket in
     let chip : List Processor = chip_at old place in
     let put = step.later run in
     let now : chip_at (run_after c.is_delivered.new.deliveries run) place ≡ chip =
@@ -108,10 +108,10 @@ loop-ticket-preserved c =
     (can_receive (chip_at (run_after c.is_delivered.new.deliveries run) place)) =
     rw now (step.receivers (chip_at first place) chip was.scan.seen was.scan.gone was.receivers) in
     record {
-      scan = scan_to (c.loop-ticket.place + 1) c.next_given-place-else-is_delivered.result c.args.row.now queue
+      scan = scan_to (c.loop-ticket.place + 1) c.next_given-place-else-is_delivered.result c.args.row.now.items queue
           passing.from passing.within
           (λ j t from below at. passing.passed j t from below at (chip_at first place) _ able)
-          (rw (step.log, append-nil, now) (scan_passed c.args.row.now queue c.in-Some.ticket is was.scan next));
+          (rw (step.log, append-nil, now) (scan_passed c.args.row.now.items queue c.in-Some.ticket is was.scan next));
       run = written_again place first old _ chip put now was.run;
       inside = omega (arith, was.inside, ap length put, length-set old place chip);
       receivers = able;
