@@ -13,3 +13,5 @@ mod Lengths
 mod Counting
 mod Blanks
 mod Longest
+mod Eights
+mod Judging

@@ -1,35 +1,16 @@
 -- The planes of all addresses, as they are listed one after another.
-use Rattle.std.proofs.Common.{◌≡◌, ℕ, zero, suc, ◌+◌, ◌*◌, ◌<◌, ◌≤◌, ◌++◌, List, [], ◌∷◌, refl, sym, ap, ◌∙◌, arith}
-use Rattle.std.proofs.Common.{take, set, length, get_or, append_assoc}
-use Rattle.std.proofs.lemmas.List.{length-set}
-use Rattle.std.proofs.lemmas.Grind.{take-set_at}
+use Rattle.std.proofs.Common.{◌≡◌, ℕ, zero, suc, ◌+◌, ◌*◌, ◌/◌, ◌%◌, ◌<◌, ◌≤◌, ◌≢◌, ◌++◌, List, [], ◌∷◌, refl, sym, ap, ◌∙◌}
+use Rattle.std.proofs.Common.{arith, take, get_or, map, append_assoc}
+use Rattle.std.specs.Int.{w16}
+use Rattle.std.specs.List.{flat_map, range_with_len}
+use Rattle.std.proofs.lemmas.Bool.{cond-false, ne_eqb}
+use Rattle.std.proofs.lemmas.List.{append-nil}
 use Rattle.cm_model.specs.Each.{tabulate}
 use Rattle.cm_model.specs.Processor.{Processor}
+use Rattle.cm_message.specs.Bytes.{number_bytes}
 use Rattle.cm_image_format.specs.Whole.{memory_plane_of}
 use Rattle.cm_image.specs.Planes.{listings, plane_listing, listed_below, planes_below}
 use Rattle.cm_image.proofs.Dumping.{made_zero, made_more, listed_step}
-
-in_a_row : (xs : List ℕ) (a b c d : ℕ)
-    → (((xs ++ a ∷ []) ++ b ∷ []) ++ c ∷ []) ++ d ∷ [] ≡ xs ++ a ∷ b ∷ c ∷ d ∷ []
-in_a_row xs a b c d = simp append_assoc
-
--- four bytes that are put behind others
-pub four_put : (xs : List ℕ) (n a b c d : ℕ) → n + 4 ≤ length xs
-    → take (n + 4) (set (set (set (set xs n a) (n + 1) b) (n + 2) c) (n + 3) d) ≡ take n xs ++ a ∷ b ∷ c ∷ d ∷ []
-four_put xs n a b c d h =
-    let one : List ℕ = set xs n a in
-    let two : List ℕ = set one (n + 1) b in
-    let three : List ℕ = set two (n + 2) c in
-    let first : take (n + 1) one ≡ take n xs ++ a ∷ [] = take-set_at xs n (n + 1) a (omega arith) (omega (arith, h)) in
-    let second : take (n + 2) two ≡ take (n + 1) one ++ b ∷ [] =
-    take-set_at one (n + 1) (n + 2) b (omega arith) (omega (arith, h, length-set xs n a)) in
-    let third : take (n + 3) three ≡ take (n + 2) two ++ c ∷ [] =
-    take-set_at two (n + 2) (n + 3) c (omega arith)
-    (omega (arith, h, length-set xs n a, length-set one (n + 1) b)) in
-    take-set_at three (n + 3) (n + 4) d (omega arith)
-    (omega (arith, h, length-set xs n a, length-set one (n + 1) b, length-set two (n + 2) c))
-    ∙ (λ i. (third ∙ (λ j. (second ∙ (λ k. first k ++ b ∷ [])) j ++ c ∷ [])) i ++ d ∷ [])
-    ∙ in_a_row (take n xs) a b c d
 
 pub listings_none : (planes text : List ℕ) → text ≡ text ++ listings planes 0
 unfolding listings
@@ -52,11 +33,69 @@ same_listings chip planes (suc n) same =
     ∙ (λ i. same_listings chip planes n (λ a h. same a (omega (arith, h))) i ++ plane_listing n (same n (omega arith) i))
     ∙ sym (listed_step chip n) ∙ ap (listed_below chip) (sym one)
 
--- and one more, behind those that were put
-pub listed_more : (planes before after : List ℕ) (at i : ℕ) → i ≡ 4 * at → take i before ≡ listings planes at
-    → take (i + 4) after ≡ take i before ++ plane_listing at (get_or planes at 0)
-    → take (4 * (at + 1)) after ≡ listings planes (at + 1)
-listed_more planes before after at i is told more =
-    let end : 4 * (at + 1) ≡ i + 4 = omega (arith, is) in
-    ap (λ (k : ℕ). take k after) end ∙ more ∙ ap (λ (xs : List ℕ). xs ++ plane_listing at (get_or planes at 0)) told
-    ∙ sym (listings_step planes at)
+-- addresses from one on, each with its plane behind it
+abbrev pub entries : List ℕ → ℕ → ℕ → List ℕ
+entries planes at zero = []
+entries planes at (suc n) = at ∷ get_or planes at 0 ∷ entries planes (at + 1) n
+
+one_on : (planes : List ℕ) (at : ℕ) → get_or planes at 0 ≢ 0
+    → listings planes (at + 1) ≡ listings planes at ++ (number_bytes w16 at ++ number_bytes w16 (get_or planes at 0))
+one_on planes at some =
+    let plane : ℕ = get_or planes at 0 in
+    listings_step planes at
+    ∙ ap (λ (xs : List ℕ). listings planes at ++ xs)
+    (cond-false _ [] (number_bytes w16 at ++ number_bytes w16 plane) (ne_eqb plane 0 some))
+
+joined : (a b c d : List ℕ) → a ++ (b ++ (c ++ d)) ≡ (a ++ (b ++ c)) ++ d
+joined a b c d = simp append_assoc
+
+-- behind the planes of the addresses below, those that are not 0 are listed by their bytes
+pub listed_on : (planes : List ℕ) (n at end : ℕ) → at + n ≡ end
+    → ((a : ℕ) → at ≤ a → a < end → get_or planes a 0 ≢ 0)
+    → listings planes at ++ flat_map (number_bytes w16) (entries planes at n) ≡ listings planes end
+listed_on planes zero at end is some = append-nil (listings planes at) ∙ ap (listings planes) (omega (arith, is))
+listed_on planes (suc n) at end is some =
+    let rest : List ℕ = flat_map (number_bytes w16) (entries planes (at + 1) n) in
+    joined (listings planes at) (number_bytes w16 at) (number_bytes w16 (get_or planes at 0)) rest
+    ∙ ap (λ (xs : List ℕ). xs ++ rest) (sym (one_on planes at (some at (omega arith) (omega (arith, is)))))
+    ∙ listed_on planes n (at + 1) end (omega (arith, is)) (λ a l h. some a (omega (arith, l)) h)
+
+-- ---- eight addresses at once
+
+-- eight addresses with their planes laid between them, from a place on
+abbrev pub laid_between : List ℕ → List ℕ → ℕ → List ℕ
+laid_between addresses planes from = map (λ n. get_or (addresses ++ planes) (n % 2 * 8 + n / 2) 0) (range_with_len from 8)
+
+pair : (a b c d : ℕ) (xs ys : List ℕ) → a ≡ b → c ≡ d → xs ≡ ys → a ∷ c ∷ xs ≡ b ∷ d ∷ ys
+pair a b c d xs ys first second rest = λ i. first i ∷ second i ∷ rest i
+
+pub four_entries : (planes addresses eight : List ℕ) (at : ℕ) → addresses ≡ map (λ j. at + j) (range_with_len 0 8)
+    → ((n : ℕ) → n < 8 → get_or eight n 0 ≡ get_or planes (at + n) 0)
+    → laid_between addresses eight 0 ≡ entries planes at 4
+four_entries planes addresses eight at follow same =
+    let plane : (n k : ℕ) → n < 8 → at + n ≡ k → get_or eight n 0 ≡ get_or planes k 0 =
+    λ n k h is. same n h ∙ ap (λ (j : ℕ). get_or planes j 0) is in
+    ap (λ (l : List ℕ). laid_between l eight 0) follow
+    ∙ pair _ _ _ _ _ _ (omega arith) (plane 0 _ (omega arith) (omega arith))
+    (pair _ _ _ _ _ _ (omega arith) (plane 1 _ (omega arith) (omega arith))
+    (pair _ _ _ _ _ _ (omega arith) (plane 2 _ (omega arith) (omega arith))
+    (pair _ _ _ _ _ _ (omega arith) (plane 3 _ (omega arith) (omega arith)) refl)))
+
+pub next_entries : (planes addresses eight : List ℕ) (at : ℕ) → addresses ≡ map (λ j. at + j) (range_with_len 0 8)
+    → ((n : ℕ) → n < 8 → get_or eight n 0 ≡ get_or planes (at + n) 0)
+    → laid_between addresses eight 8 ≡ entries planes (at + 4) 4
+next_entries planes addresses eight at follow same =
+    let plane : (n k : ℕ) → n < 8 → at + n ≡ k → get_or eight n 0 ≡ get_or planes k 0 =
+    λ n k h is. same n h ∙ ap (λ (j : ℕ). get_or planes j 0) is in
+    ap (λ (l : List ℕ). laid_between l eight 8) follow
+    ∙ pair _ _ _ _ _ _ (omega arith) (plane 4 _ (omega arith) (omega arith))
+    (pair _ _ _ _ _ _ (omega arith) (plane 5 _ (omega arith) (omega arith))
+    (pair _ _ _ _ _ _ (omega arith) (plane 6 _ (omega arith) (omega arith))
+    (pair _ _ _ _ _ _ (omega arith) (plane 7 _ (omega arith) (omega arith)) refl)))
+
+-- four more, behind those that were put
+pub four_more : (planes before after lanes : List ℕ) (at i j end : ℕ) → take i before ≡ listings planes at
+    → take j after ≡ take i before ++ flat_map (number_bytes w16) lanes → lanes ≡ entries planes at 4 → at + 4 ≡ end
+    → ((a : ℕ) → at ≤ a → a < end → get_or planes a 0 ≢ 0) → take j after ≡ listings planes end
+four_more planes before after lanes at i j end told more is there some =
+    more ∙ (λ k. told k ++ flat_map (number_bytes w16) (is k)) ∙ listed_on planes 4 at end there some

@@ -19,7 +19,7 @@ use Rattle.cm_image.specs.Planes.{planes_below, chips_text}
 use Rattle.cm_image.specs.Longest.{TextsAreShort}
 use Rattle.cm_image.proofs.Lengths.{length-chip_text, length-chips_none, length-chips_more, length-text_of}
 
-few_planes : (chip : List Processor) (count : ℕ) → length (planes_below chip count) ≤ count
+pub few_planes : (chip : List Processor) (count : ℕ) → length (planes_below chip count) ≤ count
 unfolding planes_below tabulate
 few_planes chip count =
     let entry : ℕ → Listed = λ address. record { at = address; plane = memory_plane_of chip address } in

@@ -1,6 +1,6 @@
 //! Writing chips of a machine in which most addresses are in use.
 
-ghost use Rattle.std.specs.Prelude.{◌≡◌, ℕ, ◌+◌, ◌*◌, ◌++◌, ◌^◌, ◌<◌, ◌≤◌, true, false, length, take, IfErr, OnOk};
+ghost use Rattle.std.specs.Prelude.{◌≡◌, ℕ, ◌+◌, ◌*◌, ◌++◌, ◌^◌, ◌<◌, ◌≤◌, ◌≢◌, length, take, IfErr, OnOk};
 ghost use Rattle.std.specs.Prelude.{IsErrOf, OnErr, vec_capacity};
 ghost use Rattle.std.specs.Prelude.{slice_index};
 ghost use Rattle.std.specs.List.{flat_map};
@@ -10,12 +10,14 @@ ghost use Rattle.cm_image_format.specs.Whole.{memory_plane_of, image_of_chip, im
 ghost use Rattle.cm_image.specs.Planes.{AreCounted, chips_text, plane_listing, listings, planes_below};
 ghost use Rattle.cm_image.specs.Sending.{GoesOut, GoesOutInPart, is_dump_write};
 
-use crate::dumps::{push_flags, push_messages, push_plane};
+use crate::dumps::{LISTING_LEN, push_flags, push_messages, push_plane};
+use crate::numbers::{EIGHT, EIGHT_LEN, eight_from, put_eight};
 use cm_array::Machine;
 use cm_bits::{ADDRESSES, NoMemory, Plane};
 use cm_element::{ChipView, PITCH};
-use cm_image_fields::{push, push_u8, push_u16};
+use cm_image_fields::{push_u8, push_u16};
 use cm_message::Message;
+use std::simd::prelude::*;
 
 /// How many planes of 64 chips are written near: 528 KB, which a cache holds.
 pub(crate) const TILE_PLANES: usize = 64 * PITCH;
@@ -57,58 +59,68 @@ pub(crate) fn push_dense_chip(
 {
     push_flags(text, chip)?;
     push_u16(text, listed)?;
-    push_memory(text, planes)?;
+    push_memory(text, listed, planes)?;
     push_u8(text, buffer.len() as u8)?;
     push_messages(text, buffer)?;
     Ok(())
 }
 
-/// The planes of all addresses that are not 0: together, if none is.
-fn push_memory(text: &mut Vec<u8>, planes: &[Plane]) -> Result<(), NoMemory>
+/// The planes of all addresses that are not 0, of which there are so many: together, if none is 0.
+fn push_memory(text: &mut Vec<u8>, listed: u16, planes: &[Plane]) -> Result<(), NoMemory>
     requires long { 4096 ≤ length planes.now }
+    requires none { listed ≡ 4096 → (a : ℕ) → a < 4096 → slice_index planes.now a ≢ 0 }
     ensures ok { OnOk result (text.new.items ≡ text.old.items ++ listings planes.now 4096) }
     ensures capacity { vec_capacity text.old ≤ vec_capacity text.new }
     ensures grows { OnOk result (length text.new.items ≤ length text.old.items + 16384) }
     ensures full { OnErr result (vec_capacity text.old < length text.old.items + 16384) }
 {
-    let mut listed = [0u8; ALL_LISTED_LEN];
-    if list_all(&mut listed, planes) {
-        return push(text, &listed);
+    if listed == ADDRESSES {
+        push_all(text, planes)
+    } else {
+        push_some(text, planes)
     }
-    push_some(text, planes)
 }
 
-/// Lists the planes of all addresses, and tells whether none is 0.
-fn list_all(listed: &mut [u8], planes: &[Plane]) -> bool
+/// The planes of all addresses, of which none is 0. They are listed in their places.
+fn push_all(text: &mut Vec<u8>, planes: &[Plane]) -> Result<(), NoMemory>
+    requires long { 4096 ≤ length planes.now }
+    requires none { (a : ℕ) → a < 4096 → slice_index planes.now a ≢ 0 }
+    ensures ok { OnOk result (text.new.items ≡ text.old.items ++ listings planes.now 4096) }
+    ensures capacity { vec_capacity text.old ≤ vec_capacity text.new }
+    ensures grows { OnOk result (length text.new.items ≤ length text.old.items + 16384) }
+    ensures full { OnErr result (vec_capacity text.old < length text.old.items + 16384) }
+{
+    let start = text.len();
+    text.resize(start + ALL_LISTED_LEN, 0)?;
+    list_all(&mut text[start..], planes);
+    Ok(())
+}
+
+/// Lists the planes of all addresses.
+fn list_all(listed: &mut [u8], planes: &[Plane])
     requires room { length listed.old ≡ 16384 }
     requires long { 4096 ≤ length planes.now }
-    ensures full { result ≡ true → listed.new ≡ listings planes.now 4096 }
+    ensures full { ((a : ℕ) → a < 4096 → slice_index planes.now a ≢ 0) → listed.new ≡ listings planes.now 4096 }
 {
-    let mut zeros = 0;
-    for at in 0..ADDRESSES {
-        let i = usize::from(at);
-        // Nothing is left early, so that many are listed at a time.
-        zeros += put_listing(listed, 4 * i, at, planes[i]);
+    for k in 0..usize::from(ADDRESSES) / EIGHT {
+        list_eight(listed, k * EIGHT, planes);
     }
-    zeros == 0
 }
 
-/// Puts the address and the plane into bytes from a place on, and counts it where it is 0.
+/// Lists the planes of eight addresses, from one on, behind those of the addresses below.
 #[inline(always)]
-#[tactic(auto, using(crate::proofs::Listing::four_put), unfolding(cm_message::specs::Bytes::number_bytes))]
-fn put_listing(bytes: &mut [u8], i: usize, at: u16, plane: Plane) -> u32
-    requires within { i + 4 ≤ length bytes.old }
-    ensures value { result ≡ 0 → take (i + 4) bytes.new ≡ take i bytes.old ++ plane_listing at plane }
-    ensures few { result ≤ 1 }
+fn list_eight(listed: &mut [u8], at: usize, planes: &[Plane])
+    requires within { at + 8 ≤ 4096 }
+    requires room { length listed.old ≡ 16384 }
+    requires long { 4096 ≤ length planes.now }
+    ensures value { ((j : ℕ) → j < 8 → slice_index planes.now (at + j) ≢ 0)
+        → take (4 * at) listed.old ≡ listings planes.now at
+        → take (4 * (at + 8)) listed.new ≡ listings planes.now (at + 8) }
 {
-    // As one number, whose bytes the compiler writes at once.
-    let listing = u32::from(at) << 16 | u32::from(plane);
-    let [at_high, at_low, high, low] = listing.to_be_bytes();
-    bytes[i] = at_high;
-    bytes[i + 1] = at_low;
-    bytes[i + 2] = high;
-    bytes[i + 3] = low;
-    u32::from(plane == 0)
+    let words = u16x8::from_slice(&planes[at..at + EIGHT]);
+    let (first, second) = eight_from(at).interleave(words);
+    put_eight(listed, LISTING_LEN * at, first);
+    put_eight(listed, LISTING_LEN * at + EIGHT_LEN, second);
 }
 
 /// Those that are not 0.

@@ -32,7 +32,8 @@ const HEADER_LEN: usize = 16;
 
 pub(crate) const BLANK_CHIP_LEN: usize = 35;
 
-const LISTING_LEN: usize = 4;
+/// The bytes that list a plane.
+pub(crate) const LISTING_LEN: usize = 4;
 
 const MESSAGE_LEN: usize = 18;
 

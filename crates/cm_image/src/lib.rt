@@ -9,6 +9,7 @@ mod dumps;
 mod laws;
 mod loads;
 mod messages;
+mod numbers;
 mod pieces;
 mod sending;
 mod sourced;

@@ -10,11 +10,14 @@ ghost use Rattle.cm_image_format.specs.Image.{listed_part, memory_part};
 ghost use Rattle.cm_image_format.specs.Whole.{planes_of};
 ghost use Rattle.cm_image.specs.WaitingChips.{with_waiting, AreListedFrom};
 
+use crate::dumps::LISTING_LEN;
+use crate::numbers::{EIGHT, EIGHT_LEN, eight_at, eight_from};
 use cm_array::Builder;
 use cm_bits::{ADDRESSES, FLAGS, NoMemory, Plane};
 use cm_element::PITCH;
 use std::alloc::Global;
 use std::marker::Model;
+use std::simd::prelude::*;
 
 /// So many chips wait at most: their planes are 2 MB, which a cache holds.
 const WIDTH: u16 = 256;
@@ -169,42 +172,43 @@ fn take_planes(memory: &mut [Plane], place: usize, bytes: &[u8]) -> bool
     ensures full { result ≡ true → AreListedFrom bytes.now 4096 (λ a. slice_index memory.new (place + a)) }
     ensures below { (i : ℕ) → i < place → slice_index memory.new i ≡ slice_index memory.old i }
 {
-    let mut wrong = 0;
-    for at in 0..ADDRESSES {
-        let i = usize::from(at);
-        let plane = plane_at(bytes, 4 * i, at);
-        // Nothing is left early, so that many are taken at a time.
-        wrong += u32::from(plane.wrapping_sub(1) >= 65535);
-        memory[place + i] = (plane % 65536) as u16;
+    let none = u16x8::splat(0);
+    // By lane, whether an address is not the one that is due, and the least plane.
+    let mut off = none;
+    let mut least = u16x8::splat(Plane::MAX);
+    // Nothing is left early, so that eight are taken with no branch.
+    for k in 0..usize::from(ADDRESSES) / EIGHT {
+        let at = k * EIGHT;
+        let (addresses, listed) = listings_at(bytes, LISTING_LEN * at);
+        put_words(memory, place + at, listed);
+        off |= addresses - eight_from(at);
+        least = least.simd_min(listed);
     }
-    wrong == 0
+    off.simd_ne(none).to_bitmask() == 0 && least.simd_eq(none).to_bitmask() == 0
 }
 
-/// The plane that is listed at a place of bytes, where it is that of this address; else 0, or what is too large for a
-/// plane. So one comparison tells both.
+/// The addresses of eight planes that are listed from a place of bytes on, and the planes.
 #[inline(always)]
-fn plane_at(bytes: &[u8], i: usize, at: u16) -> u32
-    requires within { i + 4 ≤ length bytes.now }
-    ensures address { 0 < result → result < 65536 → number_at w16 (drop i bytes.now) ≡ Ok (at, drop (i + 2) bytes.now) }
-    ensures plane { 0 < result → result < 65536
-        → number_at w16 (drop (i + 2) bytes.now) ≡ Ok (result, drop (i + 4) bytes.now) }
+fn listings_at(bytes: &[u8], i: usize) -> (u16x8, u16x8)
+    requires within { i + 32 ≤ length bytes.now }
+    ensures address { (j : ℕ) → j < 8 → number_at w16 (drop (i + 4 * j) bytes.now)
+        ≡ Ok (slice_index result.0 j, drop (i + 4 * j + 2) bytes.now) }
+    ensures plane { (j : ℕ) → j < 8 → number_at w16 (drop (i + 4 * j + 2) bytes.now)
+        ≡ Ok (slice_index result.1 j, drop (i + 4 * (j + 1)) bytes.now) }
+    ensures words { (j : ℕ) → j < 8 → slice_index result.0 j < 65536 }
+    ensures eight { (length result.0 ≡ 8) × (length result.1 ≡ 8) }
 {
-    let (address, plane) = listing_at(bytes, i);
-    (address << 16 | plane).wrapping_sub(u32::from(at) << 16)
+    eight_at(bytes, i).deinterleave(eight_at(bytes, i + EIGHT_LEN))
 }
 
-/// The address and the plane that are listed at a place of bytes.
+/// Puts eight words into a list from a place on.
 #[inline(always)]
-#[tactic(auto, unfolding(cm_image_format::specs::Reading::number_at))]
-fn listing_at(bytes: &[u8], i: usize) -> (u32, u32)
-    requires within { i + 4 ≤ length bytes.now }
-    ensures address { number_at w16 (drop i bytes.now) ≡ Ok (result.0, drop (i + 2) bytes.now) }
-    ensures plane { number_at w16 (drop (i + 2) bytes.now) ≡ Ok (result.1, drop (i + 4) bytes.now) }
-    ensures address_word { result.0 < 65536 }
-    ensures word { result.1 < 65536 }
+fn put_words(list: &mut [Plane], at: usize, words: u16x8)
+    requires within { at + 8 ≤ length list.old }
+    ensures value { (j : ℕ) → j < 8 → slice_index list.new (at + j) ≡ slice_index words j }
+    ensures below { (i : ℕ) → i < at → slice_index list.new i ≡ slice_index list.old i }
 {
-    let listing = u32::from_be_bytes([bytes[i], bytes[i + 1], bytes[i + 2], bytes[i + 3]]);
-    (listing >> 16, listing & 0xffff)
+    words.copy_to_slice(&mut list[at..at + EIGHT]);
 }
 
 /// Puts the flag planes of a chip into a list from a place on.

@@ -1,7 +1,12 @@
-use Rattle.std.proofs.Common.{ℕ, List, ◌++◌, ap, ◌∙◌}
+use Rattle.std.proofs.Common.{ℕ, List, ◌++◌, sym, ap, ◌∙◌}
+use Rattle.cm_image.proofs.Counting.{all_listed}
 use Rattle.cm_image.proofs.Dumping.{chip_written}
 use Rattle.cm_image.proofs.Listing.{same_listings}
 use Rattle.cm_image.proofs.dense.push_dense_chip.Goals as goal
+
+pub push_memory-requires-clause-none : goal.push_memory-requires-clause-none
+push_memory-requires-clause-none c = λ all a h zero.
+    all_listed c.args.chip.now 4096 (sym c.requires.listed ∙ all) a h (sym (c.requires.planes a h) ∙ zero)
 
 pub returns-clause-ok : goal.returns-clause-ok
 returns-clause-ok c =
