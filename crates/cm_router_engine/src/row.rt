@@ -216,7 +216,8 @@ pub(crate) fn deliver_at(
 {
     let mut receivers = deliveries.receivers(run, chip);
     let at = chip as usize;
-    let mut place = 0;
+    let first = next_given(row, slots, at, 0, receivers);
+    let mut place = first;
     while let Some(ticket) = slots.ticket(at, place) {
         if is_delivered(row, ticket, deliveries, &mut receivers, chip, here, log) {
             slots.remove(at, place);
@@ -303,13 +304,8 @@ fn is_delivered(
         who_has_not_arrived_is_kept();
         return false;
     }
-    deliveries.hand_over(
-        receivers,
-        &message_of(row.messages(), ticket),
-        chip,
-        here,
-        log,
-    )
+    let message = message_of(row.messages(), ticket);
+    deliveries.hand_over(receivers, &message, chip, here, log)
 }
 
 /// The message that a ticket stands for.

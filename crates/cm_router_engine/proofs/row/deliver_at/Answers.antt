@@ -1,7 +1,7 @@
-use Rattle.std.proofs.Common.{◌≡◌, ◌+◌, true, false, [], ◌∷◌, List, remove, set, Some, get_or-set_same, length, sym, ap}
+use Rattle.std.proofs.Common.{◌≡◌, ◌+◌, true, false, [], ◌∷◌, List, rules, remove, set, Some, get_or-set_same, length, sym, ap}
 use Rattle.std.proofs.Common.{◌∙◌, arith, length-set}
 use Rattle.std.proofs.lemmas.Grind.{elements}
-use Rattle.std.proofs.lemmas.List.{length-map, append-nil}
+use Rattle.std.proofs.lemmas.List.{length-map, append-nil, set-get_or}
 use Rattle.std.proofs.lemmas.List.Edits.{length-remove}
 use Rattle.std.proofs.lemmas.Option.{slice_get_within}
 use Rattle.std.specs.List.{slice_get}
@@ -9,14 +9,39 @@ use Rattle.cm_model.specs.Processor.{Processor}
 use Rattle.cm_model.specs.Array.{Chips, chip_at, nth_or_nil}
 use Rattle.cm_model.specs.Letters.{chip_after_delivery}
 use Rattle.cm_model.proofs.Leaving.{past_none}
-use Rattle.cm_model.proofs.Scan.{HandsOver, scan_ends}
+use Rattle.cm_model.proofs.Scan.{HandsOver, scan_begins, scan_ends}
 use Rattle.cm_router.specs.Deliveries.{run_after}
-use Rattle.cm_router_engine.specs.Standing.{message_of_ticket}
+use Rattle.cm_router_engine.specs.Standing.{message_of_ticket, standing}
 use Rattle.cm_router_engine.proofs.Carrying.{without_kept}
 use Rattle.cm_router_engine.proofs.Keeping.{written_again, scan_taken, scan_passed, scan_to}
 use Rattle.cm_model.specs.Chip.{IsPlane}
 use Rattle.cm_model.specs.Letters.{can_receive}
 use Rattle.cm_router_engine.proofs.row.deliver_at.Goals as goal
+
+pub loop-ticket-init : goal.loop-ticket-init
+loop-ticket-init c =
+    let place = c.args.chip in
+    let first : Chips = run_after c.args.deliveries.now c.args.run.now in
+    let chip : List Processor = chip_at first place in
+    let queue = nth_or_nil c.args.slots.now place in
+    let row = c.args.row.now.items in
+    let passing = c.next_given-first.ensures in
+    let who = c.receivers-receivers.ensures in
+    record {
+      scan = scan_to 0 c.next_given-first.result row queue passing.from passing.within
+          (λ j t from below at. passing.passed j t from below at chip chip who.value)
+          (scan_begins chip (standing row queue) c.args.log.now.items c.args.here who.gone);
+      run = sym (set-get_or first place []);
+      inside = search (rules, arith);
+      receivers = who.value;
+      before = search (rules, arith);
+      room = search (rules, arith);
+      kept = c.requires.kept;
+      fewer = omega arith;
+      others = sym (set-get_or c.args.slots.now place []);
+      len = search (rules, arith);
+      capacity = omega arith;
+    }
 
 pub next_given-place-requires-clause-kept : goal.next_given-place-requires-clause-kept
 next_given-place-requires-clause-kept c =
