@@ -3,6 +3,7 @@
 #![tactic(auto)]
 
 mod choosing;
+mod message_row;
 mod ranking;
 mod routed;
 mod router_engine;

@@ -18,6 +18,7 @@ ghost use Rattle.cm_router.specs.Deliveries.{chip_handed, run_after, AreBefore};
 ghost use Rattle.cm_router.specs.Logs.{log_room};
 ghost use Rattle.cm_slots.specs.declared.ticket.Ticket.{Ticket};
 
+use crate::message_row::MessageRow;
 use cm_bits::Plane;
 use cm_element::Run;
 use cm_message::{Event, Message};
@@ -28,7 +29,7 @@ use cm_router::{
 use cm_slots::{Ticket, TicketQueues};
 
 /// Gives each message a place in the second row, those of a chip side by side, and its ticket tells that.
-pub(crate) fn compact(row: &[Message], spare: &mut Vec<Message>, slots: &mut TicketQueues)
+pub(crate) fn compact(row: &[Message], spare: &mut MessageRow, slots: &mut TicketQueues)
     requires few { length slots.old ≤ 4096 }
     requires capacity { 15 * length slots.old ≤ vec_capacity spare.old }
     requires kept { All (HaveMessages (length row.now)) slots.old }
@@ -45,7 +46,7 @@ pub(crate) fn compact(row: &[Message], spare: &mut Vec<Message>, slots: &mut Tic
 }
 
 /// Gives the messages of one chip places in the second row.
-fn carry_over(row: &[Message], spare: &mut Vec<Message>, slots: &mut TicketQueues, here: usize)
+fn carry_over(row: &[Message], spare: &mut MessageRow, slots: &mut TicketQueues, here: usize)
     requires here { here < length slots.old }
     requires few { vec_len spare.old + 15 ≤ 65535 }
     requires capacity { vec_len spare.old + 15 ≤ vec_capacity spare.old }
@@ -88,7 +89,7 @@ pub(crate) fn read_out<'a>(row: &'a [Message], slots: &TicketQueues, here: usize
 /// Messages that processors of a chip send get places in the row, one after another, and stand last at their chip. The
 /// log tells of each. A message goes to both as it is made: read back from one of them it would wait there.
 pub(crate) fn store_injected(
-    row: &mut Vec<Message>,
+    row: &mut MessageRow,
     slots: &mut TicketQueues,
     at: usize,
     mut senders: Senders,
@@ -128,12 +129,7 @@ pub(crate) fn store_injected(
 }
 
 /// A message gets a place in the row, and stands last at its chip.
-pub(crate) fn stand(
-    row: &mut Vec<Message>,
-    slots: &mut TicketQueues,
-    here: usize,
-    message: &Message,
-)
+pub(crate) fn stand(row: &mut MessageRow, slots: &mut TicketQueues, here: usize, message: &Message)
     requires here { here < length slots.old }
     requires few { vec_len row.old < 65535 }
     requires capacity { vec_len row.old < vec_capacity row.old }
@@ -159,7 +155,7 @@ pub(crate) fn stand(
 }
 
 /// Keeps a message in the row, and tells its place there.
-fn keep(row: &mut Vec<Message>, message: &Message) -> u16
+fn keep(row: &mut MessageRow, message: &Message) -> u16
     requires few { vec_len row.old < 65535 }
     requires room { vec_len row.old < vec_capacity row.old }
     ensures number { result ≡ length row.old.items }
@@ -168,7 +164,7 @@ fn keep(row: &mut Vec<Message>, message: &Message) -> u16
     ensures capacity { vec_capacity row.old ≤ vec_capacity row.new }
 {
     let number = row.len() as u16;
-    row.push_reserved(*message);
+    row.push(message);
     number
 }
 
@@ -189,7 +185,7 @@ pub(crate) fn collect(row: &[Message], tickets: &[Option<Ticket>], leavers: &mut
 /// Delivers to one chip, message by message. What is delivered is written down, and put down at its processors later:
 /// so the chip is told as it is after that.
 pub(crate) fn deliver_at(
-    row: &[Message],
+    row: &MessageRow,
     slots: &mut TicketQueues,
     run: &Run,
     deliveries: &mut Deliveries,
@@ -198,29 +194,30 @@ pub(crate) fn deliver_at(
     log: &mut Vec<Event>,
 )
     requires stands { chip < length slots.old }
-    requires kept { HaveMessages (length row.now) (nth_or_nil slots.old chip) }
+    requires kept { HaveMessages (length row.now.items) (nth_or_nil slots.old chip) }
     requires chip { chip < length run.now }
     requires before { AreBefore chip deliveries.old }
     requires room { length deliveries.old + length (nth_or_nil slots.old chip) ≤ 128 }
     requires log_room { length (nth_or_nil slots.old chip) ≤ log_room log.old }
-    ensures value { standing row.now (nth_or_nil slots.new chip)
-        ≡ kept_here (standing row.now (nth_or_nil slots.old chip)) (chip_at (run_after deliveries.old run.now) chip) }
-    ensures kept { HaveMessages (length row.now) (nth_or_nil slots.new chip) }
+    ensures value { standing row.now.items (nth_or_nil slots.new chip)
+        ≡ kept_here (standing row.now.items (nth_or_nil slots.old chip)) (chip_at (run_after deliveries.old run.now) chip) }
+    ensures kept { HaveMessages (length row.now.items) (nth_or_nil slots.new chip) }
     ensures fewer { length (nth_or_nil slots.new chip) ≤ length (nth_or_nil slots.old chip) }
     ensures others { IsWritten chip slots.old slots.new }
     ensures chip { run_after deliveries.new run.now ≡ slice_set (run_after deliveries.old run.now) chip
-        (chip_after_delivery (delivered_here (standing row.now (nth_or_nil slots.old chip))
+        (chip_after_delivery (delivered_here (standing row.now.items (nth_or_nil slots.old chip))
         (chip_at (run_after deliveries.old run.now) chip)) (chip_at (run_after deliveries.old run.now) chip)) }
     ensures before { AreBefore (chip + 1) deliveries.new }
     ensures log { log.new.items ≡ log.old.items ++ map (λ m. event.Delivered here m)
-        (delivered_here (standing row.now (nth_or_nil slots.old chip))
+        (delivered_here (standing row.now.items (nth_or_nil slots.old chip))
         (chip_at (run_after deliveries.old run.now) chip)) }
     ensures len { vec_len log.new ≤ vec_len log.old + length (nth_or_nil slots.old chip) }
     ensures capacity { vec_capacity log.old ≤ vec_capacity log.new }
 {
     let mut receivers = deliveries.receivers(run, chip);
     let at = chip as usize;
-    let mut place = 0;
+    let first = next_given(row, slots, at, 0, receivers);
+    let mut place = first;
     while let Some(ticket) = slots.ticket(at, place) {
         if is_delivered(row, ticket, deliveries, &mut receivers, chip, here, log) {
             slots.remove(at, place);
@@ -234,18 +231,18 @@ pub(crate) fn deliver_at(
 /// The first place of a chip, from this one on, of a ticket whose message is delivered to one of these receivers; as
 /// many as stand there, if there is none. Nothing is written meanwhile, so that where its slots lie is found once.
 fn next_given(
-    row: &[Message],
+    row: &MessageRow,
     slots: &TicketQueues,
     here: usize,
     from: usize,
     receivers: Plane,
 ) -> usize
     requires stands { here < length slots.now }
-    requires kept { HaveMessages (length row.now) (nth_or_nil slots.now here) }
+    requires kept { HaveMessages (length row.now.items) (nth_or_nil slots.now here) }
     requires from { from ≤ length (nth_or_nil slots.now here) }
     ensures passed { (j : ℕ) (t : Ticket) → from ≤ j → j < result → Some t ≡ slice_get (nth_or_nil slots.now here) j
         → (before chip : List Processor) → IsPlane receivers (can_receive chip) → (seen : List Message)
-        → HasDelivered before seen chip → HasHandedOver false before seen (message_of_ticket row.now t) chip }
+        → HasDelivered before seen chip → HasHandedOver false before seen (message_of_ticket row.now.items t) chip }
     ensures from { from ≤ result }
     ensures within { result ≤ length (nth_or_nil slots.now here) }
 {
@@ -260,23 +257,22 @@ fn next_given(
 }
 
 /// Whether the message of a ticket is delivered to one of these receivers.
-fn is_given(row: &[Message], ticket: Ticket, receivers: Plane) -> bool
-    requires kept { ticket.number < length row.now }
+fn is_given(row: &MessageRow, ticket: Ticket, receivers: Plane) -> bool
+    requires kept { ticket.number < length row.now.items }
     ensures kept { IsFalse result → (before chip : List Processor) → IsPlane receivers (can_receive chip)
         → (seen : List Message) → HasDelivered before seen chip
-        → HasHandedOver false before seen (message_of_ticket row.now ticket) chip }
+        → HasHandedOver false before seen (message_of_ticket row.now.items ticket) chip }
 {
-    // Only a message that has arrived is read: where it is kept lies far from the others.
     if ticket.rel != 0 {
         who_has_not_arrived_is_kept();
         return false;
     }
-    receives(receivers, row[usize::from(ticket.number)].proc)
+    receives(receivers, row.target(ticket.number))
 }
 
 /// Delivers the message of a ticket, if it has arrived and its processor can receive.
 fn is_delivered(
-    row: &[Message],
+    row: &MessageRow,
     ticket: Ticket,
     deliveries: &mut Deliveries,
     receivers: &mut Plane,
@@ -284,21 +280,21 @@ fn is_delivered(
     here: u16,
     log: &mut Vec<Event>,
 ) -> bool
-    requires kept { ticket.number < length row.now }
+    requires kept { ticket.number < length row.now.items }
     requires room { length deliveries.old < 128 }
     requires log_room { 0 < log_room log.old }
     ensures step { (before now : List Processor) (seen : List Message) → HasDelivered before seen now
-        → IsPlane receivers.old (can_receive now) → HasHandedOver result before seen (message_of_ticket row.now ticket)
-        (chip_handed result (message_of_ticket row.now ticket) now) }
+        → IsPlane receivers.old (can_receive now) → HasHandedOver result before seen (message_of_ticket row.now.items ticket)
+        (chip_handed result (message_of_ticket row.now.items ticket) now) }
     ensures receivers { (before now : List Processor) (seen : List Message) → HasDelivered before seen now
         → IsPlane receivers.old (can_receive now)
-        → IsPlane receivers.new (can_receive (chip_handed result (message_of_ticket row.now ticket) now)) }
+        → IsPlane receivers.new (can_receive (chip_handed result (message_of_ticket row.now.items ticket) now)) }
     ensures later { (run : Chips) → run_after deliveries.new run ≡ slice_set (run_after deliveries.old run) chip
-        (chip_handed result (message_of_ticket row.now ticket) (chip_at (run_after deliveries.old run) chip)) }
+        (chip_handed result (message_of_ticket row.now.items ticket) (chip_at (run_after deliveries.old run) chip)) }
     ensures before { (k : ℕ) → chip < k → AreBefore k deliveries.old → AreBefore k deliveries.new }
     ensures count { length deliveries.new ≡ length deliveries.old + (if result then 1 else 0) }
     ensures log { log.new.items ≡ log.old.items
-        ++ (if result then event.Delivered here (message_of_ticket row.now ticket) ∷ [] else []) }
+        ++ (if result then event.Delivered here (message_of_ticket row.now.items ticket) ∷ [] else []) }
     ensures len { vec_len log.new ≤ vec_len log.old + 1 }
     ensures quiet { IsFalse result → vec_len log.new ≡ vec_len log.old }
     ensures capacity { vec_capacity log.old ≤ vec_capacity log.new }
@@ -308,7 +304,8 @@ fn is_delivered(
         who_has_not_arrived_is_kept();
         return false;
     }
-    deliveries.hand_over(receivers, &message_of(row, ticket), chip, here, log)
+    let message = message_of(row.messages(), ticket);
+    deliveries.hand_over(receivers, &message, chip, here, log)
 }
 
 /// The message that a ticket stands for.
