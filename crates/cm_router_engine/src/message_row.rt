@@ -1,6 +1,7 @@
 //! Messages one after another, and beside them the processor that each is for.
 
-ghost use Rattle.std.specs.Prelude.{◌≡◌, ◌+◌, ◌<◌, ◌≤◌, ◌++◌, ◌∷◌, [], IfOk, length, slice_index_or, vec_len, vec_capacity};
+ghost use Rattle.std.specs.Prelude.{◌≡◌, ◌+◌, ◌<◌, ◌≤◌, ◌++◌, ◌∷◌, [], IfOk, length, slice_index_or, vec_len};
+ghost use Rattle.std.specs.Prelude.{vec_capacity};
 ghost use Rattle.cm_router_engine.specs.Standing.{no_message};
 
 use cm_bits::{NoMemory, Proc};
@@ -8,8 +9,8 @@ use cm_message::Message;
 use std::alloc::Global;
 use std::marker::Model;
 
-/// Messages one after another (ours). A second list has the processors that they are for. A cache holds this list, and not
-/// the messages, which are read in no order. So who looks for a message that can be delivered does not wait for it.
+/// Messages one after another (ours). A second list has the processors that they are for. A cache holds this list, but
+/// not all messages. So whoever looks for a message that can be delivered does not wait for messages to come from memory.
 ///
 /// Contracts see the list of the messages.
 #[derive(Debug, Drop)]

@@ -200,7 +200,8 @@ pub(crate) fn deliver_at(
     requires room { length deliveries.old + length (nth_or_nil slots.old chip) ≤ 128 }
     requires log_room { length (nth_or_nil slots.old chip) ≤ log_room log.old }
     ensures value { standing row.now.items (nth_or_nil slots.new chip)
-        ≡ kept_here (standing row.now.items (nth_or_nil slots.old chip)) (chip_at (run_after deliveries.old run.now) chip) }
+        ≡ kept_here (standing row.now.items (nth_or_nil slots.old chip))
+        (chip_at (run_after deliveries.old run.now) chip) }
     ensures kept { HaveMessages (length row.now.items) (nth_or_nil slots.new chip) }
     ensures fewer { length (nth_or_nil slots.new chip) ≤ length (nth_or_nil slots.old chip) }
     ensures others { IsWritten chip slots.old slots.new }
@@ -284,7 +285,8 @@ fn is_delivered(
     requires room { length deliveries.old < 128 }
     requires log_room { 0 < log_room log.old }
     ensures step { (before now : List Processor) (seen : List Message) → HasDelivered before seen now
-        → IsPlane receivers.old (can_receive now) → HasHandedOver result before seen (message_of_ticket row.now.items ticket)
+        → IsPlane receivers.old (can_receive now)
+        → HasHandedOver result before seen (message_of_ticket row.now.items ticket)
         (chip_handed result (message_of_ticket row.now.items ticket) now) }
     ensures receivers { (before now : List Processor) (seen : List Message) → HasDelivered before seen now
         → IsPlane receivers.old (can_receive now)

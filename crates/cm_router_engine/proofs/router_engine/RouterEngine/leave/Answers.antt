@@ -16,7 +16,8 @@ leave-requires-clause-within c =
 pub collect-requires-clause-kept : goal.collect-requires-clause-kept
 collect-requires-clause-kept c =
     let are = ap (λ (crossing : InFlight). crossing.buffers) c.self.view_is in
-    rw (c.messages-2.ensures.value, ← c.messages.ensures.value) (whole_gone_kept c.messages.result.now c.self.inside.row.items c.messages.ensures.value
+    rw (c.messages-2.ensures.value, ← c.messages.ensures.value)
+    (whole_gone_kept c.messages.result.now c.self.inside.row.items c.messages.ensures.value
     (routing_of c.args.routing.now) c.args.sizes.room c.args.dim c.args.first c.self.inside.slots
     c.leave.new.slots c.args.self.now.buffers are c.leave.ensures.value c.leave.new.leavers c.leave.ensures.going
     c.self.invariant.kept)
