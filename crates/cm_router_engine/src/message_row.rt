@@ -10,7 +10,7 @@ use std::alloc::Global;
 use std::marker::Model;
 
 /// Messages one after another (ours). A second list has the processors that they are for. A cache holds this list, but
-/// not all messages. So whoever looks for a message that can be delivered does not wait for messages to come from memory.
+/// not all messages. So whoever looks for a message that can be delivered does not wait for memory.
 ///
 /// Contracts see the list of the messages.
 #[derive(Debug, Drop)]
