@@ -1,6 +1,6 @@
 -- Which messages stand at the chips, where tickets cross in their place. Ours.
 use Rattle.std.specs.Prelude.{◌≡◌, ℕ, ◌+◌, ◌*◌, ◌<◌, ◌≤◌, ◌++◌, Bool, IsTrue, true, List, length, map, Vec, Option, IfSome}
-use Rattle.std.specs.Prelude.{slice_index, slice_index_or, slice_set, vec_len, vec_capacity}
+use Rattle.std.specs.Prelude.{slice_index_or, slice_set, vec_len, vec_capacity}
 use Rattle.std.specs.List.{All, slice_range}
 use Rattle.std.specs.declared.alloc.Global.{Global}
 use Rattle.cm_model.specs.declared.message.Message.{Message}
@@ -70,13 +70,6 @@ pub record AreLaidOut (row spare : List Message) (old new : List Ticket) : Type 
 -- the tickets of one chip were written, and no others
 abbrev pub IsWritten : ℕ → List (List Ticket) → List (List Ticket) → Type 0
 IsWritten here old new = new ≡ slice_set old here (nth_or_nil new here)
-
--- the processors that messages are for, in a list of their own, for which there is as much room
-pub record AreTargets (messages : Vec Message Global) (targets : Vec ℕ Global) : Type 0 where
-  pub long : length targets.items ≡ length messages.items
-  pub each : (i : ℕ) → i < length messages.items
-      → slice_index targets.items i ≡ (slice_index_or messages.items i no_message).proc
-  pub capacity : vec_capacity messages ≤ vec_capacity targets
 
 -- ---- the order of age
 

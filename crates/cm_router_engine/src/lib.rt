@@ -3,7 +3,6 @@
 #![tactic(auto)]
 
 mod choosing;
-mod message_row;
 mod ranking;
 mod routed;
 mod router_engine;

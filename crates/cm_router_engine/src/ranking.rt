@@ -8,7 +8,6 @@ ghost use Rattle.cm_model.specs.Router.{is_older};
 ghost use Rattle.cm_router_engine.specs.Standing.{HaveMessages, IsWritten, tag_at, AreByAge};
 ghost use Rattle.cm_router_engine.specs.Ranking.{moved_ticket, HaveMoved};
 
-use crate::message_row::MessageRow;
 use cm_message::Message;
 use cm_router::is_older;
 use cm_slots::{Ticket, TicketQueues};
@@ -64,7 +63,7 @@ fn key(message: &Message, number: usize) -> u128 {
 pub(crate) fn rearrange(
     row: &[Message],
     keys: &[u128],
-    spare: &mut MessageRow,
+    spare: &mut Vec<Message>,
     moved: &mut Vec<u16>,
 ) -> bool
     requires few { length row.now ≤ 65535 }
@@ -83,7 +82,7 @@ pub(crate) fn rearrange(
             return false;
         }
         moved[number] = place as u16;
-        spare.push(&row[number]);
+        spare.push_reserved(row[number]);
     }
     are_below(moved, row.len())
 }

@@ -20,7 +20,6 @@ ghost use Rattle.cm_router.specs.Logs.{log_room};
 ghost use Rattle.cm_router.specs.Records.{AreRecords};
 ghost use Rattle.cm_router.specs.Routes.{routing_of};
 
-use crate::message_row::MessageRow;
 use crate::ranking::{rearrange, renumber, risen_to, sort_numbers};
 use crate::routed::{cross, leave};
 use crate::row::{collect, compact, deliver_at, read_out, stand, store_injected};
@@ -50,9 +49,9 @@ const PATIENCE: u8 = 12;
 #[derive(Debug, Drop)]
 pub struct RouterEngine {
     /// The messages as they were when they got their tickets; some may have been delivered.
-    row: MessageRow,
+    row: Vec<Message>,
     /// Room for as many, for the next time that all are gathered.
-    spare: MessageRow,
+    spare: Vec<Message>,
     /// Most messages that the row may have.
     places: usize,
     /// By chip, the tickets of the messages that stand there.
@@ -98,8 +97,8 @@ impl RouterEngine {
         ensures free { IfOk result (λ crossing. crossing.free ≡ min 65535 (32 * chips + 4)) }
     {
         let places = MOST_PLACES.min(32 * chips + MOST_INJECTED);
-        let row = MessageRow::with_capacity(alloc, places)?;
-        let spare = MessageRow::with_capacity(alloc, places)?;
+        let row = Vec::with_capacity(alloc, places)?;
+        let spare = Vec::with_capacity(alloc, places)?;
         let slots = TicketQueues::new(alloc, chips)?;
         let leavers = no_leavers(alloc, chips)?;
         let keys = Vec::with_capacity(alloc, places)?;
@@ -122,8 +121,9 @@ impl RouterEngine {
     pub fn copy(&self, alloc: Global) -> Result<RouterEngine, NoMemory>
         ensures value { IfOk result (λ crossing. crossing ≡ self.now) }
     {
-        let row = self.row.copy(alloc, self.places)?;
-        let spare = MessageRow::with_capacity(alloc, self.places)?;
+        let mut row = Vec::with_capacity(alloc, self.places)?;
+        row.extend_from_slice(&self.row)?;
+        let spare = Vec::with_capacity(alloc, self.places)?;
         let slots = self.slots.copy(alloc)?;
         let leavers = no_leavers(alloc, self.slots.chips())?;
         let keys = Vec::with_capacity(alloc, self.places)?;
@@ -179,7 +179,7 @@ impl RouterEngine {
         requires gathered { IsTrue self.now.gathered }
         ensures value { result.now ≡ nth_or_nil self.now.buffers chip }
     {
-        read_out(self.row.messages(), &self.slots, chip)
+        read_out(&self.row, &self.slots, chip)
     }
 
     /// Makes of each chip's messages one slice of the row, if anything has moved since they were that.
@@ -199,7 +199,7 @@ impl RouterEngine {
         ensures gathered { IsTrue self.new.gathered }
         ensures free { 4 ≤ self.new.free }
     {
-        compact(self.row.messages(), &mut self.spare, &mut self.slots);
+        compact(&self.row, &mut self.spare, &mut self.slots);
         mem::swap(&mut self.row, &mut self.spare);
         self.gathered = true;
         self.risen = 0;
@@ -426,20 +426,15 @@ impl RouterEngine {
     fn look_at_order(&mut self)
         ensures value { self.new ≡ self.old }
     {
-        self.risen = risen_to(self.row.messages(), self.risen);
+        self.risen = risen_to(&self.row, self.risen);
     }
 
     /// Gives all messages new places in the row, in the order of age.
     fn rank_anew(&mut self)
         ensures value { self.new.buffers ≡ self.old.buffers }
     {
-        sort_numbers(self.row.messages(), &mut self.keys);
-        if rearrange(
-            self.row.messages(),
-            &self.keys,
-            &mut self.spare,
-            &mut self.moved,
-        ) {
+        sort_numbers(&self.row, &mut self.keys);
+        if rearrange(&self.row, &self.keys, &mut self.spare, &mut self.moved) {
             renumber(&mut self.slots, &self.moved);
             mem::swap(&mut self.row, &mut self.spare);
             self.gathered = false;
@@ -465,7 +460,7 @@ impl RouterEngine {
         let in_order = self.risen == self.row.len();
         let gone = self.leavers.as_mut_slice();
         cross(
-            self.row.messages(),
+            &self.row,
             in_order,
             &mut self.slots,
             sizes,
@@ -503,16 +498,8 @@ impl RouterEngine {
             → length (nth_or_nil self.new.buffers c) < sizes.room }
     {
         let gone = self.leavers.as_mut_slice();
-        leave(
-            self.row.messages(),
-            &mut self.slots,
-            sizes,
-            routing,
-            first,
-            dim,
-            gone,
-        );
-        collect(self.row.messages(), gone, leavers);
+        leave(&self.row, &mut self.slots, sizes, routing, first, dim, gone);
+        collect(&self.row, gone, leavers);
         self.gathered = false;
     }
 

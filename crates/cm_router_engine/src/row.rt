@@ -18,7 +18,6 @@ ghost use Rattle.cm_router.specs.Deliveries.{chip_handed, run_after, AreBefore};
 ghost use Rattle.cm_router.specs.Logs.{log_room};
 ghost use Rattle.cm_slots.specs.declared.ticket.Ticket.{Ticket};
 
-use crate::message_row::MessageRow;
 use cm_bits::Plane;
 use cm_element::Run;
 use cm_message::{Event, Message};
@@ -29,7 +28,7 @@ use cm_router::{
 use cm_slots::{Ticket, TicketQueues};
 
 /// Gives each message a place in the second row, those of a chip side by side, and its ticket tells that.
-pub(crate) fn compact(row: &[Message], spare: &mut MessageRow, slots: &mut TicketQueues)
+pub(crate) fn compact(row: &[Message], spare: &mut Vec<Message>, slots: &mut TicketQueues)
     requires few { length slots.old ≤ 4096 }
     requires capacity { 15 * length slots.old ≤ vec_capacity spare.old }
     requires kept { All (HaveMessages (length row.now)) slots.old }
@@ -46,7 +45,7 @@ pub(crate) fn compact(row: &[Message], spare: &mut MessageRow, slots: &mut Ticke
 }
 
 /// Gives the messages of one chip places in the second row.
-fn carry_over(row: &[Message], spare: &mut MessageRow, slots: &mut TicketQueues, here: usize)
+fn carry_over(row: &[Message], spare: &mut Vec<Message>, slots: &mut TicketQueues, here: usize)
     requires here { here < length slots.old }
     requires few { vec_len spare.old + 15 ≤ 65535 }
     requires capacity { vec_len spare.old + 15 ≤ vec_capacity spare.old }
@@ -89,7 +88,7 @@ pub(crate) fn read_out<'a>(row: &'a [Message], slots: &TicketQueues, here: usize
 /// Messages that processors of a chip send get places in the row, one after another, and stand last at their chip. The
 /// log tells of each. A message goes to both as it is made: read back from one of them it would wait there.
 pub(crate) fn store_injected(
-    row: &mut MessageRow,
+    row: &mut Vec<Message>,
     slots: &mut TicketQueues,
     at: usize,
     mut senders: Senders,
@@ -129,7 +128,12 @@ pub(crate) fn store_injected(
 }
 
 /// A message gets a place in the row, and stands last at its chip.
-pub(crate) fn stand(row: &mut MessageRow, slots: &mut TicketQueues, here: usize, message: &Message)
+pub(crate) fn stand(
+    row: &mut Vec<Message>,
+    slots: &mut TicketQueues,
+    here: usize,
+    message: &Message,
+)
     requires here { here < length slots.old }
     requires few { vec_len row.old < 65535 }
     requires capacity { vec_len row.old < vec_capacity row.old }
@@ -155,7 +159,7 @@ pub(crate) fn stand(row: &mut MessageRow, slots: &mut TicketQueues, here: usize,
 }
 
 /// Keeps a message in the row, and tells its place there.
-fn keep(row: &mut MessageRow, message: &Message) -> u16
+fn keep(row: &mut Vec<Message>, message: &Message) -> u16
     requires few { vec_len row.old < 65535 }
     requires room { vec_len row.old < vec_capacity row.old }
     ensures number { result ≡ length row.old.items }
@@ -164,7 +168,7 @@ fn keep(row: &mut MessageRow, message: &Message) -> u16
     ensures capacity { vec_capacity row.old ≤ vec_capacity row.new }
 {
     let number = row.len() as u16;
-    row.push(message);
+    row.push_reserved(*message);
     number
 }
 
@@ -185,7 +189,7 @@ pub(crate) fn collect(row: &[Message], tickets: &[Option<Ticket>], leavers: &mut
 /// Delivers to one chip, message by message. What is delivered is written down, and put down at its processors later:
 /// so the chip is told as it is after that.
 pub(crate) fn deliver_at(
-    row: &MessageRow,
+    row: &[Message],
     slots: &mut TicketQueues,
     run: &Run,
     deliveries: &mut Deliveries,
@@ -194,31 +198,29 @@ pub(crate) fn deliver_at(
     log: &mut Vec<Event>,
 )
     requires stands { chip < length slots.old }
-    requires kept { HaveMessages (length row.now.items) (nth_or_nil slots.old chip) }
+    requires kept { HaveMessages (length row.now) (nth_or_nil slots.old chip) }
     requires chip { chip < length run.now }
     requires before { AreBefore chip deliveries.old }
     requires room { length deliveries.old + length (nth_or_nil slots.old chip) ≤ 128 }
     requires log_room { length (nth_or_nil slots.old chip) ≤ log_room log.old }
-    ensures value { standing row.now.items (nth_or_nil slots.new chip)
-        ≡ kept_here (standing row.now.items (nth_or_nil slots.old chip))
-        (chip_at (run_after deliveries.old run.now) chip) }
-    ensures kept { HaveMessages (length row.now.items) (nth_or_nil slots.new chip) }
+    ensures value { standing row.now (nth_or_nil slots.new chip)
+        ≡ kept_here (standing row.now (nth_or_nil slots.old chip)) (chip_at (run_after deliveries.old run.now) chip) }
+    ensures kept { HaveMessages (length row.now) (nth_or_nil slots.new chip) }
     ensures fewer { length (nth_or_nil slots.new chip) ≤ length (nth_or_nil slots.old chip) }
     ensures others { IsWritten chip slots.old slots.new }
     ensures chip { run_after deliveries.new run.now ≡ slice_set (run_after deliveries.old run.now) chip
-        (chip_after_delivery (delivered_here (standing row.now.items (nth_or_nil slots.old chip))
+        (chip_after_delivery (delivered_here (standing row.now (nth_or_nil slots.old chip))
         (chip_at (run_after deliveries.old run.now) chip)) (chip_at (run_after deliveries.old run.now) chip)) }
     ensures before { AreBefore (chip + 1) deliveries.new }
     ensures log { log.new.items ≡ log.old.items ++ map (λ m. event.Delivered here m)
-        (delivered_here (standing row.now.items (nth_or_nil slots.old chip))
+        (delivered_here (standing row.now (nth_or_nil slots.old chip))
         (chip_at (run_after deliveries.old run.now) chip)) }
     ensures len { vec_len log.new ≤ vec_len log.old + length (nth_or_nil slots.old chip) }
     ensures capacity { vec_capacity log.old ≤ vec_capacity log.new }
 {
     let mut receivers = deliveries.receivers(run, chip);
     let at = chip as usize;
-    let first = next_given(row, slots, at, 0, receivers);
-    let mut place = first;
+    let mut place = 0;
     while let Some(ticket) = slots.ticket(at, place) {
         if is_delivered(row, ticket, deliveries, &mut receivers, chip, here, log) {
             slots.remove(at, place);
@@ -232,18 +234,18 @@ pub(crate) fn deliver_at(
 /// The first place of a chip, from this one on, of a ticket whose message is delivered to one of these receivers; as
 /// many as stand there, if there is none. Nothing is written meanwhile, so that where its slots lie is found once.
 fn next_given(
-    row: &MessageRow,
+    row: &[Message],
     slots: &TicketQueues,
     here: usize,
     from: usize,
     receivers: Plane,
 ) -> usize
     requires stands { here < length slots.now }
-    requires kept { HaveMessages (length row.now.items) (nth_or_nil slots.now here) }
+    requires kept { HaveMessages (length row.now) (nth_or_nil slots.now here) }
     requires from { from ≤ length (nth_or_nil slots.now here) }
     ensures passed { (j : ℕ) (t : Ticket) → from ≤ j → j < result → Some t ≡ slice_get (nth_or_nil slots.now here) j
         → (before chip : List Processor) → IsPlane receivers (can_receive chip) → (seen : List Message)
-        → HasDelivered before seen chip → HasHandedOver false before seen (message_of_ticket row.now.items t) chip }
+        → HasDelivered before seen chip → HasHandedOver false before seen (message_of_ticket row.now t) chip }
     ensures from { from ≤ result }
     ensures within { result ≤ length (nth_or_nil slots.now here) }
 {
@@ -258,22 +260,23 @@ fn next_given(
 }
 
 /// Whether the message of a ticket is delivered to one of these receivers.
-fn is_given(row: &MessageRow, ticket: Ticket, receivers: Plane) -> bool
-    requires kept { ticket.number < length row.now.items }
+fn is_given(row: &[Message], ticket: Ticket, receivers: Plane) -> bool
+    requires kept { ticket.number < length row.now }
     ensures kept { IsFalse result → (before chip : List Processor) → IsPlane receivers (can_receive chip)
         → (seen : List Message) → HasDelivered before seen chip
-        → HasHandedOver false before seen (message_of_ticket row.now.items ticket) chip }
+        → HasHandedOver false before seen (message_of_ticket row.now ticket) chip }
 {
+    // Only a message that has arrived is read: where it is kept lies far from the others.
     if ticket.rel != 0 {
         who_has_not_arrived_is_kept();
         return false;
     }
-    receives(receivers, row.target(ticket.number))
+    receives(receivers, row[usize::from(ticket.number)].proc)
 }
 
 /// Delivers the message of a ticket, if it has arrived and its processor can receive.
 fn is_delivered(
-    row: &MessageRow,
+    row: &[Message],
     ticket: Ticket,
     deliveries: &mut Deliveries,
     receivers: &mut Plane,
@@ -281,22 +284,21 @@ fn is_delivered(
     here: u16,
     log: &mut Vec<Event>,
 ) -> bool
-    requires kept { ticket.number < length row.now.items }
+    requires kept { ticket.number < length row.now }
     requires room { length deliveries.old < 128 }
     requires log_room { 0 < log_room log.old }
     ensures step { (before now : List Processor) (seen : List Message) → HasDelivered before seen now
-        → IsPlane receivers.old (can_receive now)
-        → HasHandedOver result before seen (message_of_ticket row.now.items ticket)
-        (chip_handed result (message_of_ticket row.now.items ticket) now) }
+        → IsPlane receivers.old (can_receive now) → HasHandedOver result before seen (message_of_ticket row.now ticket)
+        (chip_handed result (message_of_ticket row.now ticket) now) }
     ensures receivers { (before now : List Processor) (seen : List Message) → HasDelivered before seen now
         → IsPlane receivers.old (can_receive now)
-        → IsPlane receivers.new (can_receive (chip_handed result (message_of_ticket row.now.items ticket) now)) }
+        → IsPlane receivers.new (can_receive (chip_handed result (message_of_ticket row.now ticket) now)) }
     ensures later { (run : Chips) → run_after deliveries.new run ≡ slice_set (run_after deliveries.old run) chip
-        (chip_handed result (message_of_ticket row.now.items ticket) (chip_at (run_after deliveries.old run) chip)) }
+        (chip_handed result (message_of_ticket row.now ticket) (chip_at (run_after deliveries.old run) chip)) }
     ensures before { (k : ℕ) → chip < k → AreBefore k deliveries.old → AreBefore k deliveries.new }
     ensures count { length deliveries.new ≡ length deliveries.old + (if result then 1 else 0) }
     ensures log { log.new.items ≡ log.old.items
-        ++ (if result then event.Delivered here (message_of_ticket row.now.items ticket) ∷ [] else []) }
+        ++ (if result then event.Delivered here (message_of_ticket row.now ticket) ∷ [] else []) }
     ensures len { vec_len log.new ≤ vec_len log.old + 1 }
     ensures quiet { IsFalse result → vec_len log.new ≡ vec_len log.old }
     ensures capacity { vec_capacity log.old ≤ vec_capacity log.new }
@@ -306,8 +308,7 @@ fn is_delivered(
         who_has_not_arrived_is_kept();
         return false;
     }
-    let message = message_of(row.messages(), ticket);
-    deliveries.hand_over(receivers, &message, chip, here, log)
+    deliveries.hand_over(receivers, &message_of(row, ticket), chip, here, log)
 }
 
 /// The message that a ticket stands for.

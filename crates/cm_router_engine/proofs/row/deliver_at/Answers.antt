@@ -1,7 +1,7 @@
-use Rattle.std.proofs.Common.{◌≡◌, ◌+◌, true, false, [], ◌∷◌, List, rules, remove, set, Some, get_or-set_same, length, sym, ap}
+use Rattle.std.proofs.Common.{◌≡◌, ◌+◌, true, false, [], ◌∷◌, List, remove, set, Some, get_or-set_same, length, sym, ap}
 use Rattle.std.proofs.Common.{◌∙◌, arith, length-set}
 use Rattle.std.proofs.lemmas.Grind.{elements}
-use Rattle.std.proofs.lemmas.List.{length-map, append-nil, set-get_or}
+use Rattle.std.proofs.lemmas.List.{length-map, append-nil}
 use Rattle.std.proofs.lemmas.List.Edits.{length-remove}
 use Rattle.std.proofs.lemmas.Option.{slice_get_within}
 use Rattle.std.specs.List.{slice_get}
@@ -9,39 +9,14 @@ use Rattle.cm_model.specs.Processor.{Processor}
 use Rattle.cm_model.specs.Array.{Chips, chip_at, nth_or_nil}
 use Rattle.cm_model.specs.Letters.{chip_after_delivery}
 use Rattle.cm_model.proofs.Leaving.{past_none}
-use Rattle.cm_model.proofs.Scan.{HandsOver, scan_begins, scan_ends}
+use Rattle.cm_model.proofs.Scan.{HandsOver, scan_ends}
 use Rattle.cm_router.specs.Deliveries.{run_after}
-use Rattle.cm_router_engine.specs.Standing.{message_of_ticket, standing}
+use Rattle.cm_router_engine.specs.Standing.{message_of_ticket}
 use Rattle.cm_router_engine.proofs.Carrying.{without_kept}
 use Rattle.cm_router_engine.proofs.Keeping.{written_again, scan_taken, scan_passed, scan_to}
 use Rattle.cm_model.specs.Chip.{IsPlane}
 use Rattle.cm_model.specs.Letters.{can_receive}
 use Rattle.cm_router_engine.proofs.row.deliver_at.Goals as goal
-
-pub loop-ticket-init : goal.loop-ticket-init
-loop-ticket-init c =
-    let place = c.args.chip in
-    let first : Chips = run_after c.args.deliveries.now c.args.run.now in
-    let chip : List Processor = chip_at first place in
-    let queue = nth_or_nil c.args.slots.now place in
-    let row = c.args.row.now.items in
-    let passing = c.next_given-first.ensures in
-    let who = c.receivers-receivers.ensures in
-    record {
-      scan = scan_to 0 c.next_given-first.result row queue passing.from passing.within
-          (λ j t from below at. passing.passed j t from below at chip chip who.value)
-          (scan_begins chip (standing row queue) c.args.log.now.items c.args.here who.gone);
-      run = sym (set-get_or first place []);
-      inside = search (rules, arith);
-      receivers = who.value;
-      before = search (rules, arith);
-      room = search (rules, arith);
-      kept = c.requires.kept;
-      fewer = omega arith;
-      others = sym (set-get_or c.args.slots.now place []);
-      len = search (rules, arith);
-      capacity = omega arith;
-    }
 
 pub next_given-place-requires-clause-kept : goal.next_given-place-requires-clause-kept
 next_given-place-requires-clause-kept c =
@@ -79,7 +54,7 @@ loop-ticket-preserved-then-is_delivered c =
     let place = c.args.chip in
     let first : Chips = run_after c.args.deliveries.now run in
     let old : Chips = run_after c.loop-ticket.deliveries run in
-    let m = message_of_ticket c.args.row.now.items c.in-Some.ticket in
+    let m = message_of_ticket c.args.row.now c.in-Some.ticket in
     let chip : List Processor = chip_after_delivery (m ∷ []) (chip_at old place) in
     let put = step.later run in
     let now : chip_at (run_after c.is_delivered.new.deliveries run) place ≡ chip =
@@ -95,10 +70,10 @@ loop-ticket-preserved-then-is_delivered c =
     (can_receive (chip_at (run_after c.is_delivered.new.deliveries run) place)) =
     rw now (step.receivers (chip_at first place) (chip_at old place) was.scan.seen was.scan.gone was.receivers) in
     record {
-      scan = scan_to c.loop-ticket.place c.next_given-place.result c.args.row.now.items (nth_or_nil c.remove.new.self place)
+      scan = scan_to c.loop-ticket.place c.next_given-place.result c.args.row.now (nth_or_nil c.remove.new.self place)
           passing.from passing.within
           (λ j t from below at. passing.passed j t from below at (chip_at first place) _ able)
-          (rw (here, step.log, now) (scan_taken c.args.row.now.items queue c.in-Some.ticket is was.scan next));
+          (rw (here, step.log, now) (scan_taken c.args.row.now queue c.in-Some.ticket is was.scan next));
       run = written_again place first old _ chip put now was.run;
       inside = omega (arith, was.inside, ap length put, length-set old place chip);
       receivers = able;
@@ -119,7 +94,7 @@ loop-ticket-preserved c =
     let place = c.args.chip in
     let first : Chips = run_after c.args.deliveries.now run in
     let old : Chips = run_after c.loop-ticket.deliveries run in
-    let m = message_of_ticket c.args.row.now.items c.in-Some.ticket in
+    let m = message_of_ticket c.args.row.now c.in-Some.ticket in
     let chip : List Processor = chip_at old place in
     let put = step.later run in
     let now : chip_at (run_after c.is_delivered.new.deliveries run) place ≡ chip =
@@ -133,10 +108,10 @@ loop-ticket-preserved c =
     (can_receive (chip_at (run_after c.is_delivered.new.deliveries run) place)) =
     rw now (step.receivers (chip_at first place) chip was.scan.seen was.scan.gone was.receivers) in
     record {
-      scan = scan_to (c.loop-ticket.place + 1) c.next_given-place-else-is_delivered.result c.args.row.now.items queue
+      scan = scan_to (c.loop-ticket.place + 1) c.next_given-place-else-is_delivered.result c.args.row.now queue
           passing.from passing.within
           (λ j t from below at. passing.passed j t from below at (chip_at first place) _ able)
-          (rw (step.log, append-nil, now) (scan_passed c.args.row.now.items queue c.in-Some.ticket is was.scan next));
+          (rw (step.log, append-nil, now) (scan_passed c.args.row.now queue c.in-Some.ticket is was.scan next));
       run = written_again place first old _ chip put now was.run;
       inside = omega (arith, was.inside, ap length put, length-set old place chip);
       receivers = able;

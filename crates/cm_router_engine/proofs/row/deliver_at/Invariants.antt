@@ -12,8 +12,8 @@ decreases-loop-ticket l = length (nth_or_nil l.slots l.chip) + (15 - l.place)
 
 abbrev pub invariant-loop-ticket : goal.invariant-loop-ticket
 invariant-loop-ticket l = record {
-  scan : Scan (chip_at (run_after l.fn.deliveries l.run) l.chip) (standing l.row.items (nth_or_nil l.fn.slots l.chip))
-      l.fn.log.items l.here (chip_at (run_after l.deliveries l.run) l.chip) (standing l.row.items (nth_or_nil l.slots l.chip))
+  scan : Scan (chip_at (run_after l.fn.deliveries l.run) l.chip) (standing l.row (nth_or_nil l.fn.slots l.chip))
+      l.fn.log.items l.here (chip_at (run_after l.deliveries l.run) l.chip) (standing l.row (nth_or_nil l.slots l.chip))
       l.place l.log.items;
   run : run_after l.deliveries l.run
       ≡ set (run_after l.fn.deliveries l.run) l.chip (chip_at (run_after l.deliveries l.run) l.chip);
@@ -21,7 +21,7 @@ invariant-loop-ticket l = record {
   receivers : IsPlane l.receivers (can_receive (chip_at (run_after l.deliveries l.run) l.chip));
   before : AreBefore (l.chip + 1) l.deliveries;
   room : length l.deliveries + (length (nth_or_nil l.slots l.chip) - l.place) ≤ 128;
-  kept : HaveMessages (length l.row.items) (nth_or_nil l.slots l.chip);
+  kept : HaveMessages (length l.row) (nth_or_nil l.slots l.chip);
   fewer : length (nth_or_nil l.slots l.chip) ≤ length (nth_or_nil l.fn.slots l.chip);
   others : IsWritten l.chip l.fn.slots l.slots;
   len : vec_len l.log + (length (nth_or_nil l.slots l.chip) - l.place)

@@ -7,4 +7,4 @@ returns-then-ticket-ne0-clause-step c = λ before now seen gone able.
 
 pub returns-clause-step : goal.returns-clause-step
 returns-clause-step c = λ before now seen gone able.
-    rw (c.message_of-message.ensures.value, c.messages.ensures.value) at (c.hand_over.ensures.step before now seen gone able)
+    rw c.message_of.ensures.value at (c.hand_over.ensures.step before now seen gone able)

@@ -17,7 +17,7 @@ abbrev pub invariant-loop-ticket : goal.invariant-loop-ticket
 invariant-loop-ticket l = record {
   passed : (j : ℕ) (t : Ticket) → l.from ≤ j → j < l.place → Some t ≡ slice_get (nth_or_nil l.slots l.here) j
       → (before chip : List Processor) → IsPlane l.receivers (can_receive chip) → (seen : List Message)
-      → HasDelivered before seen chip → HasHandedOver false before seen (message_of_ticket l.row.items t) chip;
+      → HasDelivered before seen chip → HasHandedOver false before seen (message_of_ticket l.row t) chip;
   from : l.from ≤ l.place;
   within : l.place ≤ length (nth_or_nil l.slots l.here);
 }

@@ -25,7 +25,7 @@ pub invariant_of-self : goal.invariant_of-self
 invariant_of-self c =
     let was = c.self.invariant in
     let are = ap (λ (crossing : InFlight). crossing.buffers) c.self.view_is in
-    let long = whole_crossed_long c.messages.result.now c.self.inside.row.items c.messages.ensures.value
+    let long = whole_crossed_long c.deref.result.now c.self.inside.row.items c.deref.ensures.value
     (routing_of c.args.routing.now) c.args.sizes.room c.args.dim c.args.span c.args.first c.self.inside.slots
     c.cross.new.slots c.args.self.now.buffers are c.cross.ensures.value in
     let before = sym (length-map c.self.inside.slots (standing c.self.inside.row.items)) ∙ (ap length are ∙ c.requires.count) in
@@ -37,7 +37,7 @@ invariant_of-self c =
       spare_capacity = was.spare_capacity;
       filled = was.filled;
       rows = omega (arith, (with_items c.self.inside.leavers c.cross.new.leavers).ok.0, c.self.inside.leavers.ok.0, was.rows, long, before);
-      kept = whole_crossed_kept c.messages.result.now c.self.inside.row.items c.messages.ensures.value
+      kept = whole_crossed_kept c.deref.result.now c.self.inside.row.items c.deref.ensures.value
           (routing_of c.args.routing.now) c.args.sizes.room c.args.dim c.args.span c.args.first c.self.inside.slots
           c.cross.new.slots c.args.self.now.buffers are c.cross.ensures.value was.kept;
       together = λ t. absurd cc;
@@ -48,14 +48,14 @@ pub returns : goal.returns
 returns c =
     let are = ap (λ (crossing : InFlight). crossing.buffers) c.self.view_is in
     record {
-      value = whole_crossed c.messages.result.now c.self.inside.row.items c.messages.ensures.value
+      value = whole_crossed c.deref.result.now c.self.inside.row.items c.deref.ensures.value
           (routing_of c.args.routing.now) c.args.sizes.room c.args.dim c.args.span c.args.first c.self.inside.slots
           c.cross.new.slots c.args.self.now.buffers are c.cross.ensures.value;
       count = length-map c.cross.new.slots (standing c.self.inside.row.items)
-          ∙ whole_crossed_long c.messages.result.now c.self.inside.row.items c.messages.ensures.value
+          ∙ whole_crossed_long c.deref.result.now c.self.inside.row.items c.deref.ensures.value
           (routing_of c.args.routing.now) c.args.sizes.room c.args.dim c.args.span c.args.first c.self.inside.slots
           c.cross.new.slots c.args.self.now.buffers are c.cross.ensures.value;
-      within = whole_crossed_within c.messages.result.now c.self.inside.row.items c.messages.ensures.value
+      within = whole_crossed_within c.deref.result.now c.self.inside.row.items c.deref.ensures.value
           (routing_of c.args.routing.now) c.args.sizes.room c.args.dim c.args.span c.args.first c.self.inside.slots
           c.cross.new.slots c.args.self.now.buffers are c.cross.ensures.value c.requires.within
           (omega (arith, c.args.sizes.bounds.some_room));

@@ -16,8 +16,7 @@ leave-requires-clause-within c =
 pub collect-requires-clause-kept : goal.collect-requires-clause-kept
 collect-requires-clause-kept c =
     let are = ap (λ (crossing : InFlight). crossing.buffers) c.self.view_is in
-    rw (c.messages-2.ensures.value, ← c.messages.ensures.value)
-    (whole_gone_kept c.messages.result.now c.self.inside.row.items c.messages.ensures.value
+    rw (c.deref-2.ensures.value, ← c.deref.ensures.value) (whole_gone_kept c.deref.result.now c.self.inside.row.items c.deref.ensures.value
     (routing_of c.args.routing.now) c.args.sizes.room c.args.dim c.args.first c.self.inside.slots
     c.leave.new.slots c.args.self.now.buffers are c.leave.ensures.value c.leave.new.leavers c.leave.ensures.going
     c.self.invariant.kept)
@@ -26,7 +25,7 @@ pub invariant_of-self : goal.invariant_of-self
 invariant_of-self c =
     let was = c.self.invariant in
     let are = ap (λ (crossing : InFlight). crossing.buffers) c.self.view_is in
-    let long = whole_left_long c.messages.result.now c.self.inside.row.items c.messages.ensures.value
+    let long = whole_left_long c.deref.result.now c.self.inside.row.items c.deref.ensures.value
     (routing_of c.args.routing.now) c.args.sizes.room c.args.dim c.args.first c.self.inside.slots
     c.leave.new.slots c.args.self.now.buffers are c.leave.ensures.value in
     record {
@@ -37,7 +36,7 @@ invariant_of-self c =
       spare_capacity = was.spare_capacity;
       filled = was.filled;
       rows = omega (arith, (with_items c.self.inside.leavers c.leave.new.leavers).ok.0, c.self.inside.leavers.ok.0, was.rows, long);
-      kept = whole_left_kept c.messages.result.now c.self.inside.row.items c.messages.ensures.value
+      kept = whole_left_kept c.deref.result.now c.self.inside.row.items c.deref.ensures.value
           (routing_of c.args.routing.now) c.args.sizes.room c.args.dim c.args.first c.self.inside.slots
           c.leave.new.slots c.args.self.now.buffers are c.leave.ensures.value was.kept;
       together = λ t. absurd cc;
@@ -48,19 +47,19 @@ pub returns : goal.returns
 returns c =
     let are = ap (λ (crossing : InFlight). crossing.buffers) c.self.view_is in
     record {
-      value = whole_left c.messages.result.now c.self.inside.row.items c.messages.ensures.value
+      value = whole_left c.deref.result.now c.self.inside.row.items c.deref.ensures.value
           (routing_of c.args.routing.now) c.args.sizes.room c.args.dim c.args.first c.self.inside.slots
           c.leave.new.slots c.args.self.now.buffers are c.leave.ensures.value;
       going = c.collect.ensures.value
-          ∙ ((λ i. map (λ t. option_map (message_of_ticket (c.messages-2.ensures.value i)) t) c.leave.new.leavers)
-          ∙ whole_gone c.messages.result.now c.self.inside.row.items c.messages.ensures.value
+          ∙ ((λ i. map (λ t. option_map (message_of_ticket (c.deref-2.ensures.value i)) t) c.leave.new.leavers)
+          ∙ whole_gone c.deref.result.now c.self.inside.row.items c.deref.ensures.value
           (routing_of c.args.routing.now) c.args.sizes.room c.args.dim c.args.first c.self.inside.slots
           c.leave.new.slots c.args.self.now.buffers are c.leave.ensures.value c.leave.new.leavers c.leave.ensures.going);
-      within = whole_left_within c.messages.result.now c.self.inside.row.items c.messages.ensures.value
+      within = whole_left_within c.deref.result.now c.self.inside.row.items c.deref.ensures.value
           (routing_of c.args.routing.now) c.args.sizes.room c.args.dim c.args.first c.self.inside.slots
           c.leave.new.slots c.args.self.now.buffers are c.leave.ensures.value c.requires.within
           (omega (arith, c.args.sizes.bounds.some_room));
-      space = whole_left_space c.messages.result.now c.self.inside.row.items c.messages.ensures.value
+      space = whole_left_space c.deref.result.now c.self.inside.row.items c.deref.ensures.value
           (routing_of c.args.routing.now) c.args.sizes.room c.args.dim c.args.first c.self.inside.slots
           c.leave.new.slots c.args.self.now.buffers are c.leave.ensures.value c.requires.within
           (omega (arith, c.args.sizes.bounds.some_room));

@@ -11,7 +11,7 @@ invariant_of-self c =
     let queues = c.self.inside.slots in
     let moved = c.deref-then-rearrange.result.now in
     let have : HaveMoved c.self.inside.row.items c.rearrange.new.spare.items moved =
-    rw (c.deref-then-rearrange.ensures.value, ← c.messages-2.ensures.value) (c.rearrange.ensures.value c.if-rearrange.true) in
+    rw (c.deref-then-rearrange.ensures.value, ← c.deref-2.ensures.value) (c.rearrange.ensures.value c.if-rearrange.true) in
     let long : length c.renumber.new.slots ≡ length queues =
     ap length c.renumber.ensures.value ∙ length-map queues (map (moved_ticket moved)) in
     record {
@@ -20,7 +20,7 @@ invariant_of-self c =
       most = was.most;
       capacity = rw c.swap.ensures.x_after (omega (arith, c.rearrange.ensures.capacity, was.spare_capacity));
       spare_capacity = rw c.swap.ensures.y_after was.capacity;
-      filled = rw c.swap.ensures.x_after (omega (arith, c.rearrange.ensures.len, c.messages-2.ensures.len, was.filled));
+      filled = rw c.swap.ensures.x_after (omega (arith, c.rearrange.ensures.len, c.deref-2.ensures.len, was.filled));
       rows = omega (arith, was.rows, long);
       kept = rw (c.swap.ensures.x_after, c.renumber.ensures.value) (all_kept_moved have queues was.kept);
       together = λ t. absurd cc;
@@ -32,7 +32,7 @@ returns-then-rearrange c =
     let queues = c.self.inside.slots in
     let moved = c.deref-then-rearrange.result.now in
     let have : HaveMoved c.self.inside.row.items c.rearrange.new.spare.items moved =
-    rw (c.deref-then-rearrange.ensures.value, ← c.messages-2.ensures.value) (c.rearrange.ensures.value c.if-rearrange.true) in
+    rw (c.deref-then-rearrange.ensures.value, ← c.deref-2.ensures.value) (c.rearrange.ensures.value c.if-rearrange.true) in
     record {
       value = rw (c.swap.ensures.x_after, c.renumber.ensures.value) (all_standing_moved have queues c.self.invariant.kept)
           ∙ ap (λ (crossing : InFlight). crossing.buffers) c.self.view_is;
