@@ -7,7 +7,7 @@ use Rattle.cm_system.specs.Trace.{IoEvent}
 use Rattle.cm_system.specs.InputFiles.{Reads}
 use Rattle.cm_system.specs.Streams.{Streams, IsUnread, IsUntouched}
 use Rattle.cm_tools.specs.Tools.{IsChipTrace, IsFreshTrace, IsListTrace}
-use Rattle.cm_cli.specs.Runs.{IsRunTrace}
+use Rattle.cm_run.specs.Runs.{IsRunTrace}
 use Rattle.cm_tools.specs.Weaving.{outgoing_of}
 use Rattle.cm_tools.specs.Weaves.{IsWeaveTrace}
 

@@ -1,12 +1,8 @@
-//! The library behind the program: sessions over files, and what is done for each command line.
+//! The library behind the program: what is done for each command line, and several workers for a session.
 #![tactic(auto)]
 
-mod dispatch;
-mod files;
 mod performing;
-mod sharing;
+mod several;
 
-pub use dispatch::{Alone, SessionRunner, Several};
-pub use files::{RunLine, run_files};
 pub use performing::perform;
-pub use sharing::Sharing;
+pub use several::Several;

@@ -8,14 +8,13 @@ ghost use Rattle.cm_system.specs.Streams.{streams};
 ghost use Rattle.cm_cli.specs.Lines.{IsLineTrace};
 ghost use Rattle.cm_cli.specs.Performed.{AsksLine, AsksNoLine, IsWordsTrace, Performs, ReportsFault, asked_words};
 
-use crate::dispatch::{Alone, Several};
-use crate::files::{RunLine, run_files};
-use crate::sharing::Sharing;
+use crate::several::Several;
 use cm_args::{Line, LineFault, command};
 use cm_bits::{Sink, Source};
+use cm_gates::Passage;
+use cm_run::{Alone, RunLine, Sharing, run_files};
 use cm_system::{ProgramFault, System, report};
 use cm_tools::{WeaveLine, chip_line, fresh_line, list_line, weave_files};
-use cm_workers::Passage;
 use std::alloc::Global;
 use std::sync::Wait;
 use std::thread::Threads;

@@ -21,8 +21,8 @@ use Rattle.cm_subcube.specs.Blocks.{BlockView}
 use Rattle.cm_subcube.specs.Laws.{all_blocks}
 use Rattle.cm_subcube.specs.Rounds.{round_of}
 use Rattle.cm_subcube.proofs.Joining.{joined-blocks, AreWhole-blocks}
-use Rattle.cm_workers.specs.Dealing.{hand, AreDealt, AreShares}
-use Rattle.cm_workers.specs.Runs.{AreAfter}
+use Rattle.cm_gates.specs.Dealing.{hand, AreDealt, AreShares}
+use Rattle.cm_gates.specs.Blocks.{AreAfter}
 use Rattle.cm_turns.specs.declared.worker.Worker.{Worker}
 use Rattle.cm_resident.specs.declared.running.PendingWorker.{PendingWorker}
 use Rattle.cm_turns.specs.Lanes.{Run, before, rounds_in}

@@ -17,7 +17,7 @@ use Rattle.cm_subcube.specs.Blocks.{BlockView, IsFresh}
 use Rattle.cm_subcube.specs.Laws.{all_blocks}
 use Rattle.cm_subcube.proofs.Joining.{clock-block}
 use Rattle.cm_board.specs.Courses.{Course}
-use Rattle.cm_workers.specs.Dealing.{hand, AreDealt}
+use Rattle.cm_gates.specs.Dealing.{hand, AreDealt}
 use Rattle.cm_resident.specs.declared.worker_parts.WorkerParts.{WorkerParts}
 use Rattle.cm_turns.specs.Lanes.{Run, ends_each, course, own, givers}
 use Rattle.cm_turns.specs.Standing.{block_number, IsRunBlock, AreEndsBefore, IsUnused}

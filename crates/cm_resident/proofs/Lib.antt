@@ -1,7 +1,6 @@
 mod Numbered
 mod Opening
 mod Fitting
-mod Starts
 mod Rows
 mod Ending
 mod Fronts

@@ -14,8 +14,8 @@ use Rattle.cm_subcube.specs.declared.round.Kind.TheVariants as kind
 use Rattle.cm_subcube.specs.Rounds.{rounds_of}
 use Rattle.cm_subcube.proofs.FewRounds.{rounds_are_few}
 use Rattle.cm_board.specs.Courses.{Course}
-use Rattle.cm_workers.specs.Dealing.{hand}
-use Rattle.cm_workers.specs.Posts.{giver_of_kind, AreHandedOver}
+use Rattle.cm_gates.specs.Dealing.{hand}
+use Rattle.cm_gates.specs.Handing.{giver_of_kind, AreHandedOver}
 use Rattle.cm_subcube.specs.Parcels.{CanBeOver}
 use Rattle.cm_turns.specs.Lanes.{Run, kind_of_index, ends_each, course, own, givers}
 use Rattle.cm_resident.specs.Gathering.{AreAll, AreFrom, AreFirsts}

@@ -6,7 +6,7 @@ use Rattle.std.proofs.lemmas.Bool.{cases_lt}
 use Rattle.std.proofs.lemmas.Nat.{div-add-mod', mul-le}
 use Rattle.std.proofs.Math.Nat.{mod-lt}
 use Rattle.std.proofs.lemmas.List.{length-append, length-drop, drop-drop, get_or-drop, get_or_append_left, get_or_push}
-use Rattle.cm_workers.specs.Dealing.{hand, AreDealt, AreShares}
+use Rattle.cm_gates.specs.Dealing.{hand, AreDealt, AreShares}
 use Rattle.cm_resident.specs.Gathering.{IsRowTaken}
 
 pub none_taken : {X : Type 0} (total : ℕ) (hands : List (Vec X Global)) (things : List X) → length things ≤ total

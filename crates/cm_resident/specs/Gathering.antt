@@ -1,7 +1,7 @@
 -- What the threads of a team leave, rows of things, the first of each hand, and things of a number of them. Ours.
 use Rattle.std.specs.Prelude.{◌≡◌, ℕ, ◌+◌, ◌<◌, ◌≤◌, min, List, [], drop, length, get_or, Vec}
 use Rattle.std.specs.declared.alloc.Global.{Global}
-use Rattle.cm_workers.specs.Dealing.{hand}
+use Rattle.cm_gates.specs.Dealing.{hand}
 
 -- the first thing of each of the first m hands stands behind the things, as long as there are not so many
 pub record IsRowTaken {X : Type 0} (total m : ℕ) (hands : List (Vec X Global)) (things : List X)

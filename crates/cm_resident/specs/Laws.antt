@@ -5,7 +5,7 @@ use Rattle.cm_model.specs.Machine.{run_of}
 use Rattle.cm_model.specs.Keeping.{IsMachine}
 use Rattle.cm_array.specs.Cuts.{joined, AreWhole}
 use Rattle.cm_subcube.specs.Blocks.{BlockView}
-use Rattle.cm_workers.specs.Dealing.{AreDealt, AreShares}
+use Rattle.cm_gates.specs.Dealing.{AreDealt, AreShares}
 use Rattle.cm_turns.specs.declared.worker.Worker.{Worker}
 use Rattle.cm_exchange.specs.Lanes as exchange
 use Rattle.cm_turns.specs.Lanes.{Run, dues, givers}

@@ -1,5 +1,4 @@
 pub mod Teams
-pub mod Starting
 pub mod Gathering
 pub mod Laws
 pub mod TeamSetups

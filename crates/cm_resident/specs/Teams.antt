@@ -5,7 +5,7 @@ use Rattle.cm_blocks.specs.Parts.{block}
 use Rattle.cm_blocks.specs.Parcels.{Parcel}
 use Rattle.cm_subcube.specs.Blocks.{BlockView}
 use Rattle.cm_board.specs.Courses.{Course}
-use Rattle.cm_workers.specs.Dealing.{hand}
+use Rattle.cm_gates.specs.Dealing.{hand}
 use Rattle.cm_resident.specs.declared.worker_parts.WorkerParts.{WorkerParts}
 use Rattle.cm_turns.specs.declared.worker.Worker.{Worker}
 use Rattle.cm_turns.specs.Lanes.{Run, ends_each, course, own, givers}

@@ -2,7 +2,7 @@
 
 ghost use Rattle.std.specs.Prelude.{◌≡◌, IfOk};
 
-use cm_workers::{NoThread, Passage};
+use cm_gates::{NoThread, Passage};
 
 /// That a worker was admitted. Nobody makes one but who asked for that worker, so none works of whom nobody asked, and
 /// no thread is started before: it takes this with it.

@@ -8,15 +8,14 @@ ghost use Rattle.cm_model.specs.Machine.{run_of};
 ghost use Rattle.cm_model.specs.Account.{account, newly_injected, SameLines};
 ghost use Rattle.cm_array.specs.Acts.{is_late, is_long};
 ghost use Rattle.cm_array.specs.Faults.{CountsLacks, is_no_thread};
-ghost use Rattle.cm_workers.specs.Forks.{fork_fault};
+ghost use Rattle.cm_gates.specs.Forks.{fork_fault};
 
-use crate::resident::{fault_of, share_of, told};
 use crate::shared_list::SharedList;
 use crate::short_lists::is_soon_done;
 use cm_array::{Machine, Part, Plain, RunFault, Runner, check_stretch};
+use cm_gates::{ForkFault, OutOf, Passage, fault_of, share_of, told};
 use cm_model::Act;
 use cm_subcube::rounds;
-use cm_workers::{ForkFault, OutOf, Passage};
 use std::alloc::Global;
 use std::sync::Wait;
 use std::thread::Threads;

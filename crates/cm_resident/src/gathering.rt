@@ -1,7 +1,7 @@
 //! What the workers of a team left, in order, and things that are taken from several lists.
 
 ghost use Rattle.std.specs.Prelude.{◌≡◌, ◌≢◌, ◌↔◌, ℕ, ◌+◌, ◌<◌, ◌≤◌, IfOk, [], drop, get_or, length, vec_capacity};
-ghost use Rattle.cm_workers.specs.Dealing.{hand, AreDealt, AreShares};
+ghost use Rattle.cm_gates.specs.Dealing.{hand, AreDealt, AreShares};
 ghost use Rattle.cm_resident.specs.Gathering.{AreFirsts, IsRowTaken};
 
 use cm_bits::NoMemory;

@@ -4,10 +4,10 @@ ghost use Rattle.std.specs.Prelude.{◌≡◌};
 ghost use Rattle.cm_turns.specs.Workers.{HasWorked, IsOfSome};
 
 use crate::admission::Admission;
-use crate::start::Released;
+use cm_gates::Passage;
+use cm_starts::Released;
 use cm_subcube::Block;
 use cm_turns::Worker;
-use cm_workers::Passage;
 use std::marker::Model;
 use std::sync::Wait;
 

@@ -8,10 +8,10 @@ ghost use Rattle.cm_resident.specs.Teams.{AreAtPlace, AreByPlace};
 use cm_array::Machine;
 use cm_bits::NoMemory;
 use cm_board::{FromEnd, Lane, Plan, ToEnd};
+use cm_gates::hand_over;
 use cm_model::Act;
 use cm_subcube::{Kind, Parcel};
 use cm_turns::ends_each;
-use cm_workers::hand_over;
 use std::alloc::Global;
 
 /// What a block sends over one of its lanes when a machine goes through acts.

@@ -11,7 +11,6 @@ mod resident;
 mod running;
 mod shared_list;
 mod short_lists;
-mod start;
 mod teams;
 mod together;
 mod worker_parts;

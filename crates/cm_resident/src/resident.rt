@@ -1,19 +1,19 @@
 //! The runner whose workers run on.
 
-ghost use Rattle.std.specs.Prelude.{◌≡◌, ◌≢◌, ◌↔◌, ℕ, ◌-◌, ◌/◌, ◌^◌, ◌<◌, ◌≤◌, ◌++◌, [], None, ltb, MatchResult};
+ghost use Rattle.std.specs.Prelude.{◌≡◌, ◌≢◌, ◌↔◌, ℕ, ◌<◌, ◌++◌, [], None};
 ghost use Rattle.std.specs.Prelude.{IfOk, IfSome, IsErrOf, IsFalse, IsOk, IsTrue, OnOk, OnErr};
 ghost use Rattle.std.specs.Thread.{IsSync};
 ghost use Rattle.cm_model.specs.Machine.{run_of};
 ghost use Rattle.cm_model.specs.Account.{account, newly_injected, SameLines};
 ghost use Rattle.cm_array.specs.Acts.{is_late, is_long};
 ghost use Rattle.cm_array.specs.Faults.{CountsLacks, is_no_thread};
-ghost use Rattle.cm_workers.specs.Forks.{fork_fault, most_blocks, most_workers, of_want};
+ghost use Rattle.cm_gates.specs.Forks.{fork_fault, most_workers};
 
 use crate::shared_list::SharedList;
 use cm_array::{Machine, Part, RunFault, Runner, check_stretch};
+use cm_gates::{ForkFault, OutOf, Passage, fault_of, share_of, told};
 use cm_model::Act;
 use cm_subcube::rounds;
-use cm_workers::{ForkFault, OutOf, Passage};
 use std::alloc::Global;
 use std::sync::Wait;
 use std::thread::Threads;
@@ -32,13 +32,6 @@ pub struct Resident<'a, R> {
     /// The parts of its last list, whose room the next takes.
     used: Vec<Part>,
     ghost some: { 0 < workers },
-}
-
-/// Into 2^`k` blocks a machine is cut, for so many workers.
-#[derive(Clone, Copy)]
-pub(crate) struct Share {
-    pub(crate) k: u8,
-    pub(crate) workers: u16,
 }
 
 impl<'a, R> Resident<'a, R> {
@@ -119,54 +112,5 @@ impl<'a, const N: usize, const CAP: usize, R: Threads + Wait + Sync> Runner<N, C
             self.threads_lacked = self.threads_lacked.wrapping_add(1);
         }
         told(done)
-    }
-}
-
-/// Why no machine of 2^`N` chips is cut into 2^`k` blocks for so many workers.
-pub(crate) fn fault_of<const N: usize>(k: u8, workers: u16) -> Option<ForkFault>
-    ensures value { result ≡ fork_fault N k workers }
-{
-    if usize::from(k) > N - N / 2 {
-        return Some(ForkFault::Split);
-    }
-    if workers == 0 || are_too_few(k, workers) {
-        return Some(ForkFault::Workers);
-    }
-    None
-}
-
-/// How 2^`k` blocks and so many workers share out a machine of so many dimensions.
-pub(crate) fn share_of(k: u8, workers: u16, dims: u8) -> Share
-    requires dimension { dims ≤ 12 }
-    requires some { 0 < workers }
-    ensures blocks { result.k ≡ most_blocks dims k }
-    ensures workers { result.workers ≡ most_workers dims k workers }
-    ensures within { result.k ≤ dims - dims / 2 }
-    ensures some { 0 < result.workers }
-    ensures enough { result.workers ≤ 2 ^ result.k }
-    ensures few { result.workers ≤ 64 }
-{
-    let k = k.min(dims - dims / 2);
-    Share {
-        k,
-        workers: workers.min(1 << k),
-    }
-}
-
-/// Whether 2^`k` blocks are too few for so many workers.
-fn are_too_few(k: u8, workers: u16) -> bool
-    ensures value { result ≡ ltb (2 ^ k) workers }
-{
-    k < 16 && 1 << k < workers
-}
-
-/// What workers did or wanted, as a runner tells it.
-pub(crate) fn told(done: Result<(), OutOf>) -> Result<(), RunFault>
-    ensures value { MatchResult done (λ _. IsOk result) (λ want. IsErrOf result (of_want want)) }
-{
-    match done {
-        Ok(()) => Ok(()),
-        Err(OutOf::Memory(_)) => Err(RunFault::Memory),
-        Err(OutOf::Thread(_)) => Err(RunFault::NoThread),
     }
 }

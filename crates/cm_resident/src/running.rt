@@ -4,17 +4,17 @@ ghost use Rattle.std.specs.Prelude.{◌≡◌, ◌≢◌, ◌↔◌, ℕ, ◌<�
 ghost use Rattle.std.specs.Prelude.{[], get_or, length, vec_capacity};
 ghost use Rattle.std.specs.List.{All};
 ghost use Rattle.std.specs.Thread.{IsSync};
-ghost use Rattle.cm_resident.specs.Starting.{begin, cancel, start_word_for};
+ghost use Rattle.cm_starts.specs.Starting.{begin, cancel, start_word_for};
 ghost use Rattle.cm_turns.specs.Workers.{HasWorked, IsOfSome};
 ghost use Rattle.cm_resident.specs.Gathering.{AreEmpty, HaveRoom};
 
 use crate::admission::Admission;
 use crate::held::Held;
-use crate::start::{Starter, Waiter, start_word};
 use cm_bits::NoMemory;
+use cm_gates::{NoThread, Passage};
+use cm_starts::{Starter, Waiter, start_word};
 use cm_subcube::Block;
 use cm_turns::Worker;
-use cm_workers::{NoThread, Passage};
 use std::alloc::Global;
 use std::snapshot::Snapshot;
 use std::sync::Wait;

@@ -11,10 +11,10 @@ use crate::shared_list::SharedList;
 use crate::worker_parts::{WorkerParts, worker_parts};
 use cm_array::{Machine, Part, check_stretch};
 use cm_bits::NoMemory;
+use cm_gates::deal;
 use cm_model::Act;
 use cm_subcube::{Round, rounds};
 use cm_turns::Worker;
-use cm_workers::deal;
 use std::alloc::Global;
 
 /// Worker `id` of a team, with its blocks and their ends.

@@ -37,8 +37,8 @@ use Rattle.cm_subcube.proofs.Counting.{steps_until-first, deliveries_shared, eve
 use Rattle.cm_subcube.proofs.Following.{round_is_followed}
 use Rattle.cm_subcube.proofs.Sparing.{cuts_are_spared, room_for}
 use Rattle.cm_board.specs.Courses.{Course, due_now}
-use Rattle.cm_workers.specs.Posts.{giver_of_kind}
-use Rattle.cm_workers.specs.Turns.{IsShown}
+use Rattle.cm_gates.specs.Handing.{giver_of_kind}
+use Rattle.cm_gates.specs.Blocks.{IsShown}
 use Rattle.cm_turns.specs.Lanes.{Run, before, rounds_in, place_of_kind, kind_of_index, is_over, passed, parcel_sent, dues, course}
 use Rattle.cm_turns.specs.Standing.{IsRunBlock, StandsBefore}
 use Rattle.cm_turns.specs.Turns.{CanGoOn, HasGoneOn, CanSend, HasSent, CanGet, HasGot}

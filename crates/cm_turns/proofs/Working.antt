@@ -18,11 +18,11 @@ use Rattle.cm_subcube.specs.Blocks.{BlockView}
 use Rattle.cm_subcube.specs.Rounds.{round_of}
 use Rattle.cm_subcube.specs.Parcels.{IsExchangeBy}
 use Rattle.cm_board.specs.Courses.{Course}
-use Rattle.cm_workers.specs.Turns.{AreShown}
+use Rattle.cm_gates.specs.Blocks.{AreShown}
 use Rattle.cm_turns.specs.Lanes.{Run, before, rounds_in, place_of_kind, ends_each, course, own, givers}
 use Rattle.cm_turns.specs.Standing.{block_number, AreEndsBefore, IsWorkerBefore, IsUnused}
 use Rattle.cm_turns.specs.Turns.{CanGoOn, HasGoneOn, CanSend, HasSent, CanGet, HasGot, AreReady, AreUsed}
-use Rattle.cm_workers.specs.Gates.{AreBeforeRound, ComesBy, gate_round_number}
+use Rattle.cm_gates.specs.Gates.{AreBeforeRound, ComesBy, gate_round_number}
 use Rattle.cm_turns.specs.Workers.{AreDone, HasSeenOf}
 use Rattle.cm_turns.proofs.Ends.{place_in, some_blocks, ends_are, ends_next}
 use Rattle.cm_turns.proofs.Going.{count_of_block, can_begin, begun, shown, can_send, StandsSent, sent, can_get, got, exchange_of}

@@ -8,7 +8,7 @@ use Rattle.cm_array.specs.Acts.{cycles_in}
 use Rattle.cm_router.specs.Logs.{HaveLogRoom}
 use Rattle.cm_subcube.specs.Blocks.{BlockView}
 use Rattle.cm_board.specs.Courses.{Course}
-use Rattle.cm_workers.specs.Gates.{IsShareOf}
+use Rattle.cm_gates.specs.Gates.{IsShareOf}
 use Rattle.cm_turns.specs.Lanes.{Run, before, ends_each, course, own, givers}
 
 -- block b of a run as it is cut out, with room for all events of the run

@@ -6,7 +6,7 @@ use Rattle.cm_blocks.specs.Parcels.{Parcel}
 use Rattle.cm_subcube.specs.declared.round.Round.{Round}
 use Rattle.cm_subcube.specs.Blocks.{BlockView}
 use Rattle.cm_board.specs.Courses.{Course}
-use Rattle.cm_workers.specs.Gates.{HasSeen}
+use Rattle.cm_gates.specs.Gates.{HasSeen}
 use Rattle.cm_turns.specs.declared.worker.Worker.{Worker}
 use Rattle.cm_turns.specs.Lanes.{Run, before, rounds_in}
 use Rattle.cm_turns.specs.Standing.{block_number, IsWorkerBefore, IsUnused}

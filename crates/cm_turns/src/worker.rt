@@ -2,17 +2,17 @@
 
 ghost use Rattle.std.specs.Prelude.{◌≡◌, ◌≢◌, ℕ, ◌+◌, ◌*◌, ◌<◌, ◌≤◌, ◌-◌, ◌^◌, IsTrue, Some, length, get_or, slice_get};
 ghost use Rattle.std.specs.List.{All};
-ghost use Rattle.cm_workers.specs.Gates.{ComesBy, gate_round_number};
-ghost use Rattle.cm_workers.specs.Turns.{AreShown};
+ghost use Rattle.cm_gates.specs.Gates.{ComesBy, gate_round_number};
+ghost use Rattle.cm_gates.specs.Blocks.{AreShown};
 ghost use Rattle.cm_turns.specs.Lanes.{Run, ends_each, place_of_kind, rounds_in};
 ghost use Rattle.cm_turns.specs.Standing.{IsWorkerBefore};
 ghost use Rattle.cm_turns.specs.Workers.{HasPassed, HasSeenOf, HasWorked, IsBeforeRound, IsOfSome};
 
 use crate::turn::{EndPlace, begin_all, get_all, send_all};
 use cm_board::{FromEnd, ToEnd};
+use cm_gates::{Gate, Passage};
 use cm_model::Act;
 use cm_subcube::{Block, Kind, Parcel, Round};
-use cm_workers::{Gate, Passage};
 use std::sync::Wait;
 
 /// One of a team, each of whom has some blocks of a machine, and goes with them through the same acts.

@@ -22,7 +22,8 @@ use Rattle.cm_subcube.specs.Laws.{all_blocks}
 use Rattle.cm_subcube.proofs.Joining.{clock-block, joined-blocks, AreWhole-blocks}
 use Rattle.cm_workers.specs.declared.post.Post.{Post}
 use Rattle.cm_workers.specs.Posts.{blank_post}
-use Rattle.cm_workers.specs.Runs.{StandAt, AreAfter}
+use Rattle.cm_gates.specs.Blocks.{AreAfter}
+use Rattle.cm_workers.specs.Runs.{StandAt}
 
 -- blocks that were just cut stand at the first turn of a run
 pub stand_first : (n cap k cycles : ℕ) (machine : Machine) (acts : List Act)

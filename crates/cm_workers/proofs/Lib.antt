@@ -1,5 +1,3 @@
-mod Hands
-mod Across
 mod PlaceByPlace
 mod Turning
 mod Shifting

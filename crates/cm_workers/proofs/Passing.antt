@@ -16,11 +16,13 @@ use Rattle.cm_subcube.specs.Blocks.{BlockView}
 use Rattle.cm_subcube.specs.Rounds.{round_of, rounds_of}
 use Rattle.cm_workers.specs.declared.post.Post.{Post}
 use Rattle.cm_workers.specs.Posts.{blank_post}
-use Rattle.cm_workers.specs.Dealing.{hand, AreDealt}
+use Rattle.cm_gates.specs.Dealing.{hand, AreDealt}
 use Rattle.cm_workers.specs.Each.{AreEach}
-use Rattle.cm_workers.specs.Turns.{round_before, part_gone_on, HasGoneOn, AreShown}
+use Rattle.cm_gates.specs.Blocks.{AreShown}
+use Rattle.cm_workers.specs.Turns.{round_before, part_gone_on, HasGoneOn}
 use Rattle.cm_workers.specs.Runs.{StandsAt, HaveBegun}
-use Rattle.cm_workers.specs.Gates.{gate_round_number, IsBeforeRound, AreBeforeRound, ComesBy, StandsAsWorker, IsWorkersTurn}
+use Rattle.cm_gates.specs.Gates.{gate_round_number, IsBeforeRound, AreBeforeRound, ComesBy}
+use Rattle.cm_workers.specs.Gates.{StandsAsWorker, IsWorkersTurn}
 use Rattle.cm_workers.specs.Gates.{ShowsIn}
 use Rattle.cm_workers.specs.Shifts.{AreWorkersTurns}
 use Rattle.cm_workers.proofs.Standing.{gone_to}

@@ -4,7 +4,7 @@ use Rattle.std.proofs.Common.{drop, ◌++◌, sym, ◌∙◌, refl, subst, arith
 use Rattle.std.proofs.lemmas.List.{length-set, get_or-set_same, get_or-set_other, get_or_default}
 use Rattle.std.proofs.lemmas.List.{take-append-le, take_all}
 use Rattle.cm_workers.specs.Each.{AreEachBelow}
-use Rattle.cm_workers.proofs.Hands.{either_same, less_than}
+use Rattle.cm_gates.proofs.Hands.{either_same, less_than}
 
 pub none_yet : {A B : Type 0} (Become : A → B → A → B → Type 0) (olds : List A) (bs : List B)
     → AreEachBelow 0 Become olds bs olds bs

@@ -9,7 +9,7 @@ use Rattle.cm_model.specs.declared.act.Act.{Act}
 use Rattle.cm_subcube.specs.declared.round.Round.{Round}
 use Rattle.cm_subcube.specs.Blocks.{BlockView}
 use Rattle.cm_workers.specs.declared.post.Post.{Post}
-use Rattle.cm_workers.specs.Dealing.{hand, AreDealt, AreShares}
+use Rattle.cm_gates.specs.Dealing.{hand, AreDealt, AreShares}
 use Rattle.cm_workers.specs.Each.{AreEach}
 use Rattle.cm_workers.specs.Turns.{IsReadyForTurn, CanAllGo, HasGone}
 use Rattle.cm_workers.specs.Shifts.{CanHandsGo, HandsHaveGone}

@@ -11,7 +11,7 @@ use Rattle.cm_subcube.specs.declared.round.Round.{Round}
 use Rattle.cm_subcube.specs.Blocks.{BlockView}
 use Rattle.cm_workers.specs.declared.post.Post.{Post}
 use Rattle.cm_workers.specs.declared.shift.HasHad.{HasHad}
-use Rattle.cm_workers.specs.Dealing.{hand}
+use Rattle.cm_gates.specs.Dealing.{hand}
 use Rattle.cm_workers.specs.Each.{AreEach}
 use Rattle.cm_workers.specs.Turns.{round_before, HasGone}
 use Rattle.cm_workers.specs.Shifts.{IsPromised, IsPromiseKept, HandsHaveGone}

@@ -38,7 +38,8 @@ use Rattle.cm_subcube.proofs.Sparing.{cuts_are_spared, room_for}
 use Rattle.cm_subcube.proofs.Counting.{steps_until-first, deliveries_shared, events_shared}
 use Rattle.cm_subcube.proofs.Following.{round_is_followed}
 use Rattle.cm_workers.specs.declared.post.Post.{Post}
-use Rattle.cm_workers.specs.Posts.{lane_in, post_of, blank_post, giver_of_kind}
+use Rattle.cm_gates.specs.Handing.{giver_of_kind}
+use Rattle.cm_workers.specs.Posts.{lane_in, post_of, blank_post}
 use Rattle.cm_workers.specs.Turns.{part_taken_in, part_gone_on, left_in, sent_by, IsFollowing, HasComeBefore}
 use Rattle.cm_workers.specs.Turns.{HaveSpaceIn, IsReadyForTurn, HasGone}
 use Rattle.cm_workers.proofs.Turning.{clock_stands}

@@ -23,10 +23,12 @@ use Rattle.cm_subcube.specs.Parcels.{IsExchangeBy, CanBeOver}
 use Rattle.cm_subcube.proofs.Counting.{deliveries_shared, events_shared}
 use Rattle.cm_subcube.proofs.Following.{round_is_followed}
 use Rattle.cm_workers.specs.declared.post.Post.{Post}
-use Rattle.cm_workers.specs.Posts.{blank_post, giver_of_kind, AreHandedOver}
+use Rattle.cm_gates.specs.Handing.{giver_of_kind, AreHandedOver}
+use Rattle.cm_workers.specs.Posts.{blank_post}
 use Rattle.cm_workers.specs.Each.{AreEach}
 use Rattle.cm_workers.specs.Turns.{round_before, part_gone_on, IsReadyForTurn, CanAllGo, HasGone}
-use Rattle.cm_workers.specs.Runs.{StandsAt, StandAt, HaveBegun, AreAfter}
+use Rattle.cm_gates.specs.Blocks.{AreAfter}
+use Rattle.cm_workers.specs.Runs.{StandsAt, StandAt, HaveBegun}
 use Rattle.cm_workers.proofs.Staging.{first_turn, later_turn, ready_first, ready_later, following_next, has_sent}
 use Rattle.cm_workers.proofs.Staging.{HasSentAt, stands_next}
 

@@ -18,7 +18,8 @@ use Rattle.cm_workers.specs.Posts.{blank_post}
 use Rattle.cm_workers.specs.Each.{AreEach}
 use Rattle.cm_workers.specs.Turns.{part_gone_on, left_in, sent_by, IsReadyForTurn, CanAllGo, IsReadyToSend, CanAllSend}
 use Rattle.cm_workers.specs.Turns.{HasGoneOn, HasSentDue}
-use Rattle.cm_workers.specs.Turns.{HasGone, IsShown, AreShown, IsAhead, IsFollowing}
+use Rattle.cm_gates.specs.Blocks.{IsShown, AreShown}
+use Rattle.cm_workers.specs.Turns.{HasGone, IsAhead, IsFollowing}
 
 -- the counter stands still while a parcel is taken in
 pub clock_stands : (n room : ℕ) (step : Step) (parcel : Parcel) (s : Part)

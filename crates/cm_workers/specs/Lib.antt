@@ -1,8 +1,6 @@
-pub mod Dealing
 pub mod Posts
 pub mod Each
 pub mod Turns
 pub mod Shifts
 pub mod Runs
 pub mod Gates
-pub mod Forks

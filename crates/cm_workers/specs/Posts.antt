@@ -1,9 +1,9 @@
 -- Posts: what a block has for the rounds, a parcel of each sort. Ours.
-use Rattle.std.specs.Prelude.{◌≡◌, ℕ, ◌+◌, ◌-◌, ◌%◌, ◌^◌, ◌<◌, ◌≤◌, bit_xor, List, length, get_or}
+use Rattle.std.specs.Prelude.{ℕ}
 use Rattle.cm_blocks.specs.Parcels.{Parcel}
 use Rattle.cm_subcube.specs.declared.round.Kind.{Kind}
 use Rattle.cm_subcube.specs.declared.round.Kind.TheVariants as kind
-use Rattle.cm_subcube.specs.Parcels.{blank_parcel, IsOuter}
+use Rattle.cm_subcube.specs.Parcels.{blank_parcel}
 use Rattle.cm_workers.specs.declared.post.Post.{Post}
 
 -- the parcel of a post that goes in a round of a kind
@@ -21,23 +21,3 @@ abbrev pub post_of : ℕ → ℕ → Kind → Parcel → Post
 post_of n k kind.North parcel = record { mail = blank_parcel n k (kind.Dim 0); edge = parcel }
 post_of n k kind.South parcel = record { mail = blank_parcel n k (kind.Dim 0); edge = parcel }
 post_of n k (kind.Dim d) parcel = record { mail = parcel; edge = blank_parcel n k kind.North }
-
--- from which of 2 ^ k blocks block b gets what it takes in, in a round of a kind
-abbrev pub giver_of_kind : ℕ → ℕ → Kind → ℕ → ℕ
-giver_of_kind n k kind.North b = (b + 1) % 2 ^ k
-giver_of_kind n k kind.South b = (b + 2 ^ k - 1) % 2 ^ k
-giver_of_kind n k (kind.Dim d) b = bit_xor b (2 ^ (d - (n - k)))
-
--- each block has what its giver had
-pub record AreHandedOver {X : Type 0} (n k : ℕ) (round : Kind) (old new : List X) : Type 0 where
-  pub len : length new ≡ length old
-  pub each : (b : ℕ) (d : X) → b < 2 ^ k → get_or new b d ≡ get_or old (giver_of_kind n k round b) d
-
--- a power of two below another that is not large
-pub record IsBitBelow (one many : ℕ) : Type 0 where
-  pub place : ℕ
-  pub power : ℕ
-  pub below : place < power
-  pub few : power ≤ 12
-  pub bit : one ≡ 2 ^ place
-  pub count : many ≡ 2 ^ power

@@ -81,12 +81,6 @@ pub record StandAt (n k room : ℕ) (machine : Machine) (acts : List Act) (t : �
   pub each : (b : ℕ) (x : BlockView) (y : Post) → b < 2 ^ k
       → StandsAt n k room machine acts t b (get_or blocks b x) (get_or posts b y)
 
--- the blocks after a run
-pub record AreAfter (n k room : ℕ) (machine : Machine) (acts : List Act) (blocks : List BlockView) : Type 0 where
-  pub count : length blocks ≡ 2 ^ k
-  pub each : (b : ℕ) (x : BlockView) → b < 2 ^ k
-      → (get_or blocks b x).kept.part ≡ block n k b (before_round n room k machine acts (length (rounds n k acts)))
-
 -- blocks of some machine stand at a turn of a run
 pub record HaveBegun (n k : ℕ) (acts : List Act) (t : ℕ) (blocks : List BlockView) (posts : List Post) : Type 0 where
   pub room : ℕ

@@ -13,6 +13,7 @@ use Rattle.cm_subcube.specs.Blocks.{BlockView}
 use Rattle.cm_subcube.specs.Rounds.{step_of}
 use Rattle.cm_subcube.specs.Parcels.{HaveSpaceFor, HasRoomFor, IsExchange, IsOfKind}
 use Rattle.cm_subcube.specs.Local.{local_after, IsRoundOf}
+use Rattle.cm_gates.specs.Blocks.{IsSame}
 use Rattle.cm_workers.specs.declared.post.Post.{Post}
 use Rattle.cm_workers.specs.Posts.{lane_in, blank_post, post_of}
 
@@ -65,12 +66,6 @@ pub record IsReadyForTurn (acts : List Act) (before next : Option Round) (block 
       block.kept.log_rooms
   pub clock : block.kept.part.clock + deliveries (local_after block.kept.dims block.k acts before) < 2 ^ 63
 
--- a block of the same sizes
-pub record IsSame (old new : BlockView) : Type 0 where
-  pub dims : new.kept.dims ≡ old.kept.dims
-  pub room : new.kept.room ≡ old.kept.room
-  pub blocks : new.k ≡ old.k
-
 -- a block has taken in what came, and has gone on until the next round
 pub record HasGoneOn (acts : List Act) (before : Option Round) (old : BlockView) (post : Post) (new : BlockView)
     (blank : Post) : Type 0 where
@@ -112,16 +107,6 @@ pub record CanAllGo (acts : List Act) (before next : Option Round) (blocks : Lis
   pub len : length posts ≡ length blocks
   pub each : (i : ℕ) (b : BlockView) (p : Post) → i < length blocks
       → IsReadyForTurn acts before next (get_or blocks i b) (get_or posts i p)
-
--- a block as it was, except that it may be read now
-pub record IsShown (old new : BlockView) : Type 0 where
-  pub blocks : new.k ≡ old.k
-  pub kept : new.kept ≡ record old.kept { gathered = new.kept.gathered }
-
--- all blocks as they were, except that they may be read now
-pub record AreShown (old new : List BlockView) : Type 0 where
-  pub len : length new ≡ length old
-  pub each : (i : ℕ) (b : BlockView) → i < length old → IsShown (get_or old i b) (get_or new i b)
 
 -- blocks exchange in a round, if there is one
 abbrev pub IsAhead : Option Round → BlockView → Type 0

@@ -1,7 +1,7 @@
 //! The runner of many threads.
 
-ghost use Rattle.std.specs.Prelude.{◌≡◌, ◌≢◌, ◌↔◌, ℕ, ◌+◌, ◌-◌, ◌*◌, ◌/◌, ◌^◌, ◌<◌, ◌≤◌, ◌++◌, [], None, List};
-ghost use Rattle.std.specs.Prelude.{IfOk, IfSome, IsErrOf, IsFalse, IsOk, IsTrue, ltb, MatchResult};
+ghost use Rattle.std.specs.Prelude.{◌≡◌, ◌≢◌, ◌↔◌, ℕ, ◌+◌, ◌-◌, ◌/◌, ◌^◌, ◌<◌, ◌≤◌, ◌++◌, [], None, List};
+ghost use Rattle.std.specs.Prelude.{IfOk, IfSome, IsErrOf, IsFalse, IsOk, IsTrue};
 ghost use Rattle.std.specs.Prelude.{OnOk, OnErr, length};
 ghost use Rattle.std.specs.Thread.{IsSync};
 ghost use Rattle.std.specs.List.{All};
@@ -10,32 +10,21 @@ ghost use Rattle.cm_model.specs.Machine.{run_of};
 ghost use Rattle.cm_model.specs.Account.{account, newly_injected, SameLines};
 ghost use Rattle.cm_array.specs.Acts.{cycles_in, is_late, is_long};
 ghost use Rattle.cm_array.specs.Faults.{CountsLacks, is_no_thread};
-ghost use Rattle.cm_workers.specs.Forks.{fork_fault, most_blocks, most_workers, of_want};
+ghost use Rattle.cm_gates.specs.Forks.{fork_fault, most_blocks, most_workers};
 ghost use Rattle.cm_workers.specs.Posts.{blank_post};
 ghost use Rattle.cm_workers.specs.Runs.{StandAt};
 
-use crate::gate::Passage;
-use crate::out_of::{NoThread, OutOf};
 use crate::post::Post;
 use crate::running::{Run, Sizes, run_blocks};
 use crate::turn::Crew;
 use cm_array::{Machine, RunFault, Runner, check_stretch};
 use cm_bits::NoMemory;
+use cm_gates::{ForkFault, NoThread, OutOf, Passage, fault_of, share_of, told};
 use cm_model::Act;
 use cm_subcube::{SplitFault, join, rounds, split};
 use std::alloc::Global;
 use std::sync::Wait;
 use std::thread::Threads;
-use thiserror::Error;
-
-/// Why there is no such runner.
-#[derive(Clone, Copy, Debug, PartialEq, Eq, Error)]
-pub enum ForkFault {
-    #[error("a block would have less than a row of chips")]
-    Split,
-    #[error("there is no worker, or there are more than blocks")]
-    Workers,
-}
 
 /// The runner of many threads: it cuts a copy of a machine into blocks, which workers run, each in a thread of its own,
 /// and puts them together again when all acts are done. So it does with every list that is not empty: each list starts
@@ -68,11 +57,8 @@ impl<'a, R> Forked<'a, R> {
         ensures passage { IfOk result (λ runner. runner.passage ≡ passage) }
         ensures lacked { IfOk result (λ runner. runner.threads_lacked ≡ 0) }
     {
-        if usize::from(k) > N - N / 2 {
-            return Err(ForkFault::Split);
-        }
-        if workers == 0 || are_too_few(k, workers) {
-            return Err(ForkFault::Workers);
+        if let Some(fault) = fault_of::<N>(k, workers) {
+            return Err(fault);
         }
         Ok(Forked {
             rt,
@@ -94,11 +80,11 @@ impl<'a, R> Forked<'a, R> {
         ensures some { 0 < result.workers }
         ensures few { result.workers ≤ 64 }
     {
-        let k = self.k.min(dims - dims / 2);
+        let share = share_of(self.k, self.workers, dims);
         Sizes {
             dims,
-            k,
-            workers: self.workers.min(1 << k),
+            k: share.k,
+            workers: share.workers,
         }
     }
 }
@@ -123,7 +109,7 @@ impl<'a, const N: usize, const CAP: usize, R: Threads + Wait> Runner<N, CAP> for
             (account N machine.old.machine ++ newly_injected N machine.old.machine machine.new.machine)) }
         ensures threads { CountsLacks is_no_thread self.old.threads_lacked self.new.threads_lacked result }
         ensures admitted { IfOk result (λ _. acts.now ≢ [] → (gate : _) → self.old.passage ≡ Passage.Gated gate
-            → (w : ℕ) → w < most_workers N self.old.k self.old.workers → admits gate w) }
+            → (w : ℕ) → w < most_workers N self.old.k self.old.workers → admits (gate.vtable, gate.value) w) }
         ensures err { OnErr result (machine.new.machine ≡ machine.old.machine) }
         ensures blocks { self.new.k ≡ self.old.k }
         ensures workers { self.new.workers ≡ self.old.workers }
@@ -161,7 +147,7 @@ impl<'a, R: Threads + Wait> Forked<'a, R> {
         ensures account { OnOk result (SameLines (account N machine.new.machine)
             (account N machine.old.machine ++ newly_injected N machine.old.machine machine.new.machine)) }
         ensures admitted { IfOk result (λ _. (gate : _) → self.now.passage ≡ Passage.Gated gate
-            → (w : ℕ) → w < sizes.workers → admits gate w) }
+            → (w : ℕ) → w < sizes.workers → admits (gate.vtable, gate.value) w) }
         ensures err { OnErr result (machine.new.machine ≡ machine.old.machine) }
     {
         // For the prover alone: a call brings in what holds of every machine.
@@ -180,30 +166,12 @@ impl<'a, R: Threads + Wait> Forked<'a, R> {
     }
 }
 
-/// Whether 2^`k` blocks are too few for so many workers.
-fn are_too_few(k: u8, workers: u16) -> bool
-    ensures value { result ≡ ltb (2 ^ k) workers }
-{
-    k < 16 && 1 << k < workers
-}
-
-/// What blocks did or wanted, as a runner tells it.
-fn told(done: Result<(), OutOf>) -> Result<(), RunFault>
-    ensures value { MatchResult done (λ _. IsOk result) (λ want. IsErrOf result (of_want want)) }
-{
-    match done {
-        Ok(()) => Ok(()),
-        Err(OutOf::Memory(_)) => Err(RunFault::Memory),
-        Err(OutOf::Thread(_)) => Err(RunFault::NoThread),
-    }
-}
-
 /// Asks whether so many workers may begin, the one with the lowest number first; no further one once a worker was
 /// refused.
 fn admit_all(passage: &Passage, workers: u16) -> Result<(), NoThread>
     ensures open { passage.now ≡ Passage.Open → IsOk result }
     ensures admitted { IfOk result (λ _. (gate : _) → passage.now ≡ Passage.Gated gate
-        → (w : ℕ) → w < workers → admits gate w) }
+        → (w : ℕ) → w < workers → admits (gate.vtable, gate.value) w) }
 {
     for worker in 0..workers {
         passage.admit(worker)?;

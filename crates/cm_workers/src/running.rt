@@ -3,13 +3,12 @@
 ghost use Rattle.std.specs.Prelude.{◌≡◌, ℕ, ◌+◌, ◌-◌, ◌/◌, ◌<◌, ◌≤◌, ◌^◌, IfOk, length};
 ghost use Rattle.cm_model.specs.Machine.{Machine};
 ghost use Rattle.cm_subcube.specs.Rounds.{rounds_of};
-ghost use Rattle.cm_workers.specs.Runs.{StandAt, AreAfter, HaveBegun};
+ghost use Rattle.cm_gates.specs.Blocks.{AreAfter};
+ghost use Rattle.cm_workers.specs.Runs.{StandAt, HaveBegun};
 
-use crate::exchange::hand_over;
-use crate::gate::Passage;
-use crate::out_of::OutOf;
 use crate::shift::shift;
 use crate::turn::Crew;
+use cm_gates::{OutOf, Passage, hand_over};
 use cm_model::Act;
 use cm_subcube::Round;
 use std::alloc::Global;

@@ -4,7 +4,7 @@ ghost use Rattle.std.specs.Prelude.{◌≡◌, ℕ, ◌-◌, ◌/◌, ◌<◌, �
 ghost use Rattle.std.specs.Prelude.{slice_get, vec_len, vec_capacity};
 ghost use Rattle.std.specs.Option.{option_copied};
 ghost use Rattle.std.specs.Thread.{IsSync};
-ghost use Rattle.cm_workers.specs.Dealing.{hand};
+ghost use Rattle.cm_gates.specs.Dealing.{hand};
 ghost use Rattle.cm_workers.specs.Each.{AreEach};
 ghost use Rattle.cm_workers.specs.Shifts.{IsPromised, IsPromiseKept, CanHandsGo, AreWorkersTurns, HandsHaveGone};
 ghost use Rattle.cm_workers.specs.Turns.{round_before, CanAllGo, HasGone};
@@ -12,12 +12,11 @@ ghost use Rattle.cm_subcube.specs.Rounds.{rounds_of};
 ghost use Rattle.cm_workers.specs.Runs.{HaveBegun};
 ghost use Rattle.cm_workers.specs.Gates.{IsWorkersTurn};
 
-use crate::dealing::{collect, deal};
-use crate::out_of::{NoThread, OutOf};
 use crate::post::Post;
 use crate::running::{Run, Sizes};
 use crate::turn::Crew;
 use cm_bits::NoMemory;
+use cm_gates::{NoThread, OutOf, collect, deal};
 use cm_model::Act;
 use cm_subcube::{Block, Round};
 use std::alloc::Global;

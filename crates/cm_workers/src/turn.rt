@@ -10,12 +10,14 @@ ghost use Rattle.cm_workers.specs.Posts.{lane_in, blank_post};
 ghost use Rattle.cm_workers.specs.Each.{AreEach};
 ghost use Rattle.cm_workers.specs.Turns.{round_before, IsReadyForTurn, CanAllGo, IsReadyToSend, CanAllSend, HasCome};
 ghost use Rattle.cm_workers.specs.Turns.{HasGoneOn};
-ghost use Rattle.cm_workers.specs.Turns.{HasSentDue, HasGone, AreShown};
-ghost use Rattle.cm_workers.specs.Gates.{gate_round_number, ComesBy, IsWorkersTurn, ShowsIn};
+ghost use Rattle.cm_gates.specs.Blocks.{AreShown};
+ghost use Rattle.cm_workers.specs.Turns.{HasSentDue, HasGone};
+ghost use Rattle.cm_gates.specs.Gates.{gate_round_number, ComesBy};
+ghost use Rattle.cm_workers.specs.Gates.{IsWorkersTurn, ShowsIn};
 
-use crate::gate::{Gate, Passage};
 use crate::post::Post;
 use crate::running::Run;
+use cm_gates::{Gate, Passage};
 use cm_model::Act;
 use cm_subcube::{Block, Kind, Round};
 
@@ -49,7 +51,8 @@ impl Crew {
             (slice_get run.entry.rounds.now number))
             self.blocks.items self.posts.items result.blocks.items result.posts.items }
         ensures passed { (gate : _) → run.entry.passage.now ≡ Passage.Gated gate
-            → ShowsIn (λ v told bs. saw gate v told bs) run.entry.acts.now (round_before run.entry.rounds.now number)
+            → ShowsIn (λ v told bs. saw (gate.vtable, gate.value) v told bs) run.entry.acts.now
+            (round_before run.entry.rounds.now number)
             (slice_get run.entry.rounds.now number) number worker self.blocks.items self.posts.items }
     {
         let Crew {
@@ -98,7 +101,8 @@ fn have_turn(
     ensures value { AreEach (HasGone turn.now.acts.now (option_copied turn.now.before) (option_copied turn.now.next))
         blocks.old posts.old blocks.new posts.new }
     ensures passed { (gate : _) → passage.now ≡ Passage.Gated gate
-        → ShowsIn (λ v told bs. saw gate v told bs) turn.now.acts.now (option_copied turn.now.before)
+        → ShowsIn (λ v told bs. saw (gate.vtable, gate.value) v told bs) turn.now.acts.now
+        (option_copied turn.now.before)
         (option_copied turn.now.next) turn.now.number worker blocks.old posts.old }
 {
     go_on_all(blocks, posts, turn);
@@ -153,7 +157,8 @@ fn show(blocks: &mut [Block], turn: &Turn<'_>, worker: u16, passage: &Passage)
         (λ _. ComesBy worker (gate_round_number turn.now.number) blocks.old) }
     ensures value { AreShown blocks.old blocks.new }
     ensures seen { (gate : _) → passage.now ≡ Passage.Gated gate
-        → IfSome (option_copied turn.now.next) (λ _. saw gate worker (gate_round_number turn.now.number) blocks.new) }
+        → IfSome (option_copied turn.now.next)
+        (λ _. saw (gate.vtable, gate.value) worker (gate_round_number turn.now.number) blocks.new) }
 {
     let Some(_round) = turn.next else {
         return;

@@ -2,10 +2,10 @@
 
 use cm_array::{BuildFault, MachineFault, RunFault};
 use cm_element::ZeroFlag;
+use cm_gates::ForkFault;
 use cm_subcube::SplitFault;
 use cm_weave::{NotNow, WorldFault};
 use cm_weave_text::WeaveFault;
-use cm_workers::ForkFault;
 use std::alloc::Global;
 use std::fmt::Display;
 use std::test::Fail;

@@ -3,7 +3,7 @@
 ghost use Rattle.std.specs.Prelude.{◌≡◌, ◌^◌, IsTrue};
 ghost use Rattle.std.specs.List.{All};
 ghost use Rattle.std.specs.Thread.{IsSync};
-ghost use Rattle.cm_workers.specs.Gates.{ComesBy};
+ghost use Rattle.cm_gates.specs.Gates.{ComesBy};
 
 use crate::rows::sent_on;
 use crate::runners::Kind;

@@ -4,7 +4,7 @@
 ghost use Rattle.std.specs.Prelude.{IsTrue, ◌+◌, ◌<◌, ◌≤◌};
 ghost use Rattle.std.specs.List.{All};
 ghost use Rattle.std.specs.Thread.{IsSync};
-ghost use Rattle.cm_workers.specs.Gates.{ComesBy};
+ghost use Rattle.cm_gates.specs.Gates.{ComesBy};
 
 use crate::letters::{Letter, are_letters, letters_at_rounds};
 use crate::runners::{Kind, Share, run_by};

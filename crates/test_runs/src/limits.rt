@@ -3,9 +3,10 @@
 use crate::files::{Files, files_of, run};
 use crate::runs::{Given, bytes_of};
 use cm_bits::doubles::{Bytes, Room};
-use cm_cli::{Alone, RunLine, Several, Sharing, run_files};
+use cm_cli::Several;
+use cm_gates::Passage;
+use cm_run::{Alone, RunLine, Sharing, run_files};
 use cm_system::ProgramFault;
-use cm_workers::Passage;
 use std::alloc::Global;
 use std::sync::Wait;
 use std::thread::Threads;

@@ -7,10 +7,10 @@ ghost use Rattle.cm_turns.specs.Workers.{HasWorked, IsOfSome};
 
 use cm_array::Machine;
 use cm_bits::NoMemory;
+use cm_gates::Passage;
 use cm_model::Act;
 use cm_resident::{Worker, in_order, team, teams_leave_their_machine};
 use cm_subcube::{Block, join};
-use cm_workers::Passage;
 use std::alloc::Global;
 use std::sync::Wait;
 use std::thread;

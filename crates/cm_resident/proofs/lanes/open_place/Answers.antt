@@ -2,7 +2,7 @@ use Rattle.std.proofs.Common.{rules, ◌≡◌, ℕ, ◌^◌, ◌∙◌, List, s
 use Rattle.cm_blocks.specs.Parcels.{Parcel}
 use Rattle.cm_subcube.specs.declared.round.Kind.{Kind}
 use Rattle.cm_board.specs.Courses.{Course}
-use Rattle.cm_workers.specs.Posts.{AreHandedOver}
+use Rattle.cm_gates.specs.Handing.{AreHandedOver}
 use Rattle.cm_turns.specs.Lanes.{Run, kind_of_index, own, givers}
 use Rattle.cm_resident.specs.Gathering.{AreAll, AreFrom}
 use Rattle.cm_resident.specs.Teams.{IsEnd}

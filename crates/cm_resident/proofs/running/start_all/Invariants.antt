@@ -1,5 +1,5 @@
 use Rattle.std.proofs.Common.{◌≡◌, ◌<◌, ◌≤◌, ℕ, drop, length, get_or, vec_capacity}
-use Rattle.cm_workers.specs.declared.gate.Passage.TheVariants.{Gated}
+use Rattle.cm_gates.specs.declared.gate.Passage.TheVariants.{Gated}
 use Rattle.cm_resident.proofs.running.start_all.Given as goal
 
 abbrev pub invariant-loop-w : goal.invariant-loop-w

@@ -1,5 +1,5 @@
 use Rattle.std.proofs.Common.{◌≡◌, ℕ, ◌<◌, ◌≤◌, length, get_or}
-use Rattle.cm_resident.specs.Starting.{start_word_for}
+use Rattle.cm_starts.specs.Starting.{start_word_for}
 use Rattle.cm_resident.proofs.running.tell_all.Given as goal
 
 abbrev pub invariant-loop-i : goal.invariant-loop-i

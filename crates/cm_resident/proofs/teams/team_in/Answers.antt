@@ -1,5 +1,5 @@
 use Rattle.std.proofs.Common.{rules, ◌≡◌, ℕ, ◌<◌, ◌∙◌, refl, subst, sym, arith, lit<}
-use Rattle.cm_workers.specs.Dealing.{AreDealt}
+use Rattle.cm_gates.specs.Dealing.{AreDealt}
 use Rattle.cm_turns.specs.declared.worker.Worker.{Worker}
 use Rattle.cm_turns.specs.Lanes.{Run}
 use Rattle.cm_resident.specs.Gathering.{AreAll}

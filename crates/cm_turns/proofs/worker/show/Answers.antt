@@ -1,6 +1,6 @@
 use Rattle.std.proofs.Common.{ℕ, List, subst, sym}
 use Rattle.cm_subcube.specs.Blocks.{BlockView}
-use Rattle.cm_workers.specs.Gates.{ComesBy, gate_round_number}
+use Rattle.cm_gates.specs.Gates.{ComesBy, gate_round_number}
 use Rattle.cm_turns.proofs.Working.{still_comes}
 use Rattle.cm_turns.proofs.worker.show.Goals as goal
 

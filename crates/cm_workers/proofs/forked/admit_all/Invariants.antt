@@ -1,5 +1,5 @@
 use Rattle.std.proofs.Common.{◌≡◌, ℕ, ◌<◌}
-use Rattle.cm_workers.specs.declared.gate.Passage.TheVariants.{Gated}
+use Rattle.cm_gates.specs.declared.gate.Passage.TheVariants.{Gated}
 use Rattle.cm_workers.proofs.forked.admit_all.Given as goal
 
 abbrev pub invariant-loop-worker : goal.invariant-loop-worker

@@ -3,7 +3,8 @@ use Rattle.std.specs.Prelude.{slice_get}
 use Rattle.cm_workers.specs.declared.turn.Crew.{Crew}
 use Rattle.cm_workers.specs.Each.{AreEach}
 use Rattle.cm_workers.specs.Turns.{round_before, HasGone}
-use Rattle.cm_workers.specs.Runs.{StandAt, AreAfter}
+use Rattle.cm_gates.specs.Blocks.{AreAfter}
+use Rattle.cm_workers.specs.Runs.{StandAt}
 use Rattle.cm_workers.proofs.Shifting.{if_came}
 use Rattle.cm_workers.proofs.Standing.{can_over, last_over}
 use Rattle.cm_workers.proofs.running.run_blocks.Goals as goal

@@ -1,6 +1,6 @@
 use Rattle.std.proofs.Common.{length, sym, subst, ap, ◌∙◌, List, get_or, arith}
 use Rattle.cm_workers.specs.declared.post.Post.{Post}
-use Rattle.cm_workers.specs.Posts.{AreHandedOver}
+use Rattle.cm_gates.specs.Handing.{AreHandedOver}
 use Rattle.cm_workers.proofs.PlaceByPlace.{written_back}
 use Rattle.cm_workers.proofs.Standing.{can_over, round_over, turn_over}
 use Rattle.cm_workers.proofs.running.to_round.Goals as goal

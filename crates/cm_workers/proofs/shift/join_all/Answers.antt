@@ -2,7 +2,7 @@ use Rattle.std.proofs.Common.{rules, ◌∷◌, [], ◌∙◌, sym, subst, lengt
 use Rattle.std.proofs.lemmas.List.{length-append, map-id}
 use Rattle.std.proofs.lemmas.Iterator.Adapters.{YieldsList-from_vec}
 use Rattle.std.proofs.lemmas.Iterator.Consumers.{YieldsList-end}
-use Rattle.cm_workers.specs.Dealing.{hand}
+use Rattle.cm_gates.specs.Dealing.{hand}
 use Rattle.cm_workers.specs.Shifts.{IsPromiseKept}
 use Rattle.cm_workers.proofs.Shifting.{push_kept}
 use Rattle.cm_workers.proofs.shift.join_all.Goals as goal

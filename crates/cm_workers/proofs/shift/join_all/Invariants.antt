@@ -1,5 +1,5 @@
 use Rattle.std.proofs.Common.{◌≡◌, ◌<◌, ◌≤◌, ℕ, length, get_or, vec_capacity, vec_len}
-use Rattle.cm_workers.specs.Dealing.{hand}
+use Rattle.cm_gates.specs.Dealing.{hand}
 use Rattle.cm_workers.specs.Shifts.{IsPromiseKept}
 use Rattle.cm_workers.proofs.shift.join_all.Given as goal
 

@@ -1,6 +1,6 @@
 use Rattle.std.proofs.Common.{rules, ◌≡◌, ℕ, ◌<◌, ◌∙◌, length, subst, sym}
 use Rattle.std.specs.Prelude.{slice_get}
-use Rattle.cm_workers.specs.Dealing.{AreDealt, AreShares}
+use Rattle.cm_gates.specs.Dealing.{AreDealt, AreShares}
 use Rattle.cm_workers.specs.Turns.{round_before}
 use Rattle.cm_workers.proofs.Sharing.{hands_ready, block_count, post_count, now_shares, sent_shares, all_had_turn}
 use Rattle.cm_workers.proofs.Passing.{hands_turns}

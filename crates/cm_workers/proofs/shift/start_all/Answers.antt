@@ -1,7 +1,7 @@
 use Rattle.std.proofs.Common.{rules, List, subst, sym}
 use Rattle.cm_subcube.specs.Blocks.{BlockView}
 use Rattle.cm_workers.specs.declared.post.Post.{Post}
-use Rattle.cm_workers.specs.Dealing.{hand}
+use Rattle.cm_gates.specs.Dealing.{hand}
 use Rattle.std.specs.Prelude.{slice_get}
 use Rattle.cm_workers.specs.Turns.{round_before}
 use Rattle.cm_workers.specs.Gates.{IsWorkersTurn}

@@ -1,5 +1,5 @@
 use Rattle.std.proofs.Common.{◌≡◌, ◌<◌, ◌≤◌, ℕ, drop, length, get_or, vec_capacity}
-use Rattle.cm_workers.specs.Dealing.{hand}
+use Rattle.cm_gates.specs.Dealing.{hand}
 use Rattle.cm_workers.specs.Shifts.{IsPromised}
 use Rattle.cm_workers.proofs.shift.start_all.Given as goal
 

@@ -1,6 +1,6 @@
 use Rattle.std.proofs.Common.{IsTrue}
 use Rattle.cm_workers.specs.Each.{AreEachBelow}
-use Rattle.cm_workers.specs.Turns.{IsShown}
+use Rattle.cm_gates.specs.Blocks.{IsShown}
 use Rattle.cm_workers.proofs.turn.gather_all.Given as goal
 
 abbrev pub invariant-loop-i : goal.invariant-loop-i

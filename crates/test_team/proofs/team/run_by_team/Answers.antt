@@ -1,6 +1,6 @@
 use Rattle.std.proofs.Common.{rules, ◌≡◌, ℕ, ◌*◌, ◌%◌, ◌^◌, ◌∙◌, length, get_or, subst, sym, arith, lit<}
 use Rattle.std.proofs.lemmas.Nat.{one_shl}
-use Rattle.cm_workers.specs.Dealing.{AreShares}
+use Rattle.cm_gates.specs.Dealing.{AreShares}
 use Rattle.cm_turns.specs.declared.worker.Worker.{Worker}
 use Rattle.cm_turns.specs.Lanes.{Run}
 use Rattle.cm_resident.specs.Laws.{LeaveTheirMachine}

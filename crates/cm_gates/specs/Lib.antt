@@ -1,0 +1,5 @@
+pub mod Dealing
+pub mod Handing
+pub mod Blocks
+pub mod Gates
+pub mod Forks

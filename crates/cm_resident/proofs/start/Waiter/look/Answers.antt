@@ -1,6 +1,0 @@
-use Rattle.std.proofs.Common.{rules}
-use Rattle.cm_resident.proofs.Starts.{looks}
-use Rattle.cm_resident.proofs.start.Waiter.look.Goals as goal
-
-pub load-requires : goal.load-requires
-load-requires c = (search rules, search rules, looks _ _ _ _ c.self.invariant.2)

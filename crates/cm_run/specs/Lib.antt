@@ -1,0 +1,5 @@
+pub mod Sharing
+pub mod Run
+pub mod SessionRunners
+pub mod Files
+pub mod Runs

@@ -1,5 +1,0 @@
-use Rattle.cm_workers.proofs.Across.{AreCrossed}
-use Rattle.cm_workers.proofs.exchange.swap_across.Given as goal
-
-abbrev pub invariant-loop-b : goal.invariant-loop-b
-invariant-loop-b g l = AreCrossed l.bit l.b l.initial.things l.things
