@@ -1,6 +1,7 @@
-//! Writing the bytes of a machine of which nothing is known but its sizes and how it routes.
+//! The bytes of blank chips: those of a machine of which nothing is known but its sizes and how it routes, and those in
+//! an image that is read.
 
-ghost use Rattle.std.specs.Prelude.{◌≡◌, ◌≤◌, ◌++◌, IfOk, OnOk, replicate};
+ghost use Rattle.std.specs.Prelude.{◌≡◌, ◌≤◌, ◌++◌, IfOk, IfSome, OnOk, replicate};
 ghost use Rattle.cm_model.specs.Keeping.{AreSizes};
 ghost use Rattle.cm_model.specs.Machine.{blank_machine};
 ghost use Rattle.cm_router.specs.Routes.{routing_of};
@@ -45,4 +46,11 @@ pub(crate) fn push_zeros(text: &mut Vec<u8>, count: usize) -> Result<(), NoMemor
 {
     text.resize(text.len() + count, 0)?;
     Ok(())
+}
+
+/// What stands behind a blank chip, if one stands at the front of bytes.
+pub(crate) fn behind_blank_chip(bytes: &[u8]) -> Option<&[u8]>
+    ensures value { IfSome result (λ rest. bytes.now ≡ replicate 35 0 ++ rest.now) }
+{
+    bytes.strip_prefix(&[0; BLANK_CHIP_LEN])
 }

@@ -9,6 +9,7 @@ ghost use Rattle.cm_image.specs.Pieces.{IsStopped};
 ghost use Rattle.cm_image.specs.Taken.{IsTakenIn, AreTakenIn};
 ghost use Rattle.cm_image.specs.WaitingChips.{with_waiting};
 
+use crate::blank::behind_blank_chip;
 use crate::messages::{are_messages, take_messages};
 use crate::pieces::{SourceFault, Window};
 use crate::waiting_chips::{FULL_MEMORY_LEN, WaitingChips};
@@ -61,7 +62,7 @@ fn take_listed_chip<'a, const N: usize, const CAP: usize>(
 }
 
 /// Takes in what an image has of a chip, and gives the bytes after it. A chip whose memory planes are all listed waits,
-/// with those in front of it that wait; any other is put into its place at once.
+/// with those in front of it that wait; any other is put into its place at once, and a blank one is there already.
 fn take_chip<'a, const N: usize, const CAP: usize>(
     builder: &mut Builder<N, CAP>,
     waiting: &mut WaitingChips,
@@ -80,6 +81,10 @@ fn take_chip<'a, const N: usize, const CAP: usize>(
     ensures refused { IfErr result (λ fault. chip_part N CAP clock bytes.now ≡ Err fault) }
     ensures waiting { OnOk result (length waiting.new ≤ chip + 1) }
 {
+    if let Some(rest) = behind_blank_chip(bytes) {
+        waiting.put(builder, chip);
+        return Ok(rest);
+    }
     let (flags, rest) = take_flags(bytes)?;
     waiting.make_room(builder, chip);
     if waiting.push(&flags, rest) {

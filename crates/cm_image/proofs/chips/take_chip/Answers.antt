@@ -11,8 +11,22 @@ use Rattle.cm_image_format.specs.Whole.{planes_of}
 use Rattle.cm_image.specs.Chips.{with_chip_image, with_message, IsBlankFrom}
 use Rattle.cm_image.specs.WaitingChips.{with_waiting}
 use Rattle.cm_image.proofs.Loading.{with_value, with_fault, flags_wrong, full_read, full_wrong}
+use Rattle.cm_image.proofs.Blanks.{blank_chip_read}
 use Rattle.cm_image.proofs.Waiting.{nothing_waits}
 use Rattle.cm_image.proofs.chips.take_chip.Goals as goal
+
+pub returns-in-Some-clause-ok : goal.returns-in-Some-clause-ok
+returns-in-Some-clause-ok g c =
+    let below : c.args.chip < 2 ^ g.row.N = omega (arith, c.requires.chip, c.requires.cube) in
+    let before : Machine = with_waiting c.args.chip c.args.builder.now c.args.waiting.now in
+    let after : Machine = c.put.new.builder in
+    let none : before ≡ with_waiting (c.args.chip + 1) after c.put.new.self =
+    sym c.put.ensures.value
+    ∙ (sym (nothing_waits (c.args.chip + 1) after)
+    ∙ ap (λ (waiting : Chips). with_waiting (c.args.chip + 1) after waiting) (sym c.put.ensures.none)) in
+    blank_chip_read g.row.N g.row.CAP c.args.clock c.args.chip before c.args.bytes.now c.in-Some.rest.now below
+    c.requires.blank c.in-Some.ensures.value
+    ∙ ap (λ (m : Machine). Ok (m, c.in-Some.rest.now)) none
 
 pub returns-in_err-flags-clause-refused : goal.returns-in_err-flags-clause-refused
 returns-in_err-flags-clause-refused g c =
@@ -60,14 +74,14 @@ returns-clause-ok g c =
     let flags : flags_part c.args.bytes.now ≡ Ok (c.in_ok-flags.flags, c.in_ok-flags.rest.now) =
     cc (c.in_ok-flags.ensures.value) in
     let whole : Machine = c.take_listed_chip.new.builder in
-    let before : c.put.new.builder ≡ with_waiting c.args.chip c.args.builder.now c.args.waiting.now =
-    c.put.ensures.value
+    let before : c.put-2.new.builder ≡ with_waiting c.args.chip c.args.builder.now c.args.waiting.now =
+    c.put-2.ensures.value
     ∙ ap (λ (waiting : Chips). with_waiting c.args.chip c.make_room.new.builder waiting)
     (c.push.ensures.other c.if-push.false)
     ∙ c.make_room.ensures.value in
-    let none : whole ≡ with_waiting (c.args.chip + 1) whole c.put.new.self =
+    let none : whole ≡ with_waiting (c.args.chip + 1) whole c.put-2.new.self =
     sym (nothing_waits (c.args.chip + 1) whole)
-    ∙ ap (λ (waiting : Chips). with_waiting (c.args.chip + 1) whole waiting) (sym c.put.ensures.none) in
+    ∙ ap (λ (waiting : Chips). with_waiting (c.args.chip + 1) whole waiting) (sym c.put-2.ensures.none) in
     with_value c.take_listed_chip.result _ _
     (λ rest told.
     subst
