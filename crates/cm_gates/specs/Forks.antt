@@ -1,4 +1,4 @@
--- Forked runners: which there are, and what they count. Ours.
+-- Runners with workers: which there are, and how they share out a machine. Ours.
 use Rattle.std.specs.Prelude.{ℕ, ◌-◌, ◌/◌, ◌^◌, min, ◌==◌, ◌||◌, ltb}
 use Rattle.std.specs.Prelude.{Option, Some, None, if◌then◌else◌}
 use Rattle.cm_gates.specs.declared.forks.ForkFault.{ForkFault}

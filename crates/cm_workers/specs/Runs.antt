@@ -1,4 +1,4 @@
--- How blocks stand in a run: at the beginning of each turn, and after all. Ours.
+-- How blocks stand in a run at the beginning of each turn. Ours.
 use Rattle.std.specs.Prelude.{◌≡◌, ℕ, zero, suc, ◌+◌, ◌*◌, ◌<◌, ◌^◌, List, Option, Some, None}
 use Rattle.std.specs.Prelude.{length, get_or, slice_get}
 use Rattle.cm_model.specs.declared.act.Act.{Act}
