@@ -62,8 +62,9 @@ pub hears_so : {F M : Type 0} (reads : Reads F) (exchange : Exchange) (first : W
     → (IsOk r → IfSome (reads.left file) (λ text. EndsFinished exchange text first out.out_before out.out_after))
     → IfErr r (λ fault. IfSome (reads.left file)
     (λ text. EndsBy exchange text (reads.left after) first out.out_before out.out_after fault))
-    → MatchResult r (λ _. EndsFinishedForSome exchange first out.out_before out.out_after)
-    (EndsByForSome exchange first out.out_before out.out_after)
+    → MatchResult r
+    (λ _. EndsFinishedForSome exchange (reads.left file) (reads.left after) first out.out_before out.out_after)
+    (EndsByForSome exchange (reads.left file) (reads.left after) first out.out_before out.out_after)
     → ConsumesAtMost (STEPS_LIMIT + PIECE_LIMIT) (reads.left file) (reads.left after)
     → (reads.has_failed after ≡ true) ↔ IsErrOf r weave.Read → HearsSteps reads exchange first file out (ended_of r)
 hears_so reads exchange first file after out (Ok machine) finished err heard within read =

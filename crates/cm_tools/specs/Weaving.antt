@@ -36,10 +36,14 @@ abbrev pub EndsBySteps : Exchange → World → List ℕ → Option (List ℕ) �
 EndsBySteps exchange world text rest out (Ok done) = EndsFinished exchange text world out.out_before out.out_after
 EndsBySteps exchange world text rest out (Err fault) = EndsBy exchange text rest world out.out_before out.out_after fault
 
--- and so by the lines of some text: this can be said of a file that does not tell its bytes
-abbrev pub EndsBySome : Exchange → World → Outgoing → Result (Unit {0}) WeaveFault → Type 0
-EndsBySome exchange world out (Ok done) = EndsFinishedForSome exchange world out.out_before out.out_after
-EndsBySome exchange world out (Err fault) = EndsByForSome exchange world out.out_before out.out_after fault
+-- and so by the lines of some text that a source gave of which that is left: this can be said of a file that does not
+-- tell its bytes
+abbrev pub EndsBySome : Exchange → Option (List ℕ) → Option (List ℕ) → World → Outgoing
+    → Result (Unit {0}) WeaveFault → Type 0
+EndsBySome exchange source rest world out (Ok done) =
+    EndsFinishedForSome exchange source rest world out.out_before out.out_after
+EndsBySome exchange source rest world out (Err fault) =
+    EndsByForSome exchange source rest world out.out_before out.out_after fault
 
 -- and so by itself
 abbrev pub EndsByItself : Exchange → World → Outgoing → Result (Unit {0}) WeaveFault → Type 0
@@ -51,7 +55,7 @@ pub record HearsSteps {F : Type 0} (reads : Reads F) (exchange : Exchange) (worl
     (ended : Result (Unit {0}) WeaveFault) : Type 0 where
   pub after : F
   pub ends : IfSome (reads.left file) (λ text. EndsBySteps exchange world text (reads.left after) out ended)
-  pub heard : EndsBySome exchange world out ended
+  pub heard : EndsBySome exchange (reads.left file) (reads.left after) world out ended
   pub within : ConsumesAtMost (STEPS_LIMIT + PIECE_LIMIT) (reads.left file) (reads.left after)
   pub read : (reads.has_failed after ≡ true) ↔ IsErrOf ended weave.Read
 

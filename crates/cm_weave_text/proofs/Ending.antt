@@ -87,15 +87,18 @@ module _ (exchange : Exchange) (start : World) (out_before before : Option (List
       written = subst (Appends out_before out_after) said_is mid.written;
     }
 
-  pub some_read : EndsByForSome exchange start out_before out_after Read
-  some_read = record {
+  pub some_read : (after : Option (List ℕ)) → Keeps now after
+      → EndsByForSome exchange before after start out_before out_after Read
+  some_read after kept = record {
     text = text;
+    read = Consumes-kept before now after text mid.consumed kept;
     ends = record {
       taken = text;
       consumed = sym (append-nil text);
       within = let w = mid.within in omega (arith, w, mid.taken_is);
       written = subst (Appends out_before out_after) said_is mid.written;
     };
+    end = λ is. absurd (cc);
   }
 
   -- ---- what was taken
@@ -189,6 +192,13 @@ module _ (exchange : Exchange) (start : World) (out_before before : Option (List
   long : (k : ℕ) (xs : List ℕ) → k ≤ length xs → length (take k xs) ≡ k
   long k xs h = grind (arith, common_steps)
 
+  -- all of it, and nothing more
+  read_no_more : (after : Option (List ℕ)) (buf : List ℕ) (count : ℕ) → Consumes now after (take count buf)
+      → Consumes before after ((text ++ take count buf) ++ [])
+  read_no_more after buf count read =
+      subst (Consumes before after) (sym (append-nil (text ++ take count buf)))
+      (Consumes-trans before now after text (take count buf) mid.consumed read)
+
   -- the first bytes that it gave broke off
   module _ (buf : List ℕ) (count room : ℕ) (on : Option (List ℕ)) (fault : WeaveFault)
       (is : room ≡ min count (STEPS_LIMIT - taken))
@@ -210,8 +220,14 @@ module _ (exchange : Exchange) (start : World) (out_before before : Option (List
         known before after (text ++ take count buf) (λ text. EndsBy exchange text after start out_before on fault)
         (Consumes-trans before now after text (take count buf) mid.consumed read) (in_read after)
 
-    pub some_in_read : EndsByForSome exchange start out_before on fault
-    some_in_read = record { text = (text ++ take count buf) ++ []; ends = in_read (Some []) [] }
+    pub some_in_read : (after : Option (List ℕ)) → Consumes now after (take count buf)
+        → EndsByForSome exchange before after start out_before on fault
+    some_in_read after read = record {
+      text = (text ++ take count buf) ++ [];
+      read = read_no_more after buf count read;
+      ends = in_read (Some []) [];
+      end = λ is. absurd (subst (TextAborts (at (take room buf)).answers sent out_after on) is breaks);
+    }
 
   -- it gave more than there was room for
   module _ (buf : List ℕ) (count room : ℕ) (new : World) (kept : List ℕ) (on : Option (List ℕ)) (more : ℕ)
@@ -251,8 +267,14 @@ module _ (exchange : Exchange) (start : World) (out_before before : Option (List
         known before after (text ++ take count buf) (λ text. EndsBy exchange text after start out_before on TooMuch)
         (Consumes-trans before now after text (take count buf) mid.consumed read) (over after)
 
-    pub some_over : EndsByForSome exchange start out_before on TooMuch
-    some_over = record { text = (text ++ take count buf) ++ []; ends = over (Some []) [] }
+    pub some_over : (after : Option (List ℕ)) → Consumes now after (take count buf)
+        → EndsByForSome exchange before after start out_before on TooMuch
+    some_over after read = record {
+      text = (text ++ take count buf) ++ [];
+      read = read_no_more after buf count read;
+      ends = over (Some []) [];
+      end = λ is. absurd (cc);
+    }
 
   -- ---- it gave nothing
 
@@ -302,20 +324,6 @@ module _ (exchange : Exchange) (start : World) (out_before before : Option (List
       fault mid.written mid.sent_is
       (ap (λ (xs : List ℕ). xs ++ last) all ∙ append_assoc mid.said (at (10 ∷ [])).answers last) breaks)
 
-  pub some_closed : line ≡ [] → IsHeardForSome exchange start out_before world out_after sent
-  some_closed empty = record { text = text; is = closed empty }
-
-  pub some_last : (new : World) (kept : List ℕ) (on : Option (List ℕ)) (more : ℕ) → 0 < length line
-      → HasHeard exchange world new line kept (10 ∷ []) sent out_after on more
-      → IsHeardForSome exchange start out_before new on more
-  some_last new kept on more some has = record { text = text; is = answered_last new kept on more some has }
-
-  pub some_cut_last : (on : Option (List ℕ)) (fault : WeaveFault) → 0 < length line
-      → TextAborts (processed exchange (record { world = world; line = line; answers = [] }) (10 ∷ [])).answers
-      sent out_after on fault
-      → EndsByForSome exchange start out_before on fault
-  some_cut_last on fault some breaks = record { text = text; ends = cut_last (Some []) on fault some breaks }
-
   module _ (after : Option (List ℕ)) (buf : List ℕ) (count : ℕ) (none : count ≡ 0)
       (read : Consumes now after (take count buf)) (end : IsAtEnd after) where
     whole : Consumes before after text
@@ -343,6 +351,22 @@ module _ (exchange : Exchange) (start : World) (out_before before : Option (List
     ends_last on fault some breaks =
         Consumes-whole before after text (λ text. EndsBy exchange text after start out_before on fault) whole end
         (cut_last after on fault some breaks)
+
+    pub some_closed : line ≡ [] → IsHeardForSome exchange before after start out_before world out_after sent
+    some_closed empty = record { text = text; read = whole; end = end; is = closed empty }
+
+    pub some_last : (new : World) (kept : List ℕ) (on : Option (List ℕ)) (more : ℕ) → 0 < length line
+        → HasHeard exchange world new line kept (10 ∷ []) sent out_after on more
+        → IsHeardForSome exchange before after start out_before new on more
+    some_last new kept on more some has =
+        record { text = text; read = whole; end = end; is = answered_last new kept on more some has }
+
+    pub some_cut_last : (on : Option (List ℕ)) (fault : WeaveFault) → 0 < length line
+        → TextAborts (processed exchange (record { world = world; line = line; answers = [] }) (10 ∷ [])).answers
+        sent out_after on fault
+        → EndsByForSome exchange before after start out_before on fault
+    some_cut_last on fault some breaks =
+        record { text = text; read = whole; ends = cut_last (Some []) on fault some breaks; end = λ _. end }
 
 -- ---- the last line
 
@@ -449,38 +473,46 @@ module _ (exchange : Exchange) (start world : World) (out_before out_after befor
   ends_before_unfinished part unfinished =
       ends_in_last unfinished_line part (sym (last-unfinished exchange world unfinished))
 
-module _ (exchange : Exchange) (start world : World) (out_before out_after on : Option (List ℕ)) (sent : ℕ)
-    (some : IsHeardForSome exchange start out_before world out_after sent) where
+module _ (exchange : Exchange) (start world : World) (out_before out_after before after on : Option (List ℕ)) (sent : ℕ)
+    (some : IsHeardForSome exchange before after start out_before world out_after sent) where
   pub some_finished : IsFinished exchange world → Appends out_after on finished_line
-      → EndsFinishedForSome exchange start out_before on
+      → EndsFinishedForSome exchange before after start out_before on
   some_finished finished wrote = record {
     text = some.text;
+    read = some.read;
     ends = finished_at exchange start world out_before out_after on sent some.text some.is finished wrote;
+    end = some.end;
   }
 
   pub some_unfinished : (IsFinished exchange world → ⊥) → Appends out_after on unfinished_line
-      → EndsByForSome exchange start out_before on Unfinished
+      → EndsByForSome exchange before after start out_before on Unfinished
   some_unfinished unfinished wrote = record {
     text = some.text;
+    read = some.read;
     ends = unfinished_at exchange start world out_before out_after on sent some.text some.is (Some []) unfinished wrote;
+    end = λ _. some.end;
   }
 
   pub some_before_finished : (part : ℕ) → IsFinished exchange world → part < length finished_line
       → Appends out_after on (take part finished_line)
-      → EndsByForSome exchange start out_before on (Write (sent + part))
+      → EndsByForSome exchange before after start out_before on (Write (sent + part))
   some_before_finished part finished inside wrote = record {
     text = some.text;
+    read = some.read;
     ends = cut_at exchange start world out_before out_after on sent some.text some.is (Some []) finished_line part
         (sym (last-finished exchange world finished)) inside wrote;
+    end = λ _. some.end;
   }
 
   pub some_before_unfinished : (part : ℕ) → (IsFinished exchange world → ⊥) → part < length unfinished_line
       → Appends out_after on (take part unfinished_line)
-      → EndsByForSome exchange start out_before on (Write (sent + part))
+      → EndsByForSome exchange before after start out_before on (Write (sent + part))
   some_before_unfinished part unfinished inside wrote = record {
     text = some.text;
+    read = some.read;
     ends = cut_at exchange start world out_before out_after on sent some.text some.is (Some []) unfinished_line part
         (sym (last-unfinished exchange world unfinished)) inside wrote;
+    end = λ _. some.end;
   }
 
 -- ---- whether a line is open

@@ -1,8 +1,8 @@
 -- How a session of steps ends: what it wrote, after each of its faults too. Ours.
-use Rattle.std.specs.Prelude.{ℕ, ◌<◌, ◌≤◌, ◌==◌, Bool, true, false, if◌then◌else◌, nat_le, Option, Some, Result, Ok, Err}
-use Rattle.std.specs.Prelude.{List, [], ◌∷◌, ◌++◌, length, take, codes}
+use Rattle.std.specs.Prelude.{◌≡◌, ℕ, ◌<◌, ◌≤◌, ◌==◌, Bool, true, false, if◌then◌else◌, nat_le, Option, Some}
+use Rattle.std.specs.Prelude.{Result, Ok, Err, List, [], ◌∷◌, ◌++◌, length, take, codes}
 use Rattle.std.specs.List.{list_all}
-use Rattle.std.specs.Io.KnownBytes.{Appends, Consumes}
+use Rattle.std.specs.Io.KnownBytes.{Appends, Consumes, IsAtEnd}
 use Rattle.cm_bits.specs.Text.{lines_of}
 use Rattle.cm_session.specs.Answer.{line}
 use Rattle.cm_session.specs.Ends.{ended_lines}
@@ -103,16 +103,22 @@ EndsBy exchange text rest start out_before out_after Unfinished =
     (IsFinished exchange (world_left exchange start (lines_of text)) → ⊥)
     × IsAnsweredToEnd exchange text start unfinished_line out_before out_after
 
--- it ends finished so for some text: this can be said of a source that does not tell its bytes
-pub record EndsFinishedForSome (exchange : Exchange) (start : World) (out_before out_after : Option (List ℕ)) : Type 0 where
+-- a source, of which this was left in the end, gave some text, and the session ended finished so as of that text and
+-- nothing more; nothing is left. This can be said of a source that does not tell its bytes
+pub record EndsFinishedForSome (exchange : Exchange) (source rest : Option (List ℕ)) (start : World)
+    (out_before out_after : Option (List ℕ)) : Type 0 where
   pub text : List ℕ
+  pub read : Consumes source rest text
   pub ends : EndsFinished exchange text start out_before out_after
+  pub end : IsAtEnd rest
 
--- and so by a fault, where all of that text was read
-pub record EndsByForSome (exchange : Exchange) (start : World) (out_before out_after : Option (List ℕ)) (fault : WeaveFault)
-    : Type 0 where
+-- and it ended so by a fault; after Unfinished nothing is left
+pub record EndsByForSome (exchange : Exchange) (source rest : Option (List ℕ)) (start : World)
+    (out_before out_after : Option (List ℕ)) (fault : WeaveFault) : Type 0 where
   pub text : List ℕ
+  pub read : Consumes source rest text
   pub ends : EndsBy exchange text (Some []) start out_before out_after fault
+  pub end : (fault ≡ Unfinished) → IsAtEnd rest
 
 -- it ended by a write
 abbrev pub is_weave_write : {M : Type 0} → Result M WeaveFault → Bool

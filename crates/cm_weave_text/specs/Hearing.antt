@@ -1,7 +1,7 @@
 -- What stands between two bytes of a session of steps, and what has gone out of a text. Ours.
-use Rattle.std.specs.Prelude.{◌≡◌, ℕ, ◌+◌, ◌<◌, ◌≤◌, slice_index, false, if◌then◌else◌, Option, List, [], ◌∷◌, ◌++◌}
+use Rattle.std.specs.Prelude.{◌≡◌, ℕ, ◌+◌, ◌<◌, ◌≤◌, if◌then◌else◌, Option, List, [], ◌∷◌, ◌++◌}
 use Rattle.std.specs.Prelude.{length, take, flat_map}
-use Rattle.std.specs.Io.KnownBytes.{Appends}
+use Rattle.std.specs.Io.KnownBytes.{Appends, Consumes, IsAtEnd}
 use Rattle.cm_bits.specs.Text.{is_line_end, lines_of}
 use Rattle.cm_weave.specs.Woven.{Woven}
 use Rattle.cm_exchange.specs.Lanes.{Exchange, exchange_of}
@@ -93,10 +93,12 @@ pub record IsHeard (exchange : Exchange) (text : List ℕ) (start : World) (out_
   pub written : Appends out_before out_after (world_answers exchange start (lines_of text))
   pub sent_is : sent ≡ length (world_answers exchange start (lines_of text))
 
--- so it is of some text
-pub record IsHeardForSome (exchange : Exchange) (start : World) (out_before : Option (List ℕ)) (world : World)
-    (out_after : Option (List ℕ)) (sent : ℕ) : Type 0 where
+-- a source, of which nothing is left in the end, gave some text, and so it is of that text
+pub record IsHeardForSome (exchange : Exchange) (source rest : Option (List ℕ)) (start : World)
+    (out_before : Option (List ℕ)) (world : World) (out_after : Option (List ℕ)) (sent : ℕ) : Type 0 where
   pub text : List ℕ
+  pub read : Consumes source rest text
+  pub end : IsAtEnd rest
   pub is : IsHeard exchange text start out_before world out_after sent
 
 -- a world took all its own steps and is finished: so many, of which so many bytes went out, and the rest is kept

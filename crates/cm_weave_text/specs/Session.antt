@@ -1,5 +1,5 @@
 -- What is answered to lines of steps, one after another, and the world that they leave: ours.
-use Rattle.std.specs.Prelude.{ℕ, Option, Some, None, Result, Ok, Err, List, [], ◌∷◌, ◌++◌, codes}
+use Rattle.std.specs.Prelude.{ℕ, Option, Some, None, Result, Ok, Err, List, [], ◌∷◌, ◌++◌}
 use Rattle.cm_bits.specs.Text.{words_of}
 use Rattle.cm_session.specs.declared.command.Refusal.{Refusal}
 use Rattle.cm_session.specs.Answer.{line, refusal_number, refused_line, ok_line}

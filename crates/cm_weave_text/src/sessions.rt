@@ -42,9 +42,10 @@ pub fn weave_session<const N: usize, const CAP: usize, I: Source, O: Sink>(
     ensures err { IfErr result (λ fault. IfSome (I.left steps.old) (λ text. EndsBy (exchange_in N CAP world.entry)
         text (I.left steps.new) world.entry.world (O.contents out.old) (O.contents out.new) fault)) }
     ensures heard { MatchResult result
-        (λ _. EndsFinishedForSome (exchange_in N CAP world.entry) world.entry.world (O.contents out.old)
-        (O.contents out.new))
-        (EndsByForSome (exchange_in N CAP world.entry) world.entry.world (O.contents out.old) (O.contents out.new)) }
+        (λ _. EndsFinishedForSome (exchange_in N CAP world.entry) (I.left steps.old) (I.left steps.new)
+        world.entry.world (O.contents out.old) (O.contents out.new))
+        (EndsByForSome (exchange_in N CAP world.entry) (I.left steps.old) (I.left steps.new) world.entry.world
+        (O.contents out.old) (O.contents out.new)) }
     ensures within { ConsumesAtMost (STEPS_LIMIT + PIECE_LIMIT) (I.left steps.old) (I.left steps.new) }
     ensures read { (I.has_failed steps.new ≡ true) ↔ IsErrOf result WeaveFault.Read }
     ensures write { O.has_failed out.new ≡ is_weave_write result }
@@ -96,9 +97,10 @@ fn hear_all<const N: usize, const CAP: usize, I: Source, O: Sink>(
     ensures err { IfErr result (λ fault. IfSome (I.left steps.old) (λ text. EndsBy (exchange_in N CAP world.old) text
         (I.left steps.new) world.old.world (O.contents out.old) (O.contents out.new) fault)) }
     ensures heard { MatchResult result
-        (IsHeardForSome (exchange_in N CAP world.old) world.old.world (O.contents out.old) world.new.world
-        (O.contents out.new))
-        (EndsByForSome (exchange_in N CAP world.old) world.old.world (O.contents out.old) (O.contents out.new)) }
+        (IsHeardForSome (exchange_in N CAP world.old) (I.left steps.old) (I.left steps.new) world.old.world
+        (O.contents out.old) world.new.world (O.contents out.new))
+        (EndsByForSome (exchange_in N CAP world.old) (I.left steps.old) (I.left steps.new) world.old.world
+        (O.contents out.old) (O.contents out.new)) }
     ensures within { ConsumesAtMost (STEPS_LIMIT + PIECE_LIMIT) (I.left steps.old) (I.left steps.new) }
     ensures read { (I.has_failed steps.new ≡ true) ↔ IsErrOf result WeaveFault.Read }
     ensures write { O.has_failed out.new ≡ is_weave_write result }

@@ -28,8 +28,9 @@ returns-in-Err-clause-err g c =
 
 pub returns-in-Err-clause-heard : goal.returns-in-Err-clause-heard
 returns-in-Err-clause-heard g c =
-    some_read (exchange_in g.row.N g.row.CAP c.args.world.now) c.args.world.now.world _ _ c.loop-count.invariant.text
-    _ _ _ _ _ _ c.loop-count.invariant.midway
+    let so = c.loop-count.invariant in
+    some_read (exchange_in g.row.N g.row.CAP c.args.world.now) c.args.world.now.world _ _ so.text _ _ _ _ _ _ so.midway
+    (g.I.Source.left c.read.new.self) c.in-Err.ensures.bytes
 
 pub returns-in-Err-tell-clause-err : goal.returns-in-Err-tell-clause-err
 returns-in-Err-tell-clause-err g c =
@@ -61,6 +62,7 @@ returns-in-Err-tell-clause-heard g c =
     }) (take c.min-room.result c.read.new.buf)).answers c.loop-count.sent
     (g.O.Sink.contents c.loop-count.out) (g.O.Sink.contents c.tell.new.out) c.in-Err-tell.fault) same
     c.in-Err-tell.ensures.err)
+    (g.I.Source.left c.read.new.self) c.in-Ok.ensures.bytes.0
 
 pub returns-then-room-count-clause-err : goal.returns-then-room-count-clause-err
 returns-then-room-count-clause-err g c =
@@ -86,6 +88,7 @@ returns-then-room-count-clause-heard g c =
     (subst (λ (e : Exchange). HasHeard e c.loop-count.world.world c.tell.new.world.world c.loop-count.line.items
     c.tell.new.line.items (take c.min-room.result c.read.new.buf) c.loop-count.sent (g.O.Sink.contents c.loop-count.out)
     (g.O.Sink.contents c.tell.new.out) c.in-Ok-tell.now) same c.in-Ok-tell.ensures.ok)
+    (g.I.Source.left c.read.new.self) c.in-Ok.ensures.bytes.0
 
 pub loop-count-preserved : goal.loop-count-preserved
 loop-count-preserved g c =
@@ -125,7 +128,8 @@ pub returns-then-is_empty-clause-heard : goal.returns-then-is_empty-clause-heard
 returns-then-is_empty-clause-heard g c =
     let so = c.loop-count.invariant in
     some_closed (exchange_in g.row.N g.row.CAP c.args.world.now) c.args.world.now.world _ _ so.text _ _ _ _ _ _
-    so.midway
+    so.midway (g.I.Source.left c.read.new.self) c.read.new.buf c.in-Ok.count c.if-count-eq0.true c.in-Ok.ensures.bytes.0
+    (c.in-Ok.ensures.bytes.1 c.if-count-eq0.true (omega arith))
     (is_none c.loop-count.line.items c.loop-count.line.len c.is_empty.result (omega (arith, c.loop-count.line.ok.0))
     c.is_empty.ensures c.if-is_empty.true)
 
@@ -148,7 +152,8 @@ returns-in-Ok-tell-2-clause-heard g c =
     let so = c.loop-count.invariant in
     let same = exchange_kept g.row.N g.row.CAP c.args.world.now c.loop-count.world so.run in
     some_last (exchange_in g.row.N g.row.CAP c.args.world.now) c.args.world.now.world _ _ so.text _ _ _ _ _ _
-    so.midway c.tell-2.new.world.world c.tell-2.new.line.items
+    so.midway (g.I.Source.left c.read.new.self) c.read.new.buf c.in-Ok.count c.if-count-eq0.true c.in-Ok.ensures.bytes.0
+    (c.in-Ok.ensures.bytes.1 c.if-count-eq0.true (omega arith)) c.tell-2.new.world.world c.tell-2.new.line.items
     (g.O.Sink.contents c.tell-2.new.out) c.in-Ok-tell-2.now
     (has_some c.loop-count.line.items c.loop-count.line.len c.is_empty.result (omega (arith, c.loop-count.line.ok.0))
     c.is_empty.ensures c.if-is_empty.false)
@@ -179,7 +184,9 @@ returns-clause-heard g c =
     let so = c.loop-count.invariant in
     let same = exchange_kept g.row.N g.row.CAP c.args.world.now c.loop-count.world so.run in
     some_cut_last (exchange_in g.row.N g.row.CAP c.args.world.now) c.args.world.now.world _ _ so.text _ _ _ _ _ _
-    so.midway (g.O.Sink.contents c.tell-2.new.out) c.in-Err-tell-2.fault
+    so.midway (g.I.Source.left c.read.new.self) c.read.new.buf c.in-Ok.count c.if-count-eq0.true c.in-Ok.ensures.bytes.0
+    (c.in-Ok.ensures.bytes.1 c.if-count-eq0.true (omega arith)) (g.O.Sink.contents c.tell-2.new.out)
+    c.in-Err-tell-2.fault
     (has_some c.loop-count.line.items c.loop-count.line.len c.is_empty.result (omega (arith, c.loop-count.line.ok.0))
     c.is_empty.ensures c.if-is_empty.false)
     (subst (λ (e : Exchange). TextAborts (processed e (record {

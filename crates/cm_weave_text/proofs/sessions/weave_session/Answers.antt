@@ -57,7 +57,7 @@ returns-in-Err-write_all-2-clause-err g c =
 pub returns-in-Ok-write_all-clause-heard : goal.returns-in-Ok-write_all-clause-heard
 returns-in-Ok-write_all-clause-heard g c =
     let same = exchange_kept g.row.N g.row.CAP c.args.world c.hear_all.new.world c.hear_all.ensures.run in
-    some_finished (exchange_in g.row.N g.row.CAP c.args.world) c.args.world.world c.hear_all.new.world.world _ _
+    some_finished (exchange_in g.row.N g.row.CAP c.args.world) c.args.world.world c.hear_all.new.world.world _ _ _ _
     (g.O.Sink.contents c.write_all.new.sink) c.in-Ok.sent c.in-Ok.ensures.heard
     (subst (λ (e : Exchange). IsFinished e c.hear_all.new.world.world) same (c.in-Ok-finish.ensures.finished.0 refl))
     (subst (λ (xs : List ℕ). Appends (g.O.Sink.contents c.hear_all.new.out) (g.O.Sink.contents c.write_all.new.sink) xs)
@@ -68,7 +68,7 @@ returns-in-Err-write_all-clause-heard g c =
     let same = exchange_kept g.row.N g.row.CAP c.args.world c.hear_all.new.world c.hear_all.ensures.run in
     let cut = c.in-Err-write_all.ensures.err in
     some_before_finished (exchange_in g.row.N g.row.CAP c.args.world) c.args.world.world c.hear_all.new.world.world _ _
-    (g.O.Sink.contents c.write_all.new.sink) c.in-Ok.sent c.in-Ok.ensures.heard c.in-Err-write_all.fault.0
+    _ _ (g.O.Sink.contents c.write_all.new.sink) c.in-Ok.sent c.in-Ok.ensures.heard c.in-Err-write_all.fault.0
     (subst (λ (e : Exchange). IsFinished e c.hear_all.new.world.world) same (c.in-Ok-finish.ensures.finished.0 refl))
     (subst (λ (xs : List ℕ). c.in-Err-write_all.fault.0 < length xs) finished-text cut.0)
     (subst (λ (xs : List ℕ). Appends (g.O.Sink.contents c.hear_all.new.out) (g.O.Sink.contents c.write_all.new.sink)
@@ -77,7 +77,7 @@ returns-in-Err-write_all-clause-heard g c =
 pub returns-in-Ok-write_all-2-clause-heard : goal.returns-in-Ok-write_all-2-clause-heard
 returns-in-Ok-write_all-2-clause-heard g c =
     let same = exchange_kept g.row.N g.row.CAP c.args.world c.hear_all.new.world c.hear_all.ensures.run in
-    some_unfinished (exchange_in g.row.N g.row.CAP c.args.world) c.args.world.world c.hear_all.new.world.world _ _
+    some_unfinished (exchange_in g.row.N g.row.CAP c.args.world) c.args.world.world c.hear_all.new.world.world _ _ _ _
     (g.O.Sink.contents c.write_all-in-Err-finish.new.sink) c.in-Ok.sent c.in-Ok.ensures.heard
     (λ finished. false≢true (c.in-Err-finish.ensures.finished.1
     (subst (λ (e : Exchange). IsFinished e c.hear_all.new.world.world) (sym same) finished)))
@@ -89,7 +89,7 @@ returns-in-Err-write_all-2-clause-heard g c =
     let same = exchange_kept g.row.N g.row.CAP c.args.world c.hear_all.new.world c.hear_all.ensures.run in
     let cut = c.in-Err-write_all-2.ensures.err in
     some_before_unfinished (exchange_in g.row.N g.row.CAP c.args.world) c.args.world.world c.hear_all.new.world.world _ _
-    (g.O.Sink.contents c.write_all-in-Err-finish.new.sink) c.in-Ok.sent c.in-Ok.ensures.heard
+    _ _ (g.O.Sink.contents c.write_all-in-Err-finish.new.sink) c.in-Ok.sent c.in-Ok.ensures.heard
     c.in-Err-write_all-2.fault.0
     (λ finished. false≢true (c.in-Err-finish.ensures.finished.1
     (subst (λ (e : Exchange). IsFinished e c.hear_all.new.world.world) (sym same) finished)))
