@@ -53,6 +53,19 @@ pub(crate) fn files_of<'a>(
     }
 }
 
+/// The lines of a program, and so many petit cycles behind them.
+pub(crate) fn with_cycles(
+    alloc: Global,
+    lines: &[u8],
+    cycles: usize,
+) -> Result<Vec<u8>, AllocError> {
+    let mut text = lines.to_vec(alloc)?;
+    for _ in 0..cycles {
+        text.extend_from_slice(b"cycle\n")?;
+    }
+    Ok(text)
+}
+
 impl Files<'_> {
     /// The words behind the program's name.
     fn line(&self, alloc: Global) -> Result<String, AllocError> {

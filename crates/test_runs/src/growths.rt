@@ -1,6 +1,6 @@
 //! Runs in which a growth or the start of a thread is refused: what is told of it.
 
-use crate::files::{files_of, run};
+use crate::files::{files_of, run, with_cycles};
 use crate::runs::{Given, bytes_of};
 use cm_bits::doubles::{Bytes, Room};
 use std::alloc::Global;
@@ -28,19 +28,10 @@ static SHARED: [Shared; 2] = [
     },
 ];
 
-/// An instruction, and petit cycles behind it.
-fn text(alloc: Global) -> Option<Vec<u8>> {
-    let mut text = b"nano 0 0 8 8 8 0 0xf0 0 n\n".to_vec(alloc).ok()?;
-    for _ in 0..CYCLES {
-        text.extend_from_slice(b"cycle\n").ok()?;
-    }
-    Some(text)
-}
-
 /// The number of the fault that a run by two workers tells, 0 for none.
 fn told<R: Threads + Wait + Sync>(rt: &R, alloc: Global, n: u8) -> Option<u8> {
     let image = bytes_of(alloc, Given::Blank(n, 7))?;
-    let text = text(alloc)?;
+    let text = with_cycles(alloc, b"nano 0 0 8 8 8 0 0xf0 0 n\n", CYCLES).ok()?;
     let mut commands = Bytes::new(b"run\n", 4);
     let mut answers = Room::new(alloc, 100, 100).ok()?;
     let files = files_of(alloc, &image, &text, (1, 2));

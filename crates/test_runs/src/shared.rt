@@ -1,6 +1,6 @@
 //! Runs that are shared out in several ways, on whole machines, over cut wires and by either rule: the same bytes.
 
-use crate::files::{files_of, run};
+use crate::files::{files_of, run, with_cycles};
 use cm_bits::doubles::{Bytes, Room};
 use std::alloc::{AllocError, Global};
 use std::sync::Wait;
@@ -216,14 +216,6 @@ impl Run {
         Ok(bytes)
     }
 
-    fn program(&self, alloc: Global) -> Result<Vec<u8>, AllocError> {
-        let mut text = self.lines.to_vec(alloc)?;
-        for _ in 0..self.cycles {
-            text.extend_from_slice(b"cycle\n")?;
-        }
-        Ok(text)
-    }
-
     /// The image of what the run leaves, if its answers are as they should be.
     fn left<R: Threads + Wait + Sync>(
         &self,
@@ -232,7 +224,7 @@ impl Run {
         sharing: (u8, u8),
     ) -> Option<Vec<u8>> {
         let image = self.image(alloc).ok()?;
-        let text = self.program(alloc).ok()?;
+        let text = with_cycles(alloc, self.lines, self.cycles).ok()?;
         let files = files_of(alloc, image.as_slice(), text.as_slice(), sharing);
         let mut commands = Bytes::new(self.asks, 7);
         let mut answers = Room::new(alloc, 1000, 100).ok()?;
