@@ -1,6 +1,6 @@
 //! Numbers of an image, the highest byte first: at the front of bytes, and behind a text; the number of chips.
 
-ghost use Rattle.std.specs.Prelude.{◌≡◌, ◌+◌, ◌++◌, ◌<◌, ◌≤◌, ◌^◌, IfOk, OnErr, OnOk, length, vec_capacity};
+ghost use Rattle.std.specs.Prelude.{◌≡◌, ◌+◌, ◌++◌, ◌<◌, ◌≤◌, ◌^◌, IfOk, OnErr, OnOk, length, replicate, vec_capacity};
 ghost use Rattle.std.specs.Int.{w8, w16, w32, w64};
 ghost use Rattle.cm_message.specs.Bytes.{number_bytes};
 ghost use Rattle.cm_image_format.specs.Reading.{Gives, number_at};
@@ -134,4 +134,13 @@ pub fn push_u64(text: &mut Vec<u8>, n: u64) -> Result<(), NoMemory>
     ensures full { OnErr result (vec_capacity text.old < length text.old.items + 8) }
 {
     push(text, &n.to_be_bytes())
+}
+
+/// Appends so many zero bytes.
+pub fn push_zeros(text: &mut Vec<u8>, count: usize) -> Result<(), NoMemory>
+    requires few { count ≤ 1000000 }
+    ensures ok { OnOk result (text.new.items ≡ text.old.items ++ replicate count 0) }
+{
+    text.resize(text.len() + count, 0)?;
+    Ok(())
 }

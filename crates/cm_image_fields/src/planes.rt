@@ -10,6 +10,12 @@ use cm_array::Builder;
 use cm_bits::{Addr, Plane};
 use cm_image_format::ImageFault;
 
+/// The bytes of a blank chip: its flag planes, how many memory planes are listed, and how many messages it has.
+pub const BLANK_CHIP_LEN: usize = 35;
+
+/// The bytes that list a memory plane: its address and the plane.
+pub const LISTING_LEN: usize = 4;
+
 /// The flag planes of a chip, by number.
 pub fn take_flags(bytes: &[u8]) -> Result<([Plane; 16], &[u8]), ImageFault>
     ensures value { Gives (λ x. (x.0, x.1.now)) result (flags_part bytes.now) }

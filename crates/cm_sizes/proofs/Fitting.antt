@@ -2,7 +2,7 @@
 use Rattle.std.proofs.Common.{◌≡◌, ℕ, ◌+◌, ◌*◌, ◌^◌, ◌≤◌, true, arith, lit<}
 use Rattle.std.proofs.lemmas.Bool.Decides.{nat_tests}
 use Rattle.std.proofs.Math.Nat.{pow-le-pow_right, mul-le-mul}
-use Rattle.cm_image.specs.Longest.{TextsAreShort}
+use Rattle.cm_image_dump.specs.Longest.{TextsAreShort}
 use Rattle.cm_sizes.specs.Sizes.{is_own_room}
 use Rattle.cm_sizes.specs.Laws.{ImagesAreShortEnough}
 

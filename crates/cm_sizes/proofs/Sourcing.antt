@@ -5,9 +5,9 @@ use Rattle.std.proofs.lemmas.List.{length-append}
 use Rattle.std.specs.Io.KnownBytes.{Consumes, Keeps}
 use Rattle.cm_image_format.specs.declared.fault.ImageFault.{ImageFault}
 use Rattle.cm_image_format.specs.declared.fault.ImageFault.TheVariants.{Memory}
-use Rattle.cm_image.specs.declared.pieces.SourceFault.{SourceFault}
-use Rattle.cm_image.specs.declared.pieces.SourceFault.TheVariants as source
-use Rattle.cm_image.specs.Pieces.{GivesAtMost, GivesRest, IsStopped}
+use Rattle.cm_image_load.specs.declared.pieces.SourceFault.{SourceFault}
+use Rattle.cm_image_load.specs.declared.pieces.SourceFault.TheVariants as source
+use Rattle.cm_image_load.specs.Pieces.{GivesAtMost, GivesRest, IsStopped}
 use Rattle.cm_sizes.specs.declared.any_machine.AnyMachine.{AnyMachine}
 use Rattle.cm_sizes.specs.declared.opening.OpenFault.{OpenFault}
 use Rattle.cm_sizes.specs.declared.opening.OpenFault.TheVariants.{Image, Room}

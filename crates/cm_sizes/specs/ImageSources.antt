@@ -1,7 +1,7 @@
 -- The machine of an image that a source has. Ours.
 use Rattle.std.specs.Prelude.{◌≡◌, ℕ, Option, Result, Ok, Err, List}
-use Rattle.cm_image.specs.declared.pieces.SourceFault.TheVariants as source
-use Rattle.cm_image.specs.Pieces.{GivesRest, IsStopped}
+use Rattle.cm_image_load.specs.declared.pieces.SourceFault.TheVariants as source
+use Rattle.cm_image_load.specs.Pieces.{GivesRest, IsStopped}
 use Rattle.cm_sizes.specs.declared.opening.OpenFault.{OpenFault}
 use Rattle.cm_sizes.specs.declared.opening.OpenFault.TheVariants.{Image, Room}
 use Rattle.cm_sizes.specs.declared.opening.OpenSourceFault.{OpenSourceFault}

@@ -6,7 +6,7 @@ ghost use Rattle.cm_sizes.specs.Sizes.{sized};
 
 use cm_array::Machine;
 use cm_bits::NoMemory;
-use cm_image::dump;
+use cm_image_dump::dump;
 use std::alloc::Global;
 
 /// A machine of one of the programs' own sizes: its dimension, and the room of its routers.

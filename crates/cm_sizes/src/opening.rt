@@ -2,7 +2,7 @@
 
 ghost use Rattle.std.specs.Prelude.{◌≡◌, ◌↔◌, ◌≤◌, ◌++◌, true, false, Ok, Err, IfOk, IfErr, IsErrOf, length};
 ghost use Rattle.cm_image_format.specs.Whole.{read_shape};
-ghost use Rattle.cm_image.specs.Pieces.{GivesRest};
+ghost use Rattle.cm_image_load.specs.Pieces.{GivesRest};
 ghost use Rattle.cm_sizes.specs.Sizes.{sized, is_own_room};
 ghost use Rattle.cm_sizes.specs.Opening.{image_opened, IsUnopened};
 ghost use Rattle.cm_sizes.specs.ImageSources.{IsRefusedAs, IsUnopenedSource, opened_of_source};
@@ -10,7 +10,9 @@ ghost use Rattle.cm_sizes.specs.ImageSources.{IsRefusedAs, IsUnopenedSource, ope
 use crate::any_machine::AnyMachine;
 use cm_array::Machine;
 use cm_bits::Source;
-use cm_image::{ImageFault, PIECE, SourceFault, load, load_source, shape, shapes_go_on, take_rest};
+use cm_image_load::{
+    ImageFault, PIECE, SourceFault, load, load_source, shape, shapes_go_on, take_rest,
+};
 use std::alloc::Global;
 use thiserror::Error;
 

@@ -2,7 +2,7 @@
 use Rattle.std.proofs.Common.{◌≡◌, ℕ, List, [], Option, None, Result, Ok, Err, refl, sym, take, drop, take-append-drop}
 use Rattle.std.specs.Io.KnownBytes.{Appends}
 use Rattle.cm_bits.specs.declared.ends.Failed.{Failed}
-use Rattle.cm_image.specs.Sending.{GoesOutInPart}
+use Rattle.cm_image_dump.specs.Sending.{GoesOutInPart}
 use Rattle.cm_system.specs.declared.program_fault.ProgramFault.{ProgramFault}
 use Rattle.cm_system.specs.OutputFiles.{SavesAfter, flush_end}
 

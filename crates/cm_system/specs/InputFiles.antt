@@ -5,8 +5,8 @@ use Rattle.std.specs.declared.alloc.Global.{Global}
 use Rattle.std.specs.Io.KnownBytes.{Consumes, IsAtEnd}
 use Rattle.cm_bits.specs.declared.ends.Failed.{Failed}
 use Rattle.cm_language.specs.Program.{ProgramText, program_of, IsFaultOf}
-use Rattle.cm_image.specs.declared.pieces.SourceFault.TheVariants as source
-use Rattle.cm_image.specs.Pieces.{GivesRest}
+use Rattle.cm_image_load.specs.declared.pieces.SourceFault.TheVariants as source
+use Rattle.cm_image_load.specs.Pieces.{GivesRest}
 use Rattle.cm_sizes.specs.declared.opening.OpenSourceFault.{OpenSourceFault}
 use Rattle.cm_sizes.specs.declared.opening.OpenSourceFault.TheVariants.{Source}
 use Rattle.cm_sizes.specs.Sizes.{SizedMachine}

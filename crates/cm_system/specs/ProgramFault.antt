@@ -4,7 +4,7 @@ use Rattle.cm_args.specs.declared.fault.LineFault.{LineFault}
 use Rattle.cm_args.specs.declared.fault.LineFault.TheVariants as line
 use Rattle.cm_image_format.specs.declared.fault.ImageFault.{ImageFault}
 use Rattle.cm_image_format.specs.declared.fault.ImageFault.TheVariants as image
-use Rattle.cm_image.specs.declared.pieces.SourceFault.TheVariants as source
+use Rattle.cm_image_load.specs.declared.pieces.SourceFault.TheVariants as source
 use Rattle.cm_sizes.specs.declared.opening.OpenSourceFault.{OpenSourceFault}
 use Rattle.cm_sizes.specs.declared.opening.OpenSourceFault.TheVariants as unopened
 use Rattle.cm_session.specs.declared.fault.SessionFault.{SessionFault}

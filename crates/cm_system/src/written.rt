@@ -3,13 +3,13 @@
 ghost use Rattle.std.specs.Prelude.{◌≡◌, List, ℕ, false, IfOk, IfErr, IsErrOf, OnOk};
 ghost use Rattle.std.specs.Io.KnownBytes.{Appends};
 ghost use Rattle.cm_image_format.specs.Whole.{text_of};
-ghost use Rattle.cm_image.specs.Sending.{GoesOutInPart};
+ghost use Rattle.cm_image_dump.specs.Sending.{GoesOutInPart};
 ghost use Rattle.cm_system.specs.Written.{is_put_write};
 
 use crate::system::PutFault;
 use cm_array::Machine;
 use cm_bits::{NoMemory, Sink, write_all};
-use cm_image::{DumpFault, DumpRoom, dump_into};
+use cm_image_dump::{DumpFault, DumpRoom, dump_into};
 use std::alloc::Global;
 use std::marker::Model;
 
@@ -51,7 +51,7 @@ pub struct Image<'a, const N: usize, const CAP: usize> {
 impl<'a, const N: usize, const CAP: usize> Model for Image<'a, N, CAP> {
     ghost use Rattle.std.specs.Prelude.{List, ℕ};
     ghost use Rattle.cm_image_format.specs.Whole.{text_of};
-    ghost use Rattle.cm_image.specs.Sending.{IsRoomOf};
+    ghost use Rattle.cm_image_dump.specs.Sending.{IsRoomOf};
 
     ghost Value = { List ℕ };
 

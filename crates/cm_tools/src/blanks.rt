@@ -5,7 +5,7 @@ ghost use Rattle.cm_model.specs.Machine.{blank_machine};
 ghost use Rattle.cm_image_format.specs.Whole.{text_of};
 ghost use Rattle.cm_tools.specs.Fresh.{program_fresh_fault};
 
-use cm_image::blank_image;
+use cm_image_dump::blank_image;
 use cm_router::Routing;
 use cm_system::ProgramFault;
 use std::alloc::Global;

@@ -10,7 +10,7 @@ ghost use Rattle.cm_image_format.specs.Whole.{text_of};
 ghost use Rattle.lab_fresh.specs.Fresh.{is_end, is_stray, wires_with, fresh_routing, fresh_machine, fresh_of};
 
 use cm_bits::{Edge, NoMemory};
-use cm_image::blank_image;
+use cm_image_dump::blank_image;
 use cm_message::Rule;
 use cm_router::{Cuts, Routing};
 use std::alloc::Global;

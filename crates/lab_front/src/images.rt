@@ -7,7 +7,8 @@ ghost use Rattle.lab_front.specs.Images.{EndsImage, FailsImage, HasEnded, HasFai
 use crate::talk::front;
 use cm_array::{Machine, Plain};
 use cm_bits::{Sink, Source};
-use cm_image::{ImageFault, dump};
+use cm_image_dump::dump;
+use cm_image_format::ImageFault;
 use cm_session::SessionFault;
 use cm_sizes::{AnyMachine, OpenFault, on_machine, open_image};
 use std::alloc::Global;

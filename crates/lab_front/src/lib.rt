@@ -12,7 +12,7 @@ mod reading;
 mod talk;
 mod telling;
 
-pub use cm_image::ImageFault;
+pub use cm_image_format::ImageFault;
 pub use cm_session::SessionFault;
 pub use front_end::FrontEnd;
 pub use images::{FrontFault, front_image};

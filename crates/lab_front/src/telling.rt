@@ -16,7 +16,7 @@ ghost use Rattle.lab_front.specs.Telling.{image_lines};
 use cm_array::Machine;
 use cm_bits::{Field, FlagNo, NoMemory, PROCESSORS, Plane};
 use cm_debug::push_number;
-use cm_image::dump;
+use cm_image_dump::dump;
 use lab_data::{Order, Shown, flags, get, show, write_numbers};
 use lab_digits::push_words;
 use std::alloc::Global;

@@ -11,7 +11,7 @@ use cm_array::{Machine, Plain};
 use cm_asm::{Program, assemble};
 use cm_bits::doubles::{Bytes, Room};
 use cm_debug::session;
-use cm_image::dump;
+use cm_image_dump::dump;
 use std::alloc::{AllocError, Global};
 
 const ROOM: usize = 65_536;

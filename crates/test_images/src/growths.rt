@@ -3,7 +3,8 @@
 use crate::hostile::FOUR_CHIPS;
 use cm_array::Machine;
 use cm_bits::NoMemory;
-use cm_image::{ImageFault, dump, load};
+use cm_image_dump::dump;
+use cm_image_load::{ImageFault, load};
 use cm_system::ProgramFault;
 use cm_tools::fresh;
 use std::alloc::Global;

@@ -1,6 +1,6 @@
 //! An image read part after part, as the table of the format has it: plain, slow, and with no machine.
 
-use cm_image::ImageFault;
+use cm_image_format::ImageFault;
 use std::alloc::Global;
 
 /// Where reading stands, and the tags that were read.

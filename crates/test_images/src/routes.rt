@@ -2,7 +2,8 @@
 
 use cm_array::{Builder, Machine};
 use cm_bits::{Edge, Proc};
-use cm_image::{dump, load};
+use cm_image_dump::dump;
+use cm_image_load::load;
 use cm_message::{Message, Rule, Tag};
 use std::alloc::Global;
 use std::test::Fail;

@@ -6,7 +6,8 @@ ghost use Rattle.cm_bits.specs.Doubles.{room_has_failed};
 use crate::growths::TWO_CHIPS;
 use cm_array::Machine;
 use cm_bits::doubles::Room;
-use cm_image::{DumpFault, DumpRoom, dump_into, load};
+use cm_image_dump::{DumpFault, DumpRoom, dump_into};
+use cm_image_load::load;
 use std::alloc::Global;
 
 /// How a machine's image goes into a sink.

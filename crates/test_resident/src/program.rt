@@ -9,7 +9,7 @@ use cm_asm::{Program, assemble};
 use cm_bits::doubles::{Bytes, Room};
 use cm_bits::{Sink, Source};
 use cm_cli::Several;
-use cm_image::dump;
+use cm_image_dump::dump;
 use cm_model::Rule;
 use cm_run::{Alone, SessionRunner, Sharing};
 use cm_sizes::{AnyMachine, on_machine, open_image};

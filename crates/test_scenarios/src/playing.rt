@@ -12,7 +12,7 @@ use cm_asm::{Program, assemble};
 use cm_bits::doubles::Room;
 use cm_bits::read_number;
 use cm_debug::{SessionFault, read_command, session};
-use cm_image::load;
+use cm_image_load::load;
 use std::alloc::{AllocError, Global};
 
 /// Tells a line.

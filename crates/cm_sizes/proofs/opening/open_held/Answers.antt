@@ -1,6 +1,6 @@
 use Rattle.std.proofs.Common.{◌≡◌, ◌++◌, ◌∙◌, IfOk, IfErr, IsErrOf, Result, List, ℕ, Ok, Err, sym, subst}
-use Rattle.cm_image.specs.Pieces.{GivesRest}
-use Rattle.cm_image.specs.declared.pieces.SourceFault.TheVariants as source
+use Rattle.cm_image_load.specs.Pieces.{GivesRest}
+use Rattle.cm_image_load.specs.declared.pieces.SourceFault.TheVariants as source
 use Rattle.cm_sizes.specs.declared.any_machine.AnyMachine.{AnyMachine}
 use Rattle.cm_sizes.specs.declared.opening.OpenFault.TheVariants.{Image}
 use Rattle.cm_sizes.specs.declared.opening.OpenSourceFault.{OpenSourceFault}

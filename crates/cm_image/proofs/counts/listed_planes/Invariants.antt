@@ -1,6 +1,0 @@
-use Rattle.std.proofs.Common.{◌^◌}
-use Rattle.cm_image.proofs.Counting.{AreSoFar}
-use Rattle.cm_image.proofs.counts.listed_planes.Given as goal
-
-abbrev pub invariant-loop-at : goal.invariant-loop-at
-invariant-loop-at g l = AreSoFar (2 ^ g.row.N) l.machine.machine.chips l.at l.counts.items

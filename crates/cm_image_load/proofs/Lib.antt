@@ -1,0 +1,10 @@
+mod Going
+mod Standing
+mod Nearing
+mod Waiting
+mod Building
+mod Loading
+mod Coming
+mod Blanks
+mod Eights
+mod Judging

@@ -1,0 +1,4 @@
+pub mod Chips
+pub mod WaitingChips
+pub mod Pieces
+pub mod Taken

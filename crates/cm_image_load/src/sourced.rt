@@ -1,0 +1,175 @@
+//! Reading a machine of a source, whose bytes need not all be held.
+
+ghost use Rattle.std.specs.Prelude.{◌≡◌, ◌≢◌, ◌↔◌, ◌≤◌, ◌^◌, ◌++◌, ℕ, List, [], true, false, Ok, Err, IfOk, IfErr};
+ghost use Rattle.std.specs.Prelude.{IsErrOf, OnOk, length};
+ghost use Rattle.cm_image_format.specs.Whole.{read_image};
+ghost use Rattle.cm_image_fields.specs.Cuts.{header_of};
+ghost use Rattle.cm_image_load.specs.Chips.{IsReadTo, IsBlankFrom};
+ghost use Rattle.cm_image_load.specs.Pieces.{GivesRest, IsStopped, ShapesGoOn};
+ghost use Rattle.cm_image_load.specs.WaitingChips.{with_waiting};
+
+use crate::chips::take_full_chips;
+use crate::loads::{finish, load};
+use crate::pieces::{SourceFault, Window, take_rest};
+use crate::waiting_chips::{WaitingChips, lists_all};
+use cm_array::{Builder, Machine};
+use cm_bits::Source;
+use cm_image_fields::{Header, take_header, take_routing};
+use cm_image_format::ImageFault;
+use std::alloc::Global;
+
+/// The machine whose image these bytes are and all that a source has behind them, at most so many. While all memory
+/// planes of chips are listed, bytes are held no longer than it takes to put them into the machine.
+pub fn load_source<const N: usize, const CAP: usize, I: Source>(
+    alloc: Global,
+    front: &[u8],
+    source: &mut I,
+    most: u64,
+) -> Result<Machine<N, CAP>, SourceFault>
+    requires few { length front.now ≤ 65536 }
+    requires working { I.has_failed source.old ≡ false }
+    ensures value { IfOk result (λ kept. GivesRest most (I.left source.old) (I.left source.new)
+        (λ more. read_image N CAP (front.now ++ more) ≡ Ok kept.machine)) }
+    ensures refused { IfErr result (IsStopped most (I.left source.old) (I.left source.new)
+        (λ fault more. read_image N CAP (front.now ++ more) ≡ Err fault)) }
+    ensures read { (I.has_failed source.new ≡ true) ↔ IsErrOf result SourceFault.Read }
+{
+    let Ok((header, behind)) = take_header(N, CAP, front) else {
+        return load_held(alloc, front, source, most);
+    };
+    let Ok(mut builder) = Builder::start(alloc, header.clock) else {
+        return Err(SourceFault::Image(ImageFault::Memory));
+    };
+    let Ok(waiting) = WaitingChips::new(alloc) else {
+        return Err(SourceFault::Image(ImageFault::Memory));
+    };
+    match take_routing(&mut builder, header, behind) {
+        Ok(chips) => {
+            let loading = Loading {
+                builder,
+                waiting,
+                header,
+            };
+            loading.load_chips(alloc, chips, source, most)
+        }
+        Err(_) => load_held(alloc, front, source, most),
+    }
+}
+
+/// The same, by all bytes together.
+fn load_held<const N: usize, const CAP: usize, I: Source>(
+    alloc: Global,
+    front: &[u8],
+    source: &mut I,
+    most: u64,
+) -> Result<Machine<N, CAP>, SourceFault>
+    requires working { I.has_failed source.old ≡ false }
+    ensures value { IfOk result (λ kept. GivesRest most (I.left source.old) (I.left source.new)
+        (λ more. read_image N CAP (front.now ++ more) ≡ Ok kept.machine)) }
+    ensures refused { IfErr result (IsStopped most (I.left source.old) (I.left source.new)
+        (λ fault more. read_image N CAP (front.now ++ more) ≡ Err fault)) }
+    ensures read { (I.has_failed source.new ≡ true) ↔ IsErrOf result SourceFault.Read }
+{
+    let bytes = take_rest(alloc, front, source, most)?;
+    match load(alloc, &bytes) {
+        Ok(machine) => Ok(machine),
+        Err(fault) => Err(SourceFault::Image(fault)),
+    }
+}
+
+/// A machine that is read of an image: what was put into it, the chips that wait, and how the image began.
+#[derive(Drop)]
+struct Loading<const N: usize, const CAP: usize> {
+    builder: Builder<N, CAP>,
+    waiting: WaitingChips,
+    header: Header,
+}
+
+impl<const N: usize, const CAP: usize> Loading<N, CAP> {
+    /// The machine of an image of which no chip was put in yet.
+    fn load_chips<I: Source>(
+        mut self,
+        alloc: Global,
+        chips: &[u8],
+        source: &mut I,
+        most: u64,
+    ) -> Result<Machine<N, CAP>, SourceFault>
+        requires few { length chips.now ≤ 65536 }
+        requires dimension { N ≤ 12 }
+        requires none { self.waiting ≡ [] }
+        requires blank { IsBlankFrom N 0 self.builder }
+        requires clock { self.builder.clock ≡ self.header.clock }
+        requires working { I.has_failed source.old ≡ false }
+        ensures value { IfOk result (λ kept. GivesRest most (I.left source.old) (I.left source.new)
+            (λ more. (whole : List ℕ)
+            → IsReadTo N CAP (header_of N CAP self.entry.header) 0 self.entry.builder (chips.now ++ more) whole
+            → read_image N CAP whole ≡ Ok kept.machine)) }
+        ensures refused { IfErr result (IsStopped most (I.left source.old) (I.left source.new)
+            (λ fault more. (whole : List ℕ)
+            → IsReadTo N CAP (header_of N CAP self.entry.header) 0 self.entry.builder (chips.now ++ more) whole
+            → read_image N CAP whole ≡ Err fault)) }
+        ensures read { (I.has_failed source.new ≡ true) ↔ IsErrOf result SourceFault.Read }
+    {
+        let (next, bytes) = self.take_pieces(alloc, chips, source, most)?;
+        let Loading {
+            builder,
+            waiting,
+            header,
+        } = self;
+        match finish(builder, waiting, next, header, &bytes) {
+            Ok(machine) => Ok(machine),
+            Err(fault) => Err(SourceFault::Image(fault)),
+        }
+    }
+
+    /// Takes in chips as their bytes come, as long as all their memory planes are listed. Which chip is next, and its
+    /// bytes with all behind them.
+    fn take_pieces<I: Source>(
+        &mut self,
+        alloc: Global,
+        chips: &[u8],
+        source: &mut I,
+        most: u64,
+    ) -> Result<(u16, Vec<u8>), SourceFault>
+        requires few { length chips.now ≤ 65536 }
+        requires dimension { N ≤ 12 }
+        requires none { self.old.waiting ≡ [] }
+        requires blank { IsBlankFrom N 0 self.old.builder }
+        requires clock { self.old.builder.clock ≡ self.old.header.clock }
+        requires working { I.has_failed source.old ≡ false }
+        ensures value { IfOk result (λ x. GivesRest most (I.left source.old) (I.left source.new)
+            (λ more. (whole : List ℕ)
+            → IsReadTo N CAP (header_of N CAP self.old.header) 0 self.old.builder (chips.now ++ more) whole
+            → IsReadTo N CAP (header_of N CAP self.old.header) x.0
+            (with_waiting x.0 self.new.builder self.new.waiting) x.1.items whole)) }
+        ensures blank { IfOk result (λ x. IsBlankFrom N x.0 (with_waiting x.0 self.new.builder self.new.waiting)) }
+        ensures waiting { IfOk result (λ x. length self.new.waiting ≤ x.0) }
+        ensures within { IfOk result (λ x. x.0 ≤ 2 ^ N) }
+        ensures clock { OnOk result (self.new.builder.clock ≡ self.old.header.clock) }
+        ensures header { self.new.header ≡ self.old.header }
+        ensures refused { IfErr result (IsStopped most (I.left source.old) (I.left source.new) (λ fault more. ⊥)) }
+        ensures read { (I.has_failed source.new ≡ true) ↔ IsErrOf result SourceFault.Read }
+    {
+        if !lists_all(chips) {
+            let all = take_rest(alloc, chips, source, most)?;
+            return Ok((0, all));
+        }
+        let clock = self.header.clock;
+        let mut window = Window::of(alloc, chips)?;
+        let (next, left) = take_full_chips(
+            &mut self.builder,
+            &mut self.waiting,
+            clock,
+            &mut window,
+            source,
+            most,
+        )?;
+        let bytes = take_rest(alloc, window.rest(), source, left)?;
+        Ok((next, bytes))
+    }
+}
+
+/// Dimension and room stand in the first bytes of an image: whatever comes behind them.
+pub fn shapes_go_on()
+    ensures { ShapesGoOn }
+{}
