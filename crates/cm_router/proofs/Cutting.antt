@@ -1,7 +1,7 @@
 -- The two ends of a wire, and its place among others.
 use Rattle.std.proofs.Common.{◌≡◌, ◌≢◌, ℕ, ◌+◌, ◌*◌, ◌/◌, ◌%◌, ◌^◌, ◌<◌, ◌≤◌, Bool, true, false}
 use Rattle.std.proofs.Common.{List, [], ◌∷◌, length, get_or, set, bit_or, ◌&&◌, ◌||◌, ◌==◌, refl, sym, ap, ◌∙◌, subst, ⊎_elim}
-use Rattle.std.proofs.Common.{zero, suc, cond, not, min, arith, take, ◌++◌}
+use Rattle.std.proofs.Common.{zero, suc, cond, not, min, arith, take, ◌++◌, lit<}
 use Rattle.std.specs.Prelude.{bit_xor}
 use Rattle.std.specs.List.{All, list_any, insert}
 use Rattle.std.proofs.lemmas.List.Elements.{All-nil, All-cons, All-head, All-tail}
@@ -12,7 +12,7 @@ use Rattle.std.proofs.lemmas.Bool.{eqb-false}
 use Rattle.std.proofs.lemmas.Bool.{cases_lt}
 use Rattle.std.proofs.lemmas.Bool.Decides.{nat_tests}
 use Rattle.std.proofs.lemmas.Nat.{xor_shr, xor_mod, pow_pos, le-div}
-use Rattle.std.proofs.Math.Nat.{div_self, div-mul-le_self, le_trans}
+use Rattle.std.proofs.Math.Nat.{div_self, div-mul-le_self, le_trans, pow-le-pow_right, mod-eq_of_lt}
 use Rattle.cm_bits.specs.Bit.{bit}
 use Rattle.cm_bits.specs.Wire.{Wire, IsWire}
 use Rattle.cm_model.specs.declared.rule.Rule.TheVariants.{First}
@@ -60,6 +60,13 @@ at_its_ends c d w e =
     λ s t. sym (xor_twice c (2 ^ d)) ∙ (ap (λ (x : ℕ). bit_xor x (2 ^ d)) t
     ∙ ap (λ (x : ℕ). bit_xor w.chip (2 ^ x)) s) in
     grind (arith, nat_tests, lower, from_lower, from_upper, to_upper)
+
+-- so many rows are those of all chips
+pub all_rows : (dims : ℕ) → dims ≤ 12 → 1 * 2 ^ dims % 18446744073709551616 ≡ 2 ^ dims
+all_rows dims h =
+    let most : 2 ^ dims ≤ 2 ^ 12 = pow-le-pow_right (lit< tt) h in
+    let below : 1 * 2 ^ dims < 18446744073709551616 = omega arith in
+    mod-eq_of_lt below ∙ omega arith
 
 -- ---- one bit, and both
 

@@ -39,10 +39,12 @@ with_wire w wires = if list_any (same_wire w) wires then wires else wire_put w w
 abbrev pub is_cut_at : List ℕ → ℕ → ℕ → Bool
 is_cut_at rows c d = bit (get_or rows c 0) d
 
--- the wires of a cube that are cut, with places for all that it has; the same by chip, and by dimension
-pub record AreCuts (dims : ℕ) (edges : Vec Wire Global) (rows : List ℕ) (over : ℕ) : Type 0 where
+-- the wires of a cube that are cut, with places for all that it has; the same by chip, with places for all chips, and by
+-- dimension
+pub record AreCuts (dims : ℕ) (edges : Vec Wire Global) (rows : Vec ℕ Global) (over : ℕ) : Type 0 where
   pub wires : AreWires (record { dims = dims; wires = edges.items })
   pub places : most_wires dims ≤ vec_capacity edges
-  pub count : length rows ≡ 2 ^ dims
-  pub by_chip : (c d : ℕ) → is_cut_at rows c d ≡ has_wire edges.items c d
+  pub count : length rows.items ≤ 2 ^ dims
+  pub chip_places : 2 ^ dims ≤ vec_capacity rows
+  pub by_chip : (c d : ℕ) → is_cut_at rows.items c d ≡ has_wire edges.items c d
   pub by_dimension : (d : ℕ) → bit over d ≡ list_any (λ w. w.dim == d) edges.items

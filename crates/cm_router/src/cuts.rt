@@ -18,7 +18,8 @@ pub struct Cuts {
     dims: u8,
     /// In their order, with places for all wires of the cube.
     edges: Vec<Edge>,
-    /// The same by chip: bit d is 1 where its wire over dimension d is cut.
+    /// The same by chip: bit d is 1 where its wire over dimension d is cut. There are none before the first wire is cut,
+    /// and room for all.
     rows: Vec<u16>,
     /// Bit d is 1 where any wire over dimension d is cut.
     over: u16,
@@ -31,7 +32,7 @@ impl Model for Cuts {
 
     ghost view = { λ cuts. record { dims = cuts.dims; wires = cuts.edges.items } };
 
-    ghost invariant = { λ cuts. AreCuts cuts.dims cuts.edges cuts.rows.items cuts.over };
+    ghost invariant = { λ cuts. AreCuts cuts.dims cuts.edges cuts.rows cuts.over };
 }
 
 impl Cuts {
@@ -43,7 +44,7 @@ impl Cuts {
         Ok(Cuts {
             dims,
             edges: Vec::with_capacity(alloc, most_wires(dims))?,
-            rows: vec![in alloc; 0; 1 << dims]?,
+            rows: Vec::with_capacity(alloc, 1 << dims)?,
             over: 0,
         })
     }
@@ -54,10 +55,12 @@ impl Cuts {
     {
         let mut edges = self.edges.clone()?;
         edges.reserve(most_wires(self.dims))?;
+        let mut rows = Vec::with_capacity(*self.rows.allocator(), 1 << self.dims)?;
+        rows.extend_from_slice(&self.rows)?;
         Ok(Cuts {
             dims: self.dims,
             edges,
-            rows: self.rows.clone()?,
+            rows,
             over: self.over,
         })
     }
@@ -74,6 +77,7 @@ impl Cuts {
             return;
         }
         put(&mut self.edges, edge);
+        make_rows(&mut self.rows, 1 << self.dims);
         let chip = usize::from(chip);
         cut_end(&mut self.rows, chip, dim);
         cut_end(&mut self.rows, other_end(chip, dim), dim);
@@ -100,7 +104,7 @@ impl Cuts {
             return;
         }
         self.edges.clear();
-        self.rows.fill(0);
+        self.rows.clear();
         self.over = 0;
     }
 
@@ -111,7 +115,18 @@ impl Cuts {
         ensures value { result ≡ has_wire self.now.wires chip dim }
         ensures both_ends { result ≡ has_wire self.now.wires (bit_xor chip (2 ^ dim)) dim }
     {
-        has_bit(self.rows[usize::from(chip)], dim)
+        has_bit(self.row(chip), dim)
+    }
+
+    /// Which wires of a chip are cut: bit d is 1 where the one over dimension d is.
+    fn row(&self, chip: u16) -> u16
+        ensures value { (d : ℕ) → bit result d ≡ has_wire self.now.wires chip d }
+        ensures whole { AreWires self.now }
+    {
+        match self.rows.get(usize::from(chip)) {
+            Some(row) => *row,
+            None => 0,
+        }
     }
 
     /// Whether any wire over a dimension is cut.
@@ -178,11 +193,23 @@ fn stands_before(edge: Edge, other: Edge) -> bool
     edge.chip() < other.chip() || edge.chip() == other.chip() && edge.dim() < other.dim()
 }
 
+/// Makes rows of bits that are 0 for all chips, so many, that have none. There are places for them.
+fn make_rows(rows: &mut Vec<u16>, chips: usize)
+    requires few { length rows.old.items ≤ chips }
+    requires places { chips ≤ vec_capacity rows.old }
+    ensures count { length rows.new.items ≡ chips }
+    ensures capacity { vec_capacity rows.old ≤ vec_capacity rows.new }
+    ensures value { (c d : ℕ) → is_cut_at rows.new.items c d ≡ is_cut_at rows.old.items c d }
+{
+    rows.resize(chips, 0).unwrap();
+}
+
 /// Cuts a wire at one of its ends.
 fn cut_end(rows: &mut Vec<u16>, chip: usize, dim: u8)
     requires chip { chip < length rows.old.items }
     requires dimension { dim < 12 }
     ensures count { length rows.new.items ≡ length rows.old.items }
+    ensures capacity { vec_capacity rows.old ≤ vec_capacity rows.new }
     ensures value { (c d : ℕ) →
         is_cut_at rows.new.items c d ≡ ((c == chip && d == dim) || is_cut_at rows.old.items c d) }
 {

@@ -4,7 +4,8 @@ use Rattle.cm_bits.specs.Wire.{Wire}
 use Rattle.cm_model.specs.Wiring.{same_wire}
 use Rattle.cm_model.proofs.Flips.{across_below}
 use Rattle.cm_router.specs.Cuts.{CubeCuts, AreWires, wire_put, has_wire}
-use Rattle.cm_router.proofs.Cutting.{asked, is_new, AreWires-put, place_left, by_chip-put, by_dimension-put}
+use Rattle.cm_router.proofs.Cutting.{asked, all_rows, is_new, AreWires-put, place_left, by_chip-put}
+use Rattle.cm_router.proofs.Cutting.{by_dimension-put}
 use Rattle.cm_router.proofs.cuts.Cuts.add.Goals as goal
 
 pub returns-then-has : goal.returns-then-has
@@ -36,8 +37,10 @@ cut_end-requires-2-clause-chip c =
     ∙ (λ j. bit_xor ((c.from-chip.ensures ∙ c.chip-chip.ensures.value) j) (2 ^ c.dim-dim.ensures.value j)) in
     let within : bit_xor c.args.edge.chip (2 ^ c.args.edge.dim) < 2 ^ c.args.self.now.dims =
     across_below c.args.self.now.dims c.args.edge.dim c.args.edge.chip c.requires.dimension c.requires.chip in
-    let wide : length c.self.inside.rows.items ≡ 2 ^ c.args.self.now.dims =
-    c.self.invariant.count ∙ ap (λ (cuts : CubeCuts). 2 ^ cuts.dims) c.self.view_is in
+    let wide : length c.make_rows.new.rows.items ≡ 2 ^ c.args.self.now.dims =
+    c.make_rows.ensures.count
+    ∙ (all_rows c.self.inside.dims c.self.invariant.wires.dimensions
+    ∙ ap (λ (cuts : CubeCuts). 2 ^ cuts.dims) c.self.view_is) in
     omega (arith, there, within, c.cut_end.ensures.count, wide)
 
 pub invariant_of-self : goal.invariant_of-self
@@ -54,11 +57,24 @@ invariant_of-self c =
       wires = subst (λ (ws : List Wire). AreWires (record { dims = dims; wires = ws })) put
           (AreWires-put dims wires edge was.wires one);
       places = omega (arith, was.places, c.put.ensures.capacity);
-      count = c.cut_end-2.ensures.count ∙ (c.cut_end.ensures.count ∙ was.count);
-      by_chip = λ i d. by_chip-put c.self.inside.rows.items c.cut_end.new.rows.items c.cut_end-2.new.rows.items wires
+      count = omega (
+        arith,
+        c.cut_end-2.ensures.count,
+        c.cut_end.ensures.count,
+        c.make_rows.ensures.count,
+        all_rows dims was.wires.dimensions,
+      );
+      chip_places = omega (
+        arith,
+        was.chip_places,
+        c.make_rows.ensures.capacity,
+        c.cut_end.ensures.capacity,
+        c.cut_end-2.ensures.capacity,
+      );
+      by_chip = λ i d. by_chip-put c.make_rows.new.rows.items c.cut_end.new.rows.items c.cut_end-2.new.rows.items wires
           edge c.from-chip.result c.dim-dim.result c.other_end.result c.chip-chip.ensures.whole.lower
           (c.from-chip.ensures ∙ c.chip-chip.ensures.value) c.dim-dim.ensures.value c.other_end.ensures.value
-          c.cut_end.ensures.value c.cut_end-2.ensures.value was.by_chip i d
+          c.cut_end.ensures.value c.cut_end-2.ensures.value (λ e f. c.make_rows.ensures.value e f ∙ was.by_chip e f) i d
           ∙ ap (λ (ws : List Wire). has_wire ws i d) put;
       by_dimension = λ d. by_dimension-put c.self.inside.over wires edge c.dim-dim.result c.dim-dim.ensures.value
           (omega (arith, c.dim-dim.ensures.within)) was.by_dimension d
