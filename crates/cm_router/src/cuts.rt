@@ -18,8 +18,8 @@ pub struct Cuts {
     dims: u8,
     /// In their order, with places for all wires of the cube.
     edges: Vec<Edge>,
-    /// The same by chip: bit d is 1 where its wire over dimension d is cut. There are none before the first wire is cut,
-    /// and room for all.
+    /// The same by chip: bit d is 1 where its wire over dimension d is cut. There are none before the first wire is
+    /// cut, and places for all chips.
     rows: Vec<u16>,
     /// Bit d is 1 where any wire over dimension d is cut.
     over: u16,
