@@ -9,7 +9,7 @@ use Rattle.cm_model.specs.Each.{tabulate}
 use Rattle.cm_model.specs.Processor.{Processor, memory_bit, flag, blank_processor}
 use Rattle.cm_model.specs.Chip.{no_processor, processor_at, blank_chip}
 use Rattle.cm_model.specs.Array.{chip_at, nth_or_nil}
-use Rattle.cm_model.specs.Machine.{Machine, blank_machine}
+use Rattle.cm_model.specs.Machine.{blank_machine}
 use Rattle.cm_model.proofs.Bits.{bit-zero}
 use Rattle.cm_model.proofs.Each.{get_or-each_below, same_each_below}
 use Rattle.cm_model.proofs.Values.{plane_number-is}
