@@ -30,6 +30,7 @@ fn is_of_language(line: &[u8]) -> bool
     verb_of(word).is_some() || word == b"field".as_slice() && are_three(words)
 }
 
+/// Whether just three words are left: a line `field` with three operands is one of a program, with four a question.
 fn are_three(mut words: Words) -> bool
     ensures value { result ≡ (length (words_left words.entry) == 3) }
 {
