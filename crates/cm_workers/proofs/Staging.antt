@@ -95,6 +95,7 @@ clock_after n room Inject parcel s = let e : s.clock ≡ s.clock + 0 = omega ari
 clock_after n room (Cross d) parcel s = let e : s.clock ≡ s.clock + 0 = omega arith in e
 clock_after n room Deliver parcel s = refl
 
+-- the deliveries of steps, one step more; cm_weave and cm_turns have the same lemmas, and none of the three uses another
 deliveries-cons : (step : Step) (steps : List Step)
     → deliveries (step ∷ steps) ≡ deliveries (step ∷ []) + deliveries steps
 deliveries-cons (Instruct nano) steps = sum_by-cons (λ y. cond (is_delivery y) 1 0) (Instruct nano) steps
