@@ -3,6 +3,7 @@ mod Blocking
 pub mod Joining
 mod Exchanging
 pub mod Counting
+pub mod Clocks
 pub mod Following
 mod Stopping
 mod Going

@@ -1,24 +1,18 @@
 -- Blocks from round to round of a run.
-use Rattle.std.proofs.Common.{◌≡◌, ℕ, ◌+◌, ◌-◌, ◌*◌, ◌/◌, ◌<◌, ◌≤◌, ◌^◌, Bool, true, false}
-use Rattle.std.proofs.Common.{List, [], ◌∷◌, cond, Option, Some, None, length, refl, ap, sym, subst, ◌∙◌, arith, eq-eqb}
+use Rattle.std.proofs.Common.{◌≡◌, ℕ, ◌+◌, ◌-◌, ◌*◌, ◌/◌, ◌<◌, ◌≤◌, ◌^◌, true, false}
+use Rattle.std.proofs.Common.{List, Option, Some, None, length, refl, ap, sym, subst, ◌∙◌, arith, eq-eqb}
 use Rattle.std.specs.Prelude.{slice_get}
 use Rattle.std.specs.Option.{option_map, ForSome}
 use Rattle.std.proofs.lemmas.Option.{slice_get-map}
-use Rattle.std.proofs.lemmas.List.Sums.{sum_by-cons}
 use Rattle.std.proofs.lemmas.Bool.Decides.{nat_tests}
 use Rattle.cm_bits.specs.declared.plane.Dir.{Dir}
 use Rattle.cm_bits.specs.declared.plane.Dir.TheVariants as dir
 use Rattle.cm_model.specs.declared.act.Act.{Act}
 use Rattle.cm_model.specs.Machine.{Machine}
 use Rattle.cm_model.specs.Steps.{Step, Instruct, Look, Inject, Cross, Deliver, Phase}
-use Rattle.cm_model.specs.Place.{columns, place_at}
-use Rattle.cm_model.specs.Array.{output}
-use Rattle.cm_model.specs.Wiring.{way_of}
-use Rattle.cm_model.specs.Buffers.{outgoing}
-use Rattle.cm_model.proofs.Each.{length-tabulate}
-use Rattle.cm_blocks.specs.Counts.{is_delivery, deliveries, events_in}
-use Rattle.cm_blocks.specs.Parts.{Part, part, block, block_size, chip_in, buffer_in}
-use Rattle.cm_blocks.specs.Parcels.{Parcel, Blank, Edge, due, sender, sender_over, edge_row}
+use Rattle.cm_blocks.specs.Counts.{deliveries, events_in}
+use Rattle.cm_blocks.specs.Parts.{Part, part, block, block_size}
+use Rattle.cm_blocks.specs.Parcels.{Parcel, due, sender, sender_over}
 use Rattle.cm_blocks.specs.Rounds.{is_round, is_vertical, rounds, before_round, steps_between, steps_after_round}
 use Rattle.cm_blocks.specs.Steps.{part_after, part_after_all, less, absorbed}
 use Rattle.cm_blocks.proofs.Rounding.{blocks_begin, blocks_go_on}
@@ -29,6 +23,7 @@ use Rattle.cm_array.specs.Acts.{cycles_in}
 use Rattle.cm_subcube.specs.declared.round.Kind.{Kind}
 use Rattle.cm_subcube.specs.declared.round.Round.{Round}
 use Rattle.cm_subcube.specs.Blocks.{BlockView}
+use Rattle.cm_subcube.proofs.Clocks.{clock_after_all, clock_left, due_of_kind}
 use Rattle.cm_subcube.specs.Rounds.{kind_of, kind_over, round_of, rounds_of, step_of}
 use Rattle.cm_subcube.specs.Parcels.{blank_parcel, IsOfKind, HaveSpaceFor, SparesCuts, IsExchange}
 use Rattle.cm_subcube.specs.Local.{local_after, IsRoundOf}
@@ -68,61 +63,7 @@ at_own run one P s p = subst P (same_run run one s) p
 as_own : (run : Run) (one : BlockView) (P : Run → Type 0) → HasSizes run one → P run → P (own_run run one)
 as_own run one P s p = subst P (sym (same_run run one s)) p
 
--- ---- counters, and what a round sends
-
-clock_after : (n room : ℕ) (step : Step) (parcel : Parcel) (s : Part)
-    → (part_after n room step parcel s).clock ≡ s.clock + deliveries (step ∷ [])
-unfolding part_after
-clock_after n room (Instruct nano) parcel s = let e : s.clock ≡ s.clock + 0 = omega arith in e
-clock_after n room Look parcel s = let e : s.clock ≡ s.clock + 0 = omega arith in e
-clock_after n room Inject parcel s = let e : s.clock ≡ s.clock + 0 = omega arith in e
-clock_after n room (Cross d) parcel s = let e : s.clock ≡ s.clock + 0 = omega arith in e
-clock_after n room Deliver parcel s = refl
-
-deliveries-cons : (step : Step) (steps : List Step)
-    → deliveries (step ∷ steps) ≡ deliveries (step ∷ []) + deliveries steps
-deliveries-cons (Instruct nano) steps = sum_by-cons (λ y. cond (is_delivery y) 1 0) (Instruct nano) steps
-deliveries-cons Look steps = sum_by-cons (λ y. cond (is_delivery y) 1 0) Look steps
-deliveries-cons Inject steps = sum_by-cons (λ y. cond (is_delivery y) 1 0) Inject steps
-deliveries-cons (Cross d) steps = sum_by-cons (λ y. cond (is_delivery y) 1 0) (Cross d) steps
-deliveries-cons Deliver steps = sum_by-cons (λ y. cond (is_delivery y) 1 0) Deliver steps
-
-clock_after_all : (n room : ℕ) (steps : List Step) (s : Part)
-    → (part_after_all n room steps s).clock ≡ s.clock + deliveries steps
-clock_after_all n room [] s = let e : s.clock ≡ s.clock + 0 = omega arith in e
-clock_after_all n room (step ∷ steps) s =
-    let more = clock_after_all n room steps (part_after n room step Blank s) in
-    let one = clock_after n room step Blank s in
-    let split = deliveries-cons step steps in
-    omega (arith, more, one, split)
-
-clock_left : (room : ℕ) (step : Step) (s : Part) → (less room step s).clock ≡ s.clock
-unfolding less
-clock_left room (Instruct nano) s = refl
-clock_left room Look s = refl
-clock_left room Inject s = refl
-clock_left room (Cross d) s = refl
-clock_left room Deliver s = refl
-
-over_columns : (n k : ℕ) (over : Dir) (row : List Bool) → length row ≡ columns n
-    → IsOfKind n k (kind_over over) (Edge row)
-over_columns n k dir.North row long = long
-over_columns n k dir.East row long = long
-over_columns n k dir.West row long = long
-over_columns n k dir.South row long = long
-
--- what is due is of the round's kind
-due_of_kind : (n k room : ℕ) (step : Step) (s : Part) → is_round n k step ≡ true → s.count ≡ block_size n k
-    → IsOfKind n k (kind_of step) (due n room step s)
-unfolding due
-due_of_kind n k room (Instruct nano) s round count =
-    over_columns n k nano.dir _
-    (length-tabulate 0 (columns n) (λ column. output nano (chip_in s) (place_at n (edge_row n nano.dir s) column)))
-due_of_kind n k room Look s round count = absurd (let wrong : false ≡ true = round in cc)
-due_of_kind n k room Inject s round count = absurd (let wrong : false ≡ true = round in cc)
-due_of_kind n k room (Cross d) s round count =
-    length-tabulate s.first s.count (λ c. outgoing (way_of s.routing c d) room d (buffer_in s c)) ∙ count
-due_of_kind n k room Deliver s round count = absurd (let wrong : false ≡ true = round in cc)
+-- ---- what a round sends
 
 -- the giver of a kind is the sender at the step
 giver_is_sender : (n k : ℕ) (step : Step) (b : ℕ) → is_round n k step ≡ true

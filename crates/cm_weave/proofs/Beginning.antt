@@ -1,7 +1,7 @@
 -- Blocks that were cut and went alone to their first round, with lanes that were not used, are the first world of a
 -- run.
 use Rattle.std.proofs.Common.{◌≡◌, ℕ, suc, ◌+◌, ◌-◌, ◌*◌, ◌/◌, ◌%◌, ◌<◌, ◌≤◌, ◌^◌, ⊎_elim}
-use Rattle.std.proofs.Common.{Bool, true, false, cond, List, [], ◌∷◌, ◌++◌, Some, None}
+use Rattle.std.proofs.Common.{Bool, true, false, cond, List, [], ◌∷◌, Some, None}
 use Rattle.std.proofs.Common.{length, map, get_or, set, replicate, refl, ap, sym, subst, ◌∙◌, arith}
 use Rattle.std.specs.Prelude.{nat_lt, if◌then◌else◌}
 use Rattle.std.specs.List.{All, filter, range_with_len}
@@ -39,7 +39,7 @@ use Rattle.cm_weave.specs.declared.first.Prepared.{Prepared}
 use Rattle.cm_weave.specs.First.{IsFirstBlock, HasBegun, AreBeginning, AreUnused, IsPrepared}
 use Rattle.cm_weave.specs.Parts.{part_at_stand}
 use Rattle.cm_weave.specs.Woven.{lane_seen, world_seen, StandsThere, AreWoven}
-use Rattle.cm_weave.proofs.Clocks.{clock_after_all}
+use Rattle.cm_subcube.proofs.Clocks.{clock_after_all}
 use Rattle.cm_weave.proofs.Finishing.{no_block}
 
 -- ---- rounds are few

@@ -30,7 +30,7 @@ use Rattle.cm_exchange.specs.Steps.{stage_of, stand_after}
 use Rattle.cm_exchange.specs.Laws.{HasItsKinds}
 use Rattle.cm_weave.specs.Kinds.{round_kind_number}
 use Rattle.cm_weave.specs.Parts.{at_stage, part_at_stand, part_with}
-use Rattle.cm_weave.proofs.Clocks.{kind_is_number, giver_is_sender}
+use Rattle.cm_weave.proofs.Givers.{kind_is_number, giver_is_sender}
 
 -- ---- a round that is there
 

@@ -1,5 +1,5 @@
 pub mod Moving
-pub mod Clocks
+pub mod Givers
 pub mod Following
 pub mod Weaving
 pub mod Playing

@@ -1,5 +1,5 @@
 -- Steps of a block with a lane.
-use Rattle.std.proofs.Common.{◌≡◌, ℕ, ◌+◌, ◌<◌, ◌^◌, Bool, List, Some, sym, ◌∙◌, refl, subst}
+use Rattle.std.proofs.Common.{◌≡◌, ℕ, ◌+◌, ◌<◌, ◌^◌, Bool, List, Some, sym, refl, subst}
 use Rattle.cm_model.specs.declared.act.Act.{Act}
 use Rattle.cm_model.specs.Steps.{Step as Phased, Instruct, Look, Inject, Cross, Deliver}
 use Rattle.cm_blocks.specs.Counts.{deliveries, events_in}

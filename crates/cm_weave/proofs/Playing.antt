@@ -30,7 +30,7 @@ use Rattle.cm_subcube.specs.Parcels.{CanBeOver}
 use Rattle.cm_weave.specs.declared.lane.Lane.{Lane}
 use Rattle.cm_weave.specs.Kinds.{round_kind_number, mover}
 use Rattle.cm_weave.specs.Woven.{Woven, world_seen, AreWoven}
-use Rattle.cm_weave.proofs.Clocks.{kind_is_number}
+use Rattle.cm_weave.proofs.Givers.{kind_is_number}
 use Rattle.cm_weave.proofs.Following.{IsRoundAt, round_at, count-rounds}
 use Rattle.cm_weave.proofs.Weaving.{is_exchange, sound, lane_count, seen-at, able, there, word, can_weave, woven_after}
 use Rattle.cm_weave.proofs.Weaving.{world_is, told}

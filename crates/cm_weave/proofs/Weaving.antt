@@ -52,7 +52,8 @@ use Rattle.cm_weave.specs.Moves.{events_woven}
 use Rattle.cm_weave.specs.Moves.{HasSpaceAfter}
 use Rattle.cm_weave.specs.Woven.{lane_seen, world_seen, IsSomehowReached, HasSpaceIn, StandsThere, blank_of, AreBlank}
 use Rattle.cm_weave.specs.Woven.{AreWoven}
-use Rattle.cm_weave.proofs.Clocks.{clock_after_all, clock_left, due_of_kind, kind_is_number, giver_is_sender}
+use Rattle.cm_subcube.proofs.Clocks.{clock_after_all, clock_left, due_of_kind}
+use Rattle.cm_weave.proofs.Givers.{kind_is_number, giver_is_sender}
 use Rattle.cm_weave.proofs.Following.{IsRoundAt, round_at, count-rounds, exchange_is, blocks_follow}
 use Rattle.cm_weave.proofs.Moving.{clock_stands}
 

@@ -1,8 +1,6 @@
 -- Counters of parts, and what is due in a round.
-use Rattle.std.proofs.Common.{◌≡◌, ℕ, suc, ◌+◌, ◌-◌, Bool, true, false, List, [], ◌∷◌, cond, length}
-use Rattle.std.proofs.Common.{refl, ap, ◌∙◌, arith}
+use Rattle.std.proofs.Common.{◌≡◌, ℕ, ◌+◌, Bool, true, false, List, [], ◌∷◌, cond, length, refl, ◌∙◌, arith}
 use Rattle.std.proofs.lemmas.List.Sums.{sum_by-cons}
-use Rattle.std.proofs.lemmas.Bool.Decides.{nat_tests}
 use Rattle.cm_bits.specs.declared.plane.Dir.{Dir}
 use Rattle.cm_bits.specs.declared.plane.Dir.TheVariants as dir
 use Rattle.cm_model.specs.Steps.{Step, Instruct, Look, Inject, Cross, Deliver}
@@ -13,14 +11,11 @@ use Rattle.cm_model.specs.Buffers.{outgoing}
 use Rattle.cm_model.proofs.Each.{length-tabulate}
 use Rattle.cm_blocks.specs.Counts.{is_delivery, deliveries}
 use Rattle.cm_blocks.specs.Parts.{Part, block_size, chip_in, buffer_in}
-use Rattle.cm_blocks.specs.Parcels.{Parcel, Blank, Edge, due, sender, sender_over, edge_row}
-use Rattle.cm_blocks.specs.Rounds.{is_round, is_vertical}
+use Rattle.cm_blocks.specs.Parcels.{Parcel, Blank, Edge, due, edge_row}
+use Rattle.cm_blocks.specs.Rounds.{is_round}
 use Rattle.cm_blocks.specs.Steps.{part_after, part_after_all, less}
 use Rattle.cm_subcube.specs.Rounds.{kind_of, kind_over}
 use Rattle.cm_subcube.specs.Parcels.{IsOfKind}
-use Rattle.cm_exchange.specs.Lanes.{giver}
-use Rattle.cm_exchange.specs.Lanes as lanes
-use Rattle.cm_weave.specs.Kinds.{round_kind_number}
 
 pub clock_after : (n room : ℕ) (step : Step) (parcel : Parcel) (s : Part)
     → (part_after n room step parcel s).clock ≡ s.clock + deliveries (step ∷ [])
@@ -31,6 +26,7 @@ clock_after n room Inject parcel s = let e : s.clock ≡ s.clock + 0 = omega ari
 clock_after n room (Cross d) parcel s = let e : s.clock ≡ s.clock + 0 = omega arith in e
 clock_after n room Deliver parcel s = refl
 
+-- the deliveries of steps, one step more
 deliveries-cons : (step : Step) (steps : List Step)
     → deliveries (step ∷ steps) ≡ deliveries (step ∷ []) + deliveries steps
 deliveries-cons (Instruct nano) steps = sum_by-cons (λ y. cond (is_delivery y) 1 0) (Instruct nano) steps
@@ -75,31 +71,3 @@ due_of_kind n k room Inject s round count = absurd (let wrong : false ≡ true =
 due_of_kind n k room (Cross d) s round count =
     length-tabulate s.first s.count (λ c. outgoing (way_of s.routing c d) room d (buffer_in s c)) ∙ count
 due_of_kind n k room Deliver s round count = absurd (let wrong : false ≡ true = round in cc)
-
--- the kind of a step by number, and the block from which one gets
-pub kind_is_number : (n k : ℕ) (step : Step) → lanes.kind_number_of n k step ≡ round_kind_number n k (kind_of step)
-kind_is_number n k (Instruct nano) = over nano.dir where
-  over : (to : Dir) → lanes.kind_number_over to ≡ round_kind_number n k (kind_over to)
-  over dir.North = refl
-  over dir.South = refl
-  over dir.East = refl
-  over dir.West = refl
-kind_is_number n k Look = refl
-kind_is_number n k Inject = refl
-kind_is_number n k (Cross d) = refl
-kind_is_number n k Deliver = refl
-
-pub giver_is_sender : (n k : ℕ) (step : Step) (b : ℕ) → is_round n k step ≡ true
-    → giver k (lanes.kind_number_of n k step) b ≡ sender n k step b
-giver_is_sender n k (Instruct nano) b round = over nano.dir (grind (arith, nat_tests)) where
-  over : (to : Dir) → is_vertical to ≡ true → giver k (lanes.kind_number_over to) b ≡ sender_over k to b
-  over dir.North v = refl
-  over dir.South v = refl
-  over dir.East v = absurd (let wrong : false ≡ true = v in cc)
-  over dir.West v = absurd (let wrong : false ≡ true = v in cc)
-giver_is_sender n k Look b round = absurd (let wrong : false ≡ true = round in cc)
-giver_is_sender n k Inject b round = absurd (let wrong : false ≡ true = round in cc)
-giver_is_sender n k (Cross d) b round =
-    ap (λ (z : ℕ). giver k z b)
-    (let two : 2 + (d - (n - k)) ≡ suc (suc (d - (n - k))) = omega arith in two)
-giver_is_sender n k Deliver b round = absurd (let wrong : false ≡ true = round in cc)
