@@ -7,7 +7,7 @@ use Rattle.std.specs.List.{flat_map, range_with_len}
 use Rattle.std.proofs.lemmas.Bool.{le-ltb}
 use Rattle.std.proofs.lemmas.List.{drop-drop, drop_more, get_or-take, get_or-drop, get_or_append_left}
 use Rattle.std.proofs.lemmas.List.FromFn.{get_or-map-range_with_len}
-use Rattle.std.proofs.lemmas.Slice.{take-put_mid}
+use Rattle.std.proofs.lemmas.Slice.{take-put_mid, drop-put_mid}
 use Rattle.std.proofs.lemmas.Simd.{below_from_Fits, Each1-from_get_or, get_or_narrower, get_or_wider, length-chunk}
 use Rattle.std.proofs.lemmas.Simd.{pick_l_whole, put_chunk_whole}
 use Rattle.cm_model.specs.Each.{tabulate}
@@ -63,14 +63,27 @@ eight_turned numbers eight fit =
     ∷ high 7 15 (omega arith) (omega arith) i ∷ low 7 14 (omega arith) (omega arith) i ∷ [])
     ∙ ap (flat_map (number_bytes w16)) (pick_l_whole 0 numbers 8 eight)
 
+-- a part of the list as long as a vector gets the whole vector
+put_whole : (i k : ℕ) (bytes more : List ℕ) → k ≡ 16 → i + 16 ≤ length bytes → length more ≡ 16
+    → put_mid i k bytes (put_chunk 0 (take k (drop i bytes)) more) ≡ put_mid i k bytes more
+put_whole i k bytes more is within sixteen =
+    let room : length (take k (drop i bytes)) ≡ length more =
+    omega (arith, is, within, sixteen, length-take k (drop i bytes), length-drop i bytes) in
+    ap (put_mid i k bytes) (put_chunk_whole (take k (drop i bytes)) more room)
+
 -- bytes that are put behind others
 pub behind : (i k : ℕ) (bytes more : List ℕ) → k ≡ 16 → i + 16 ≤ length bytes → length more ≡ 16
     → take (i + 16) (put_mid i k bytes (put_chunk 0 (take k (drop i bytes)) more)) ≡ take i bytes ++ more
 behind i k bytes more is within sixteen =
-    let room : length (take k (drop i bytes)) ≡ length more =
-    omega (arith, is, within, sixteen, length-take k (drop i bytes), length-drop i bytes) in
-    ap (λ (l : List ℕ). take (i + 16) (put_mid i k bytes l)) (put_chunk_whole (take k (drop i bytes)) more room)
+    ap (take (i + 16)) (put_whole i k bytes more is within sixteen)
     ∙ take-put_mid i k bytes more (i + 16) (omega (arith, sixteen)) (omega (arith, within))
+
+-- what stood behind them stays
+pub rest_stays : (i k : ℕ) (bytes more : List ℕ) → k ≡ 16 → i + 16 ≤ length bytes → length more ≡ 16
+    → drop (i + 16) (put_mid i k bytes (put_chunk 0 (take k (drop i bytes)) more)) ≡ drop (i + 16) bytes
+rest_stays i k bytes more is within sixteen =
+    ap (drop (i + 16)) (put_whole i k bytes more is within sixteen)
+    ∙ drop-put_mid i k bytes more (i + 16) (omega (arith, is)) (omega (arith, within)) (omega (arith, is, sixteen))
 
 -- ---- eight numbers that are read
 

@@ -22,6 +22,7 @@ const HIGH_FIRST: [usize; EIGHT_LEN] = [1, 0, 3, 2, 5, 4, 7, 6, 9, 8, 11, 10, 13
 pub fn put_eight(bytes: &mut [u8], i: usize, numbers: u16x8)
     requires within { i + 16 ≤ length bytes.old }
     ensures value { take (i + 16) bytes.new ≡ take i bytes.old ++ flat_map (number_bytes w16) numbers }
+    ensures rest { drop (i + 16) bytes.new ≡ drop (i + 16) bytes.old }
 {
     let high_first = numbers.to_le_bytes().swizzle(HIGH_FIRST);
     high_first.copy_to_slice(&mut bytes[i..i + EIGHT_LEN]);

@@ -140,6 +140,9 @@ pub fn push_u64(text: &mut Vec<u8>, n: u64) -> Result<(), NoMemory>
 pub fn push_zeros(text: &mut Vec<u8>, count: usize) -> Result<(), NoMemory>
     requires few { count ≤ 1000000 }
     ensures ok { OnOk result (text.new.items ≡ text.old.items ++ replicate count 0) }
+    ensures err { OnErr result (text.new.items ≡ text.old.items) }
+    ensures capacity { vec_capacity text.old ≤ vec_capacity text.new }
+    ensures full { OnErr result (vec_capacity text.old < length text.old.items + count) }
 {
     text.resize(text.len() + count, 0)?;
     Ok(())
