@@ -57,12 +57,13 @@ pub fn fault_name(number: u8) -> &'static str
         // an image of an unknown version
         23 => "Version",
         // an image of a dimension above 12, of room 0 or above 15, or of another dimension or room than is asked
-        // for; a rule that its version has not
+        // for; an image with a rule that no image of this version has
         24 => "Shape",
         // a memory plane that is 0, or whose address is not above the one before; a cut wire that is not above the
         // one before
         25 => "Order",
-        // more planes, messages or cut wires of an image than there can be; in version 2 no cut wire under rule 0
+        // more planes, messages or cut wires of an image than there can be; an image of version 2 that has rule 0
+        // and no cut wire
         26 => "Count",
         // an image's number out of its range
         27 => "Value",
