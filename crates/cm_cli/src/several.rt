@@ -1,10 +1,11 @@
 //! Several workers, who run a session of `cm1 run`.
 
-ghost use Rattle.std.specs.Prelude.{◌≡◌, false, None};
+ghost use Rattle.std.specs.Prelude.{◌≡◌, ◌<◌, false, None};
 ghost use Rattle.std.specs.Thread.{IsSync};
 ghost use Rattle.cm_run.specs.Sharing.{sharing_fault};
 ghost use Rattle.cm_system.specs.Streams.{streams};
 ghost use Rattle.cm_run.specs.SessionRunners.{Goes};
+ghost use Rattle.cm_sizes.specs.Sizes.{sized};
 
 use cm_array::Machine;
 use cm_asm::Program;
@@ -39,20 +40,44 @@ impl<'a, R: Threads + Wait + Sync> SessionRunner for Several<'a, R> {
         commands: &mut I,
         out: &mut O,
     ) -> Result<(), SessionFault> {
-        on_machine!(machine, machine => go_by_workers(alloc, machine, program, self, commands, out))
+        let mut runner = shared_runner(alloc, self);
+        let ended = go_any(&mut runner, alloc, machine, program, commands, out);
+        // By a call, since the borrow checker does not follow parts of parts where one of another crate goes as it
+        // stands.
+        drop(runner);
+        ended
     }
 }
 
-/// The same, on a machine of these sizes.
+/// The same by a runner.
+fn go_any<R: Threads + Wait + Sync, I: Source, O: Sink>(
+    runner: &mut Chooser<'_, R>,
+    alloc: Global,
+    machine: &mut AnyMachine,
+    program: &Program,
+    commands: &mut I,
+    out: &mut O,
+) -> Result<(), SessionFault>
+    requires sync { IsSync R.row }
+    requires reader { I.has_failed commands.old ≡ false }
+    requires writer { O.has_failed out.old ≡ false }
+    ensures goes { Goes (sized machine.old) (sized machine.new) program.now.acts
+        (streams (I.left commands.old) (I.left commands.new) (O.contents out.old) (O.contents out.new)
+        (I.has_failed commands.new) (O.has_failed out.new)) result }
+{
+    on_machine!(machine, machine => go_by_workers(alloc, machine, program, runner, commands, out))
+}
+
+/// The same on a machine of these sizes.
 fn go_by_workers<const N: usize, const CAP: usize, R: Threads + Wait + Sync, I: Source, O: Sink>(
     alloc: Global,
     machine: &mut Machine<N, CAP>,
     program: &Program,
-    several: Several<'_, R>,
+    runner: &mut Chooser<'_, R>,
     commands: &mut I,
     out: &mut O,
 ) -> Result<(), SessionFault>
-    requires shared { sharing_fault N several.sharing ≡ None }
+    requires sync { IsSync R.row }
     requires reader { I.has_failed commands.old ≡ false }
     requires writer { O.has_failed out.old ≡ false }
     ensures goes { Goes (record { n = N; cap = CAP; machine = machine.old.machine })
@@ -60,19 +85,15 @@ fn go_by_workers<const N: usize, const CAP: usize, R: Threads + Wait + Sync, I: 
         (streams (I.left commands.old) (I.left commands.new) (O.contents out.old) (O.contents out.new)
         (I.has_failed commands.new) (O.has_failed out.new)) result }
 {
-    let mut runner = shared_runner::<N, R>(alloc, several);
-    let ended = session(alloc, machine, program, commands, out, &mut runner);
-    // By a call, since the borrow checker does not follow parts of parts where one of another crate goes as it stands.
-    drop(runner);
-    ended
+    session(alloc, machine, program, commands, out, runner)
 }
 
-/// The runner of as many workers as are asked for, on as many blocks of a machine of 2^`N` chips.
-fn shared_runner<'a, const N: usize, R: Threads + Wait + Sync>(
+/// The runner of as many workers as are asked for, at least one, on as many blocks.
+fn shared_runner<'a, R: Threads + Wait + Sync>(
     alloc: Global,
     several: Several<'a, R>,
 ) -> Chooser<'a, R>
-    requires shared { sharing_fault N several.sharing ≡ None }
+    requires some { 0 < several.sharing.workers }
     ensures blocks { result.k ≡ several.entry.sharing.split }
     ensures workers { result.workers ≡ several.entry.sharing.workers }
     ensures passage { result.passage ≡ several.entry.passage }
@@ -82,9 +103,11 @@ fn shared_runner<'a, const N: usize, R: Threads + Wait + Sync>(
         sharing,
         passage,
     } = several;
-    let workers = u16::from(sharing.workers);
-    match Chooser::new::<N>(rt, alloc, sharing.split, workers, passage) {
-        Ok(chooser) => chooser,
-        Err(_) => unreachable!(),
-    }
+    Chooser::of_some(
+        rt,
+        alloc,
+        sharing.split,
+        u16::from(sharing.workers),
+        passage,
+    )
 }

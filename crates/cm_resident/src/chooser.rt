@@ -54,7 +54,19 @@ impl<'a, R> Chooser<'a, R> {
         if let Some(fault) = fault_of::<N>(k, workers) {
             return Err(fault);
         }
-        Ok(Chooser {
+        Ok(Chooser::of_some(rt, alloc, k, workers, passage))
+    }
+
+    /// One of so many blocks and of some workers, for machines of every size. It runs a smaller machine as one of `new`
+    /// does.
+    pub fn of_some(rt: &'a R, alloc: Global, k: u8, workers: u16, passage: Passage) -> Self
+        requires some { 0 < workers }
+        ensures blocks { result.k ≡ k }
+        ensures workers { result.workers ≡ workers }
+        ensures passage { result.passage ≡ passage }
+        ensures lacked { result.threads_lacked ≡ 0 }
+    {
+        Chooser {
             used: Vec::new(alloc),
             k,
             workers,
@@ -62,7 +74,7 @@ impl<'a, R> Chooser<'a, R> {
             passage,
             rt,
             alloc,
-        })
+        }
     }
 }
 
