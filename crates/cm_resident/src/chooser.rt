@@ -57,8 +57,8 @@ impl<'a, R> Chooser<'a, R> {
         Ok(Chooser::of_some(rt, alloc, k, workers, passage))
     }
 
-    /// One of so many blocks and of some workers, for machines of every size. It runs a smaller machine as one of `new`
-    /// does.
+    /// The same without a refusal, for machines of every size: one that cannot be cut into so many blocks is cut into
+    /// as many as it can be.
     pub fn of_some(rt: &'a R, alloc: Global, k: u8, workers: u16, passage: Passage) -> Self
         requires some { 0 < workers }
         ensures blocks { result.k ≡ k }
