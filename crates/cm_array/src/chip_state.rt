@@ -25,7 +25,7 @@ use std::alloc::Global;
 
 /// The state of some chips of a machine, or of all, and the working room of instructions and petit cycles, so that
 /// these take no memory.
-#[derive(Debug, Drop)]
+#[derive(Debug)]
 pub(crate) struct ChipState {
     /// Of which machine the chips are.
     pub(crate) shape: Shape,
@@ -45,6 +45,24 @@ pub(crate) struct ChipState {
     pub(crate) crossing: RouterEngine,
     /// Which wires are cut, and by which rule routers choose: no act changes it.
     pub(crate) routing: Routing,
+}
+
+impl Drop for ChipState {
+    /// By a call: whoever lets machines go does not let each of their parts go by itself.
+    #[inline(never)]
+    fn drop(self) {
+        let ChipState {
+            shape: _,
+            run: _,
+            logs: _,
+            row: _,
+            clock: _,
+            sent: _,
+            incoming: _,
+            crossing: _,
+            routing: _,
+        } = self;
+    }
 }
 
 impl ChipState {

@@ -84,7 +84,8 @@ impl BufferedOutput {
             && self.bytes.extend_from_slice(&self.line).is_ok()
     }
 
-    /// Writes what is gathered.
+    /// Writes what is gathered. It stands apart because it is called of each machine's size.
+    #[inline(never)]
     pub fn send<O: Sink>(&mut self, out: &mut O) -> Result<(), CutOff>
         requires writer { O.has_failed out.old ≡ false }
         requires room { answered_bytes self.old < 2 ^ 128 }
