@@ -1,7 +1,6 @@
 -- What a phrase does in one processor: ours. The grid and the chain are those of Hillis 1985.
 use Rattle.std.specs.Prelude.{ℕ, ◌+◌, ◌-◌, ◌%◌, ◌==◌, ◌&&◌, ◌||◌, Bool, not, nat_le, Option, Some, None, List, ◌++◌, take}
 use Rattle.std.specs.Prelude.{drop, if◌then◌else◌}
-use Rattle.std.specs.Bool.{beq}
 use Rattle.cm_bits.specs.Bit.{bit_number, differ}
 use Rattle.cm_bits.specs.Span.{Span}
 use Rattle.cm_model.specs.Place.{source, predecessor}
