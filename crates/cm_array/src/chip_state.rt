@@ -48,7 +48,7 @@ pub(crate) struct ChipState {
 }
 
 impl Drop for ChipState {
-    /// By a call: whoever lets machines go does not let each of their parts go by itself.
+    /// Frees all that a machine owns. A derived `drop` would be compiled and proved anew wherever a machine is freed.
     #[inline(never)]
     fn drop(self) {
         let ChipState {

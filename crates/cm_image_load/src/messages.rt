@@ -22,8 +22,8 @@ fn take_processor(bytes: &[u8]) -> Result<(u8, &[u8]), ImageFault>
     Ok((proc, rest))
 }
 
-/// A message of a cube of so many chips, born before this count of petit cycles. It stands apart, since it is called at
-/// each size of machine.
+/// A message of a cube of so many chips, born before this count of petit cycles. It is not inlined, since the code that
+/// calls it is compiled for each size of machine.
 #[inline(never)]
 fn take_message(
     n: usize,
