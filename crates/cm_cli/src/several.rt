@@ -5,7 +5,7 @@ ghost use Rattle.std.specs.Thread.{IsSync};
 ghost use Rattle.cm_run.specs.Sharing.{sharing_fault};
 ghost use Rattle.cm_system.specs.Streams.{streams};
 ghost use Rattle.cm_run.specs.SessionRunners.{Goes};
-ghost use Rattle.cm_sizes.specs.Sizes.{sized};
+ghost use Rattle.cm_sizes.specs.Sizes.{sized, sized_of_room};
 
 use cm_array::Machine;
 use cm_asm::Program;
@@ -14,7 +14,7 @@ use cm_debug::{SessionFault, session};
 use cm_gates::Passage;
 use cm_resident::Chooser;
 use cm_run::{SessionRunner, Sharing};
-use cm_sizes::{AnyMachine, on_machine};
+use cm_sizes::{AnyDims, AnyMachine, on_dims, on_room};
 use std::alloc::Global;
 use std::sync::Wait;
 use std::thread::Threads;
@@ -65,7 +65,26 @@ fn go_any<R: Threads + Wait + Sync, I: Source, O: Sink>(
         (streams (I.left commands.old) (I.left commands.new) (O.contents out.old) (O.contents out.new)
         (I.has_failed commands.new) (O.has_failed out.new)) result }
 {
-    on_machine!(machine, machine => go_by_workers(alloc, machine, program, runner, commands, out))
+    on_room!(machine, machine => go_of_room(runner, alloc, machine, program, commands, out))
+}
+
+/// The same on a machine of this room.
+fn go_of_room<const CAP: usize, R: Threads + Wait + Sync, I: Source, O: Sink>(
+    runner: &mut Chooser<'_, R>,
+    alloc: Global,
+    machine: &mut AnyDims<CAP>,
+    program: &Program,
+    commands: &mut I,
+    out: &mut O,
+) -> Result<(), SessionFault>
+    requires sync { IsSync R.row }
+    requires reader { I.has_failed commands.old ≡ false }
+    requires writer { O.has_failed out.old ≡ false }
+    ensures goes { Goes (sized_of_room machine.old) (sized_of_room machine.new) program.now.acts
+        (streams (I.left commands.old) (I.left commands.new) (O.contents out.old) (O.contents out.new)
+        (I.has_failed commands.new) (O.has_failed out.new)) result }
+{
+    on_dims!(machine, machine => go_by_workers(alloc, machine, program, runner, commands, out))
 }
 
 /// The same on a machine of these sizes.

@@ -3,7 +3,7 @@ use Rattle.std.proofs.Common.{◌≡◌, ◌⊎◌, ℕ, List, ◌++◌, Result,
 use Rattle.std.proofs.Common.{inl, inr, append-nil}
 use Rattle.std.specs.Prelude.{IfOk, IfErr, OnOk, option_map, string_bytes}
 use Rattle.cm_sizes.specs.declared.any_machine.AnyMachine.{AnyMachine}
-use Rattle.cm_sizes.specs.Sizes.{SizedMachine, sized}
+use Rattle.cm_sizes.specs.Sizes.{sized}
 use Rattle.cm_system.specs.declared.input_files.Taken.{Taken}
 use Rattle.cm_system.specs.declared.program_fault.ProgramFault.{ProgramFault}
 use Rattle.cm_system.specs.Trace.{IoEvent, HasTrace}

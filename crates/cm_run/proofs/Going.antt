@@ -5,7 +5,7 @@ use Rattle.cm_model.specs.declared.act.Act.{Act}
 use Rattle.cm_session.specs.declared.fault.SessionFault.{SessionFault}
 use Rattle.cm_session.specs.declared.fault.SessionFault.TheVariants as session
 use Rattle.cm_system.specs.declared.program_fault.ProgramFault.{ProgramFault}
-use Rattle.cm_system.specs.declared.program_fault.ProgramFault.TheVariants.{Memory, NoThread}
+use Rattle.cm_system.specs.declared.program_fault.ProgramFault.TheVariants.{NoThread}
 use Rattle.cm_system.specs.ProgramFault.{of_session}
 use Rattle.cm_sizes.specs.Sizes.{SizedMachine}
 use Rattle.cm_system.specs.OutputFiles.{KeepsImage}

@@ -1,7 +1,7 @@
 //! `cm1 run`: a session over files.
 
 ghost use Rattle.std.specs.Prelude.{◌≡◌, ◌≤◌, false, None, IfOk, IfErr, IsErrOf, OnOk, option_map, string_bytes};
-ghost use Rattle.cm_sizes.specs.Sizes.{SizedMachine, sized};
+ghost use Rattle.cm_sizes.specs.Sizes.{SizedMachine, sized, sized_of_room};
 ghost use Rattle.cm_run.specs.Sharing.{sharing_fault};
 ghost use Rattle.cm_system.specs.Trace.{HasTrace};
 ghost use Rattle.cm_system.specs.InputFiles.{reads_by};
@@ -14,7 +14,7 @@ use crate::session_runner::SessionRunner;
 use crate::sharing::Sharing;
 use cm_asm::Program;
 use cm_bits::{Sink, Source};
-use cm_sizes::{AnyMachine, on_machine};
+use cm_sizes::{AnyDims, AnyMachine, on_dims, on_room};
 use cm_system::{ProgramFault, System, Taken, abort_files, finish_files, make_ready, take_both};
 use std::alloc::Global;
 
@@ -136,7 +136,7 @@ fn run_any<S: SessionRunner, H: System, I: Source, O: Sink>(
         answers,
     );
     // Taken apart, since the borrow checker counts each variant where one of another crate is dropped as it stands.
-    on_machine!(machine, machine => drop(machine));
+    on_room!(machine, machine => drop(machine));
     ended
 }
 
@@ -177,5 +177,20 @@ fn close_any<H: System, O: Sink>(
         (FinishesWithImage (sized machine.now).n (sized machine.now).cap
         (sized machine.now).machine part (O.contents out.now) result) }
 {
-    on_machine!(machine, machine => finish_files(alloc, system, part, out, machine))
+    on_room!(machine, machine => close_of_room(alloc, system, part, out, machine))
+}
+
+/// The same where it has left a machine of this room.
+fn close_of_room<const CAP: usize, H: System, O: Sink>(
+    alloc: Global,
+    system: &mut H,
+    part: Option<H::Pending>,
+    out: &O,
+    machine: &AnyDims<CAP>,
+) -> Result<(), ProgramFault>
+    ensures value { HasTrace H.does system.old system.new
+        (FinishesWithImage (sized_of_room machine.now).n (sized_of_room machine.now).cap
+        (sized_of_room machine.now).machine part (O.contents out.now) result) }
+{
+    on_dims!(machine, machine => finish_files(alloc, system, part, out, machine))
 }

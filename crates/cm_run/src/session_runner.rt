@@ -1,7 +1,7 @@
 //! Who runs a session: one worker of `cm1 run`, or whoever the caller has.
 
 ghost use Rattle.std.specs.Prelude.{◌≡◌, false, IsErrOf};
-ghost use Rattle.cm_sizes.specs.Sizes.{SizedMachine, sized};
+ghost use Rattle.cm_sizes.specs.Sizes.{SizedMachine, sized, sized_of_room};
 ghost use Rattle.cm_system.specs.Streams.{streams};
 ghost use Rattle.cm_run.specs.SessionRunners.{Goes};
 
@@ -9,7 +9,7 @@ use cm_array::{Machine, Plain};
 use cm_asm::Program;
 use cm_bits::{Sink, Source};
 use cm_debug::{SessionFault, session};
-use cm_sizes::{AnyMachine, on_machine};
+use cm_sizes::{AnyDims, AnyMachine, on_dims, on_room};
 use std::alloc::Global;
 
 /// Who runs a session on a machine of any size.
@@ -55,8 +55,26 @@ impl SessionRunner for Alone {
         commands: &mut I,
         out: &mut O,
     ) -> Result<(), SessionFault> {
-        on_machine!(machine, machine => go_alone(alloc, machine, program, commands, out))
+        on_room!(machine, machine => go_of_room(alloc, machine, program, commands, out))
     }
+}
+
+/// The same, on a machine of this room.
+fn go_of_room<const CAP: usize, I: Source, O: Sink>(
+    alloc: Global,
+    machine: &mut AnyDims<CAP>,
+    program: &Program,
+    commands: &mut I,
+    out: &mut O,
+) -> Result<(), SessionFault>
+    requires reader { I.has_failed commands.old ≡ false }
+    requires writer { O.has_failed out.old ≡ false }
+    ensures goes { Goes (sized_of_room machine.old) (sized_of_room machine.new) program.now.acts
+        (streams (I.left commands.old) (I.left commands.new) (O.contents out.old) (O.contents out.new)
+        (I.has_failed commands.new) (O.has_failed out.new)) result }
+    ensures no_threads { IsErrOf result SessionFault.NoThread → ⊥ }
+{
+    on_dims!(machine, machine => go_alone(alloc, machine, program, commands, out))
 }
 
 /// The same, on a machine of these sizes.

@@ -2,14 +2,10 @@
 use Rattle.std.specs.Prelude.{ℕ, ◌==◌, ◌||◌, Bool}
 use Rattle.cm_model.specs.Machine.{Machine}
 use Rattle.cm_sizes.specs.declared.any_machine.AnyMachine.{AnyMachine}
-use Rattle.cm_sizes.specs.declared.any_machine.AnyMachine.TheVariants.{Dim0Room1, Dim1Room1, Dim2Room1, Dim3Room1}
-use Rattle.cm_sizes.specs.declared.any_machine.AnyMachine.TheVariants.{Dim4Room1, Dim5Room1, Dim6Room1, Dim7Room1}
-use Rattle.cm_sizes.specs.declared.any_machine.AnyMachine.TheVariants.{Dim8Room1, Dim9Room1, Dim10Room1, Dim11Room1}
-use Rattle.cm_sizes.specs.declared.any_machine.AnyMachine.TheVariants.{Dim12Room1}
-use Rattle.cm_sizes.specs.declared.any_machine.AnyMachine.TheVariants.{Dim0Room7, Dim1Room7, Dim2Room7, Dim3Room7}
-use Rattle.cm_sizes.specs.declared.any_machine.AnyMachine.TheVariants.{Dim4Room7, Dim5Room7, Dim6Room7, Dim7Room7}
-use Rattle.cm_sizes.specs.declared.any_machine.AnyMachine.TheVariants.{Dim8Room7, Dim9Room7, Dim10Room7, Dim11Room7}
-use Rattle.cm_sizes.specs.declared.any_machine.AnyMachine.TheVariants.{Dim12Room7}
+use Rattle.cm_sizes.specs.declared.any_machine.AnyMachine.TheVariants.{Room1, Room7}
+use Rattle.cm_sizes.specs.declared.any_machine.AnyDims.{AnyDims}
+use Rattle.cm_sizes.specs.declared.any_machine.AnyDims.TheVariants.{Dim0, Dim1, Dim2, Dim3, Dim4, Dim5, Dim6, Dim7, Dim8}
+use Rattle.cm_sizes.specs.declared.any_machine.AnyDims.TheVariants.{Dim9, Dim10, Dim11, Dim12}
 
 -- a machine and its sizes: its dimension, and the room of its routers
 pub record SizedMachine : Type 0 where
@@ -21,31 +17,23 @@ pub record SizedMachine : Type 0 where
 abbrev pub is_own_room : ℕ → Bool
 is_own_room cap = cap == 1 || cap == 7
 
+-- a machine of one of the programs' own dimensions, whose routers have this room, with its sizes
+abbrev pub sized_of_room : {room : ℕ} → AnyDims room → SizedMachine
+sized_of_room {room} (Dim0 kept) = record { n = 0; cap = room; machine = kept.machine }
+sized_of_room {room} (Dim1 kept) = record { n = 1; cap = room; machine = kept.machine }
+sized_of_room {room} (Dim2 kept) = record { n = 2; cap = room; machine = kept.machine }
+sized_of_room {room} (Dim3 kept) = record { n = 3; cap = room; machine = kept.machine }
+sized_of_room {room} (Dim4 kept) = record { n = 4; cap = room; machine = kept.machine }
+sized_of_room {room} (Dim5 kept) = record { n = 5; cap = room; machine = kept.machine }
+sized_of_room {room} (Dim6 kept) = record { n = 6; cap = room; machine = kept.machine }
+sized_of_room {room} (Dim7 kept) = record { n = 7; cap = room; machine = kept.machine }
+sized_of_room {room} (Dim8 kept) = record { n = 8; cap = room; machine = kept.machine }
+sized_of_room {room} (Dim9 kept) = record { n = 9; cap = room; machine = kept.machine }
+sized_of_room {room} (Dim10 kept) = record { n = 10; cap = room; machine = kept.machine }
+sized_of_room {room} (Dim11 kept) = record { n = 11; cap = room; machine = kept.machine }
+sized_of_room {room} (Dim12 kept) = record { n = 12; cap = room; machine = kept.machine }
+
 -- a machine of the programs' own, with its sizes
 abbrev pub sized : AnyMachine → SizedMachine
-sized (Dim0Room1 kept) = record { n = 0; cap = 1; machine = kept.machine }
-sized (Dim1Room1 kept) = record { n = 1; cap = 1; machine = kept.machine }
-sized (Dim2Room1 kept) = record { n = 2; cap = 1; machine = kept.machine }
-sized (Dim3Room1 kept) = record { n = 3; cap = 1; machine = kept.machine }
-sized (Dim4Room1 kept) = record { n = 4; cap = 1; machine = kept.machine }
-sized (Dim5Room1 kept) = record { n = 5; cap = 1; machine = kept.machine }
-sized (Dim6Room1 kept) = record { n = 6; cap = 1; machine = kept.machine }
-sized (Dim7Room1 kept) = record { n = 7; cap = 1; machine = kept.machine }
-sized (Dim8Room1 kept) = record { n = 8; cap = 1; machine = kept.machine }
-sized (Dim9Room1 kept) = record { n = 9; cap = 1; machine = kept.machine }
-sized (Dim10Room1 kept) = record { n = 10; cap = 1; machine = kept.machine }
-sized (Dim11Room1 kept) = record { n = 11; cap = 1; machine = kept.machine }
-sized (Dim12Room1 kept) = record { n = 12; cap = 1; machine = kept.machine }
-sized (Dim0Room7 kept) = record { n = 0; cap = 7; machine = kept.machine }
-sized (Dim1Room7 kept) = record { n = 1; cap = 7; machine = kept.machine }
-sized (Dim2Room7 kept) = record { n = 2; cap = 7; machine = kept.machine }
-sized (Dim3Room7 kept) = record { n = 3; cap = 7; machine = kept.machine }
-sized (Dim4Room7 kept) = record { n = 4; cap = 7; machine = kept.machine }
-sized (Dim5Room7 kept) = record { n = 5; cap = 7; machine = kept.machine }
-sized (Dim6Room7 kept) = record { n = 6; cap = 7; machine = kept.machine }
-sized (Dim7Room7 kept) = record { n = 7; cap = 7; machine = kept.machine }
-sized (Dim8Room7 kept) = record { n = 8; cap = 7; machine = kept.machine }
-sized (Dim9Room7 kept) = record { n = 9; cap = 7; machine = kept.machine }
-sized (Dim10Room7 kept) = record { n = 10; cap = 7; machine = kept.machine }
-sized (Dim11Room7 kept) = record { n = 11; cap = 7; machine = kept.machine }
-sized (Dim12Room7 kept) = record { n = 12; cap = 7; machine = kept.machine }
+sized (Room1 any) = sized_of_room any
+sized (Room7 any) = sized_of_room any

@@ -5,6 +5,6 @@ mod any_machine;
 mod laws;
 mod opening;
 
-pub use any_machine::AnyMachine;
+pub use any_machine::{AnyDims, AnyMachine};
 pub use laws::images_are_short_enough;
 pub use opening::{IMAGE_LIMIT, OpenFault, OpenSourceFault, open_image, open_image_source};

@@ -3,11 +3,11 @@
 ghost use Rattle.std.specs.Prelude.{◌≡◌, ◌↔◌, ◌≤◌, ◌++◌, true, false, Ok, Err, IfOk, IfErr, IsErrOf, length};
 ghost use Rattle.cm_image_format.specs.Whole.{read_shape};
 ghost use Rattle.cm_image_load.specs.Pieces.{GivesRest};
-ghost use Rattle.cm_sizes.specs.Sizes.{sized, is_own_room};
+ghost use Rattle.cm_sizes.specs.Sizes.{sized, sized_of_room, is_own_room};
 ghost use Rattle.cm_sizes.specs.Opening.{image_opened, IsUnopened};
 ghost use Rattle.cm_sizes.specs.ImageSources.{IsRefusedAs, IsUnopenedSource, opened_of_source};
 
-use crate::any_machine::AnyMachine;
+use crate::any_machine::{AnyDims, AnyMachine};
 use cm_array::Machine;
 use cm_bits::Source;
 use cm_image_load::{
@@ -51,51 +51,12 @@ impl From<OpenFault> for OpenSourceFault {
     }
 }
 
-// What is made at a size, as a machine of any.
+// What is made at a size, as a machine of several sizes.
 macro_rules! made {
-    ($size:ident, $make:expr) => {
+    ($any:ident::$size:ident, $make:expr) => {
         match $make {
-            Ok(machine) => Ok(AnyMachine::$size(machine)),
+            Ok(machine) => Ok($any::$size(machine)),
             Err(fault) => Err(fault),
-        }
-    };
-}
-
-// What is made at the size that is told, as a machine of any; what else is where the programs have none of its room.
-macro_rules! at_size {
-    ($n:expr, $cap:expr, $make:expr, $other:expr) => {
-        match $cap {
-            1 => match $n {
-                0 => made!(Dim0Room1, $make),
-                1 => made!(Dim1Room1, $make),
-                2 => made!(Dim2Room1, $make),
-                3 => made!(Dim3Room1, $make),
-                4 => made!(Dim4Room1, $make),
-                5 => made!(Dim5Room1, $make),
-                6 => made!(Dim6Room1, $make),
-                7 => made!(Dim7Room1, $make),
-                8 => made!(Dim8Room1, $make),
-                9 => made!(Dim9Room1, $make),
-                10 => made!(Dim10Room1, $make),
-                11 => made!(Dim11Room1, $make),
-                _ => made!(Dim12Room1, $make),
-            },
-            7 => match $n {
-                0 => made!(Dim0Room7, $make),
-                1 => made!(Dim1Room7, $make),
-                2 => made!(Dim2Room7, $make),
-                3 => made!(Dim3Room7, $make),
-                4 => made!(Dim4Room7, $make),
-                5 => made!(Dim5Room7, $make),
-                6 => made!(Dim6Room7, $make),
-                7 => made!(Dim7Room7, $make),
-                8 => made!(Dim8Room7, $make),
-                9 => made!(Dim9Room7, $make),
-                10 => made!(Dim10Room7, $make),
-                11 => made!(Dim11Room7, $make),
-                _ => made!(Dim12Room7, $make),
-            },
-            _ => $other,
         }
     };
 }
@@ -111,10 +72,43 @@ pub fn open_image(alloc: Global, image: &[u8]) -> Result<AnyMachine, OpenFault>
         Ok(sizes) => sizes,
         Err(fault) => return Err(OpenFault::Image(fault)),
     };
-    at_size!(n, cap, machine_of(alloc, image), Err(OpenFault::Room))
+    match cap {
+        1 => made!(AnyMachine::Room1, open_of_room(alloc, n, image)),
+        7 => made!(AnyMachine::Room7, open_of_room(alloc, n, image)),
+        _ => Err(OpenFault::Room),
+    }
 }
 
-/// The machine of an image, at its sizes.
+/// The same at a room that the programs have machines of, and at this dimension.
+fn open_of_room<const CAP: usize>(
+    alloc: Global,
+    n: u8,
+    image: &[u8],
+) -> Result<AnyDims<CAP>, OpenFault>
+    requires shape { read_shape image.now ≡ Ok (n, CAP) }
+    requires own { is_own_room CAP ≡ true }
+    requires dimension { n ≤ 12 }
+    ensures value { IfOk result (λ machine. image_opened image.now ≡ Ok (sized_of_room machine)) }
+    ensures refused { IfErr result (IsUnopened image.now) }
+{
+    match n {
+        0 => made!(AnyDims::Dim0, machine_of(alloc, image)),
+        1 => made!(AnyDims::Dim1, machine_of(alloc, image)),
+        2 => made!(AnyDims::Dim2, machine_of(alloc, image)),
+        3 => made!(AnyDims::Dim3, machine_of(alloc, image)),
+        4 => made!(AnyDims::Dim4, machine_of(alloc, image)),
+        5 => made!(AnyDims::Dim5, machine_of(alloc, image)),
+        6 => made!(AnyDims::Dim6, machine_of(alloc, image)),
+        7 => made!(AnyDims::Dim7, machine_of(alloc, image)),
+        8 => made!(AnyDims::Dim8, machine_of(alloc, image)),
+        9 => made!(AnyDims::Dim9, machine_of(alloc, image)),
+        10 => made!(AnyDims::Dim10, machine_of(alloc, image)),
+        11 => made!(AnyDims::Dim11, machine_of(alloc, image)),
+        _ => made!(AnyDims::Dim12, machine_of(alloc, image)),
+    }
+}
+
+/// The same at these sizes.
 fn machine_of<const N: usize, const CAP: usize>(
     alloc: Global,
     image: &[u8],
@@ -168,13 +162,41 @@ fn open_behind<I: Source>(
         ↔ IsErrOf result (OpenSourceFault.Source SourceFault.Read) }
 {
     match shape(front) {
-        Ok((10, 1)) => made!(Dim10Room1, machine_behind(alloc, front, source, most)),
-        Ok((11, 1)) => made!(Dim11Room1, machine_behind(alloc, front, source, most)),
-        Ok((12, 1)) => made!(Dim12Room1, machine_behind(alloc, front, source, most)),
-        Ok((10, 7)) => made!(Dim10Room7, machine_behind(alloc, front, source, most)),
-        Ok((11, 7)) => made!(Dim11Room7, machine_behind(alloc, front, source, most)),
-        Ok((12, 7)) => made!(Dim12Room7, machine_behind(alloc, front, source, most)),
+        Ok((n, 1)) if n >= 10 => {
+            made!(AnyMachine::Room1, open_large(alloc, n, front, source, most))
+        }
+        Ok((n, 7)) if n >= 10 => {
+            made!(AnyMachine::Room7, open_large(alloc, n, front, source, most))
+        }
         _ => open_held(alloc, front, source, most),
+    }
+}
+
+/// The same while its bytes come, at a room that the programs have machines of, and at this dimension.
+fn open_large<const CAP: usize, I: Source>(
+    alloc: Global,
+    n: u8,
+    front: &[u8],
+    source: &mut I,
+    most: u64,
+) -> Result<AnyDims<CAP>, OpenSourceFault>
+    requires shape { read_shape front.now ≡ Ok (n, CAP) }
+    requires own { is_own_room CAP ≡ true }
+    requires large { 10 ≤ n }
+    requires dimension { n ≤ 12 }
+    requires few { length front.now ≤ 65536 }
+    requires working { I.has_failed source.old ≡ false }
+    ensures value { IfOk result (λ machine. GivesRest most (I.left source.old) (I.left source.new)
+        (λ more. image_opened (front.now ++ more) ≡ Ok (sized_of_room machine))) }
+    ensures refused { IfErr result (IsRefusedAs (λ own more. image_opened (front.now ++ more) ≡ Err own)
+        most (I.left source.old) (I.left source.new)) }
+    ensures read { (I.has_failed source.new ≡ true)
+        ↔ IsErrOf result (OpenSourceFault.Source SourceFault.Read) }
+{
+    match n {
+        10 => made!(AnyDims::Dim10, machine_behind(alloc, front, source, most)),
+        11 => made!(AnyDims::Dim11, machine_behind(alloc, front, source, most)),
+        _ => made!(AnyDims::Dim12, machine_behind(alloc, front, source, most)),
     }
 }
 
@@ -209,7 +231,7 @@ fn of_source<M: Drop>(opened: Result<M, OpenFault>) -> Result<M, OpenSourceFault
     }
 }
 
-/// The same of a machine of these sizes, while its bytes come.
+/// The same while its bytes come, at these sizes.
 fn machine_behind<const N: usize, const CAP: usize, I: Source>(
     alloc: Global,
     front: &[u8],

@@ -4,7 +4,7 @@ ghost use Rattle.std.specs.Prelude.{◌≡◌, false, IfOk, IfErr, IfSome, optio
 ghost use Rattle.cm_model.specs.Machine.{run_of};
 ghost use Rattle.cm_weave_text.specs.Ends.{is_weave_write};
 ghost use Rattle.cm_weave_text.specs.Hearing.{exchange_in};
-ghost use Rattle.cm_sizes.specs.Sizes.{sized};
+ghost use Rattle.cm_sizes.specs.Sizes.{sized, sized_of_room};
 ghost use Rattle.cm_system.specs.Trace.{HasTrace};
 ghost use Rattle.cm_system.specs.InputFiles.{reads_by};
 ghost use Rattle.cm_tools.specs.Weaving.{EndsExchange, ended_of, outgoing_of};
@@ -14,7 +14,7 @@ ghost use Rattle.cm_tools.specs.Weaves.{WeavesWorld};
 use cm_array::Machine;
 use cm_asm::Program;
 use cm_bits::{Failed, Sink, Source};
-use cm_sizes::{AnyMachine, on_machine};
+use cm_sizes::{AnyDims, AnyMachine, on_dims, on_room};
 use cm_system::{ProgramFault, System, Taken, abort_files, finish_files, make_ready, take_both};
 use cm_weave::World;
 use cm_weave_text::{WeaveFault, give_up, weave_self, weave_session};
@@ -73,7 +73,24 @@ fn weave_any<H: System, O: Sink>(
         (sized machine) program.now.acts
         (outgoing_of (O.contents answers.old) (O.contents answers.new) (O.has_failed answers.new)) result) }
 {
-    on_machine!(machine, machine => weave_machine(alloc, system, line, machine, program, answers))
+    on_room!(machine, machine => weave_of_room(alloc, system, line, machine, program, answers))
+}
+
+/// The same, on a machine of this room.
+fn weave_of_room<const CAP: usize, H: System, O: Sink>(
+    alloc: Global,
+    system: &mut H,
+    line: &WeaveLine,
+    machine: AnyDims<CAP>,
+    program: &Program,
+    answers: &mut O,
+) -> Result<(), ProgramFault>
+    requires writer { O.has_failed answers.old ≡ false }
+    ensures does { HasTrace H.does system.old system.new (WeavesAt (reads_by H.File.left H.File.has_failed) line.now
+        (sized_of_room machine.entry) program.now.acts
+        (outgoing_of (O.contents answers.old) (O.contents answers.new) (O.has_failed answers.new)) result) }
+{
+    on_dims!(machine, machine => weave_machine(alloc, system, line, machine, program, answers))
 }
 
 /// The same, on a machine of these sizes.

@@ -6,7 +6,7 @@ ghost use Rattle.lab_figures.specs.Looks.{look_bytes};
 ghost use Rattle.lab_figures.specs.PictureReading.{picture_in};
 ghost use Rattle.lab_data.specs.Data.{processors};
 ghost use Rattle.lab_data.specs.declared.lab.Task.TheVariants as task;
-ghost use Rattle.cm_sizes.specs.Sizes.{sized};
+ghost use Rattle.cm_sizes.specs.Sizes.{sized, sized_of_room};
 ghost use Rattle.lab_data.specs.Lab.{at_room, study_made, route_made, work_of, work_on, lab_refusal, done_with};
 ghost use Rattle.lab_data.specs.Lab.{IsNoPicture};
 
@@ -20,7 +20,7 @@ use cm_image_dump::dump;
 use cm_image_format::ImageFault;
 use cm_language::{AsmFault, AsmKind};
 use cm_model::Tag;
-use cm_sizes::{AnyMachine, OpenFault, on_machine, open_image};
+use cm_sizes::{AnyDims, AnyMachine, OpenFault, on_dims, on_room, open_image};
 use lab_figures::{
     Look, NumbersFault, Picture, PictureFault, read_numbers, read_picture, write_look,
     write_numbers,
@@ -128,7 +128,22 @@ fn work_on<W: Watch>(
     ensures refused { IfErr result (λ fault. fault ≢ LabFault.Memory
         → work_on task given.now (sized machine) ≡ Err fault) }
 {
-    on_machine!(machine, machine => work_sized(alloc, machine, task, given, watch))
+    on_room!(machine, machine => work_of_room(alloc, machine, task, given, watch))
+}
+
+/// The same, on a machine of this room.
+fn work_of_room<const CAP: usize, W: Watch>(
+    alloc: Global,
+    machine: AnyDims<CAP>,
+    task: Task,
+    given: &[u8],
+    watch: &mut W,
+) -> Result<Vec<u8>, LabFault>
+    ensures value { IfOk result (λ text. work_on task given.now (sized_of_room machine.entry) ≡ Ok text.items) }
+    ensures refused { IfErr result (λ fault. fault ≢ LabFault.Memory
+        → work_on task given.now (sized_of_room machine.entry) ≡ Err fault) }
+{
+    on_dims!(machine, machine => work_sized(alloc, machine, task, given, watch))
 }
 
 /// The same, on a machine of these sizes.

@@ -1,7 +1,7 @@
 //! A front end over the machine of an image.
 
 ghost use Rattle.std.specs.Prelude.{◌≡◌, ◌↔◌, true, false, IfErr, IfOk, IsErrOf};
-ghost use Rattle.cm_sizes.specs.Sizes.{sized};
+ghost use Rattle.cm_sizes.specs.Sizes.{sized, sized_of_room};
 ghost use Rattle.lab_front.specs.Images.{EndsImage, FailsImage, HasEnded, HasFailed, is_front_write};
 
 use crate::talk::front;
@@ -10,7 +10,7 @@ use cm_bits::{Sink, Source};
 use cm_image_dump::dump;
 use cm_image_format::ImageFault;
 use cm_session::SessionFault;
-use cm_sizes::{AnyMachine, OpenFault, on_machine, open_image};
+use cm_sizes::{AnyDims, AnyMachine, OpenFault, on_dims, on_room, open_image};
 use std::alloc::Global;
 use thiserror::Error;
 
@@ -85,7 +85,27 @@ fn front_any<I: Source, O: Sink>(
     ensures write { O.has_failed out.new ≡ is_front_write result }
     ensures no_thread { ¬ IsErrOf result (FrontFault.Ended SessionFault.NoThread) }
 {
-    on_machine!(machine, machine => front_sized(alloc, machine, commands, out))
+    on_room!(machine, machine => front_of_room(alloc, machine, commands, out))
+}
+
+/// The same, with a machine of this room.
+fn front_of_room<const CAP: usize, I: Source, O: Sink>(
+    alloc: Global,
+    machine: AnyDims<CAP>,
+    commands: &mut I,
+    out: &mut O,
+) -> Result<Vec<u8>, FrontFault>
+    requires reader { I.has_failed commands.old ≡ false }
+    requires writer { O.has_failed out.old ≡ false }
+    ensures ok { IfOk result (λ text. HasEnded (sized_of_room machine.entry) (I.left commands.old) (I.left commands.new)
+        (O.contents out.old) (O.contents out.new) text.items) }
+    ensures err { IfErr result (HasFailed (sized_of_room machine.entry) (I.left commands.old) (I.left commands.new)
+        (O.contents out.old) (O.contents out.new)) }
+    ensures read { (I.has_failed commands.new ≡ true) ↔ IsErrOf result (FrontFault.Ended SessionFault.Read) }
+    ensures write { O.has_failed out.new ≡ is_front_write result }
+    ensures no_thread { ¬ IsErrOf result (FrontFault.Ended SessionFault.NoThread) }
+{
+    on_dims!(machine, machine => front_sized(alloc, machine, commands, out))
 }
 
 /// The same, on a machine of these sizes.

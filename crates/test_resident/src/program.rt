@@ -12,7 +12,7 @@ use cm_cli::Several;
 use cm_image_dump::dump;
 use cm_model::Rule;
 use cm_run::{Alone, SessionRunner, Sharing};
-use cm_sizes::{AnyMachine, on_machine, open_image};
+use cm_sizes::{AnyMachine, on_room, open_image};
 use cm_tools::fresh;
 use cm_workers::Passage;
 use std::alloc::Global;
@@ -122,7 +122,7 @@ impl Image {
 
 /// Lets a machine go, in a function of its own: its proof goes through each size.
 fn let_go(machine: AnyMachine) {
-    on_machine!(machine, machine => drop(machine));
+    on_room!(machine, machine => drop(machine));
 }
 
 /// The image of what a session by this runner leaves of a machine.

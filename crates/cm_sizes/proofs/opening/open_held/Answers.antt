@@ -1,4 +1,4 @@
-use Rattle.std.proofs.Common.{◌≡◌, ◌++◌, ◌∙◌, IfOk, IfErr, IsErrOf, Result, List, ℕ, Ok, Err, sym, subst}
+use Rattle.std.proofs.Common.{◌≡◌, ◌++◌, ◌∙◌, IfOk, IfErr, IsErrOf, Result, Ok, Err, sym, subst}
 use Rattle.cm_image_load.specs.Pieces.{GivesRest}
 use Rattle.cm_image_load.specs.declared.pieces.SourceFault.TheVariants as source
 use Rattle.cm_sizes.specs.declared.any_machine.AnyMachine.{AnyMachine}
