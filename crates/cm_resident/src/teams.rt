@@ -123,8 +123,6 @@ fn copied<T: Copy + Drop>(alloc: Global, things: &[T]) -> Result<Vec<T>, NoMemor
     ensures value { IfOk result (λ copy. copy.items ≡ things.now) }
 {
     let mut copy = Vec::with_capacity(alloc, things.len())?;
-    for i in 0..things.len() {
-        copy.push_reserved(things[i]);
-    }
+    copy.extend_from_slice(things)?;
     Ok(copy)
 }
