@@ -1,6 +1,6 @@
 -- How many events more each log takes, and how many petit cycles are among acts.
 use Rattle.std.proofs.Common.{◌≡◌, ◌≢◌, ℕ, ◌+◌, ◌*◌, ◌<◌, ◌≤◌, Result, Ok, Err, IfOk, OnErr, OnOk, List, [], ◌∷◌, ◌++◌, length}
-use Rattle.std.proofs.Common.{get_or, set, take, cond, ◌-◌, ◌/◌, sym, ◌∙◌, ap, arith}
+use Rattle.std.proofs.Common.{get_or, set, take, cond, ◌/◌, sym, ◌∙◌, ap, arith}
 use Rattle.std.proofs.Common.{mul_comm, mul_assoc}
 use Rattle.std.proofs.Common.{below_more}
 use Rattle.std.proofs.lemmas.List.{length-map, get_or-map, length-replicate, get_or-replicate, take_more}

@@ -3,12 +3,11 @@ use Rattle.std.specs.Prelude.{◌≡◌, ℕ, ◌<◌, ◌^◌, length}
 use Rattle.std.specs.List.{All}
 use Rattle.cm_model.specs.Whole.{IsChip}
 use Rattle.cm_model.specs.Wiring.{IsRouting}
-use Rattle.cm_model.specs.Array.{chip_at, nth_or_nil}
+use Rattle.cm_model.specs.Array.{Chips, chip_at, nth_or_nil}
 use Rattle.cm_model.specs.Machine.{Machine}
 use Rattle.cm_model.specs.Keeping.{HasRoom, HasMessages}
 use Rattle.cm_model.specs.Unlogged.{IsUnlogged}
 use Rattle.cm_array.specs.declared.chip_state.ChipState.{ChipState}
-use Rattle.cm_array.specs.declared.builder.Builder.TheInside.{Inside}
 use Rattle.cm_array.specs.Parts.{machine_of, AreSized}
 
 -- all that every machine keeps but that a tag stands once, and no event
@@ -23,8 +22,8 @@ pub record IsUnfinished (n cap : ℕ) (machine : Machine) : Type 0 where
   pub routing : IsRouting n machine.routing
 
 -- the state of the chips that a builder has, which are filled near
-abbrev pub state_built : {n cap : ℕ} → Inside n cap → ChipState
-state_built builder = record builder.state { run = builder.run }
+abbrev pub state_built : Chips → ChipState → ChipState
+state_built run state = record state { run = run }
 
 -- the chips of such a machine, with sizes and working room as every machine has them
 pub record AreUnfinished (n cap : ℕ) (state : ChipState) : Type 0 where

@@ -9,5 +9,6 @@ pub mod Building
 pub mod Tags
 pub mod PokeLaws
 pub mod SavedLogs
+pub mod Sizes
 pub mod Rows
 pub mod Finding

@@ -29,6 +29,7 @@ use crate::part::{Part, room_for};
 use crate::put::{IntoPart, keep};
 use crate::row::{deal_out, has_events};
 use crate::saved_logs::{InTurn, LogAppender, SavedLogs};
+use crate::sizes::{Fixed, Sizes};
 use cm_bits::{Addr, FlagNo, NoMemory, Plane, Proc};
 use cm_element::{ChipView, PITCH, Run, ZeroFlag};
 use cm_message::{Message, Tag};
@@ -36,7 +37,7 @@ use cm_model::{Act, Found};
 use cm_router::{Routing, Rule};
 use cm_router_engine::Shape;
 use std::alloc::Global;
-use std::marker::Model;
+use std::marker::{Model, PhantomData};
 use std::mem;
 use thiserror::Error;
 
@@ -63,6 +64,9 @@ impl From<NoMemory> for MachineFault {
 }
 
 /// A machine of 2^`N` chips, whose routers have room for `CAP` messages each.
+pub type Machine<const N: usize, const CAP: usize> = MachineOf<Fixed<N, CAP>>;
+
+/// A machine of these sizes.
 ///
 /// It tells the events of all chips into one row, in the order in which they come; they are dealt out to the
 /// logs of their chips when somebody looks (`deal_out`), or when logs are set aside.
@@ -71,18 +75,19 @@ impl From<NoMemory> for MachineFault {
 /// petit cycles; beside these, by chip its share of how many events more the row takes before it has to grow. No tag
 /// stands twice in its account, and each message whose injection a log tells of stands there once.
 #[derive(Debug, Drop)]
-pub struct Machine<const N: usize, const CAP: usize> {
+pub struct MachineOf<S: Sizes> {
     pub(crate) state: ChipState,
+    pub(crate) sizes: PhantomData<S>,
 }
 
-impl<const N: usize, const CAP: usize> Model for Machine<N, CAP> {
+impl<S: Sizes> Model for MachineOf<S> {
     ghost use Rattle.cm_array.specs.Parts.{MachineView, view_of, AreParts};
 
     ghost Value = { MachineView };
 
     ghost view = { λ machine. view_of machine.state };
 
-    ghost invariant = { λ machine. AreParts N CAP machine.state };
+    ghost invariant = { λ machine. AreParts S.n S.cap machine.state };
 }
 
 impl<const N: usize, const CAP: usize> Machine<N, CAP> {
@@ -92,28 +97,41 @@ impl<const N: usize, const CAP: usize> Machine<N, CAP> {
         ensures refused { IfSome (size_fault N CAP) (λ fault. IsErrOf result fault) }
         ensures otherwise { size_fault N CAP ≡ None → IsOkUnless result MachineFault.Memory }
     {
-        Self::blank_at(alloc, 0)
+        Self::blank_at(alloc, N, CAP, 0)
     }
+}
 
-    /// A machine with all bits and flags 0, no message and no event, whose count of petit cycles begins at `clock`.
-    pub(crate) fn blank_at(alloc: Global, clock: u64) -> Result<Self, MachineFault>
+impl<S: Sizes> MachineOf<S> {
+    /// A machine of 2^`n` chips with all bits and flags 0, no message and no event, whose count of petit cycles begins
+    /// at `clock`.
+    pub(crate) fn blank_at(
+        alloc: Global,
+        n: usize,
+        cap: usize,
+        clock: u64,
+    ) -> Result<Self, MachineFault>
+        requires n { n ≡ S.n }
+        requires cap { cap ≡ S.cap }
         requires clock { clock < 2 ^ 63 }
-        ensures value { IfOk result (λ kept. kept.machine ≡ record (blank_machine N) { clock = clock }) }
-        ensures refused { IfSome (size_fault N CAP) (λ fault. IsErrOf result fault) }
-        ensures otherwise { size_fault N CAP ≡ None → IsOkUnless result MachineFault.Memory }
+        ensures value { IfOk result (λ kept. kept.machine ≡ record (blank_machine S.n) { clock = clock }) }
+        ensures refused { IfSome (size_fault S.n S.cap) (λ fault. IsErrOf result fault) }
+        ensures otherwise { size_fault S.n S.cap ≡ None → IsOkUnless result MachineFault.Memory }
     {
-        if N > MOST_DIMENSIONS {
+        if n > MOST_DIMENSIONS {
             return Err(MachineFault::Dim);
         }
-        if CAP == 0 || CAP > MOST_ROOM {
+        if cap == 0 || cap > MOST_ROOM {
             return Err(MachineFault::Cap);
         }
         let shape = Shape {
-            dims: N as u8,
-            room: CAP as u8,
+            dims: n as u8,
+            room: cap as u8,
         };
-        let state = ChipState::blank(alloc, shape, 1 << N, clock)?;
-        Ok(Machine { state })
+        let state = ChipState::blank(alloc, shape, 1 << n, clock)?;
+        Ok(MachineOf {
+            state,
+            sizes: PhantomData,
+        })
     }
 
     /// A second machine, the same as this one, its logs too.
@@ -121,7 +139,10 @@ impl<const N: usize, const CAP: usize> Machine<N, CAP> {
         ensures value { IfOk result (λ kept. kept.machine ≡ self.now.machine) }
     {
         let state = self.state.copy(alloc)?;
-        Ok(Machine { state })
+        Ok(MachineOf {
+            state,
+            sizes: PhantomData,
+        })
     }
 
     /// A part of it: so many of its chips, from `first` on, each with room in its log for so many petit cycles.
@@ -132,11 +153,11 @@ impl<const N: usize, const CAP: usize> Machine<N, CAP> {
         count: u16,
         cycles: usize,
     ) -> Result<Part, NoMemory>
-        requires there { first + count ≤ 2 ^ N }
+        requires there { first + count ≤ 2 ^ S.n }
         ensures value { IfOk result (λ kept. kept.part ≡ part first count self.now.machine) }
-        ensures dims { IfOk result (λ kept. kept.dims ≡ N) }
-        ensures room { IfOk result (λ kept. kept.room ≡ CAP) }
-        ensures log_room { IfOk result (λ kept. HaveLogRoom (cycles * (4 + CAP)) kept.log_rooms) }
+        ensures dims { IfOk result (λ kept. kept.dims ≡ S.n) }
+        ensures room { IfOk result (λ kept. kept.room ≡ S.cap) }
+        ensures log_room { IfOk result (λ kept. HaveLogRoom (cycles * (4 + S.cap)) kept.log_rooms) }
         ensures gathered { IfOk result (λ kept. IsTrue kept.gathered) }
     {
         self.part_in(alloc, first, count, cycles, None)
@@ -152,11 +173,11 @@ impl<const N: usize, const CAP: usize> Machine<N, CAP> {
         cycles: usize,
         used: Option<Part>,
     ) -> Result<Part, NoMemory>
-        requires there { first + count ≤ 2 ^ N }
+        requires there { first + count ≤ 2 ^ S.n }
         ensures value { IfOk result (λ kept. kept.part ≡ part first count self.now.machine) }
-        ensures dims { IfOk result (λ kept. kept.dims ≡ N) }
-        ensures room { IfOk result (λ kept. kept.room ≡ CAP) }
-        ensures log_room { IfOk result (λ kept. HaveLogRoom (cycles * (4 + CAP)) kept.log_rooms) }
+        ensures dims { IfOk result (λ kept. kept.dims ≡ S.n) }
+        ensures room { IfOk result (λ kept. kept.room ≡ S.cap) }
+        ensures log_room { IfOk result (λ kept. HaveLogRoom (cycles * (4 + S.cap)) kept.log_rooms) }
         ensures gathered { IfOk result (λ kept. IsTrue kept.gathered) }
     {
         let state = &self.state;
@@ -168,7 +189,7 @@ impl<const N: usize, const CAP: usize> Machine<N, CAP> {
 
     /// Becomes the machine that these are in their order. No memory is taken.
     pub fn put<P: IntoPart + Drop>(&mut self, pieces: Vec<P>)
-        requires whole { AreWhole N CAP (map (λ piece. (P.held piece).part) pieces.items) }
+        requires whole { AreWhole S.n S.cap (map (λ piece. (P.held piece).part) pieces.items) }
         ensures value { self.new.machine ≡ joined (map (λ piece. (P.held piece).part) pieces.items) }
     {
         let mut none = Vec::new(*self.state.logs.allocator());
@@ -177,7 +198,7 @@ impl<const N: usize, const CAP: usize> Machine<N, CAP> {
 
     /// The same, and keeps parts as `part_in` takes them, as many as there are places for. No memory is taken.
     pub fn put_and_keep<P: IntoPart + Drop>(&mut self, pieces: Vec<P>, used: &mut Vec<Part>)
-        requires whole { AreWhole N CAP (map (λ piece. (P.held piece).part) pieces.items) }
+        requires whole { AreWhole S.n S.cap (map (λ piece. (P.held piece).part) pieces.items) }
         ensures value { self.new.machine ≡ joined (map (λ piece. (P.held piece).part) pieces.items) }
     {
         let state = &mut self.state;
@@ -194,9 +215,9 @@ impl<const N: usize, const CAP: usize> Machine<N, CAP> {
 
     /// Sets its logs aside, each with room for so many petit cycles, and stands there without events.
     pub fn set_logs_aside(&mut self, alloc: Global, cycles: usize) -> Result<SavedLogs, NoMemory>
-        ensures ok { OnOk result (self.new.machine ≡ unlogged N self.old.machine) }
+        ensures ok { OnOk result (self.new.machine ≡ unlogged S.n self.old.machine) }
         ensures logs { IfOk result (λ earlier. earlier.logs ≡ self.old.machine.logs) }
-        ensures log_room { IfOk result (λ earlier. HaveLogRoom (cycles * (4 + CAP)) earlier.log_rooms) }
+        ensures log_room { IfOk result (λ earlier. HaveLogRoom (cycles * (4 + S.cap)) earlier.log_rooms) }
         ensures err { OnErr result (self.new.machine ≡ self.old.machine) }
     {
         let state = &mut self.state;
@@ -210,10 +231,10 @@ impl<const N: usize, const CAP: usize> Machine<N, CAP> {
 
     /// Puts logs that were set aside back before its own, whose events stand behind them. No memory is taken.
     pub fn put_logs_back(&mut self, earlier: SavedLogs)
-        requires whole { IsMachine N CAP (logs_appended N earlier.logs self.old.machine) }
-        requires count { length earlier.logs ≡ 2 ^ N }
+        requires whole { IsMachine S.n S.cap (logs_appended S.n earlier.logs self.old.machine) }
+        requires count { length earlier.logs ≡ 2 ^ S.n }
         requires room { TakeIn earlier.log_rooms self.old.machine.logs }
-        ensures value { self.new.machine ≡ logs_appended N earlier.logs self.old.machine }
+        ensures value { self.new.machine ≡ logs_appended S.n earlier.logs self.old.machine }
     {
         let mut none = Vec::new(*self.state.logs.allocator());
         self.put_logs_back_by(&InTurn, earlier, &mut none);
@@ -227,10 +248,10 @@ impl<const N: usize, const CAP: usize> Machine<N, CAP> {
         used: &mut Vec<Part>,
     )
         requires ready { B.ready }
-        requires whole { IsMachine N CAP (logs_appended N earlier.logs self.old.machine) }
-        requires count { length earlier.logs ≡ 2 ^ N }
+        requires whole { IsMachine S.n S.cap (logs_appended S.n earlier.logs self.old.machine) }
+        requires count { length earlier.logs ≡ 2 ^ S.n }
         requires room { TakeIn earlier.log_rooms self.old.machine.logs }
-        ensures value { self.new.machine ≡ logs_appended N earlier.logs self.old.machine }
+        ensures value { self.new.machine ≡ logs_appended S.n earlier.logs self.old.machine }
     {
         let mut logs = earlier.logs;
         by.append_logs(&mut logs, &self.state.logs);
@@ -242,17 +263,17 @@ impl<const N: usize, const CAP: usize> Machine<N, CAP> {
 
     /// The chip of that number, to be read.
     pub fn chip(&self, number: u16) -> ChipView<'_>
-        requires number { number < 2 ^ N }
+        requires number { number < 2 ^ S.n }
         ensures value { result ≡ chip_at self.now.machine.chips number }
-        ensures whole { IsMachine N CAP self.now.machine }
+        ensures whole { IsMachine S.n S.cap self.now.machine }
     {
         self.state.run.view(number)
     }
 
     /// The bits of all processors at an address, a plane for each chip in order.
     pub fn plane_row(&self, at: Addr) -> &[Plane]
-        ensures count { length result.now ≡ 2 ^ N }
-        ensures value { (c : ℕ) → c < 2 ^ N → IsPlane (slice_index result.now c)
+        ensures count { length result.now ≡ 2 ^ S.n }
+        ensures value { (c : ℕ) → c < 2 ^ S.n → IsPlane (slice_index result.now c)
             (λ p. memory_bit (processor_at (chip_at self.now.machine.chips c) p) at) }
     {
         self.state.run.plane_row(at)
@@ -260,7 +281,7 @@ impl<const N: usize, const CAP: usize> Machine<N, CAP> {
 
     /// Whether memory has a row for an address: where it has none, the bits of all processors are 0 there.
     pub fn is_in_use(&self, at: Addr) -> bool
-        ensures blank { result ≡ false → (c : ℕ) → c < 2 ^ N
+        ensures blank { result ≡ false → (c : ℕ) → c < 2 ^ S.n
             → IsPlane 0 (λ p. memory_bit (processor_at (chip_at self.now.machine.chips c) p) at) }
     {
         self.state.run.is_in_use(at)
@@ -269,7 +290,7 @@ impl<const N: usize, const CAP: usize> Machine<N, CAP> {
     /// Copies so many chips, from `first` on, to the front of a run: there the planes of a chip lie nearer to
     /// each other.
     pub fn copy_chips(&self, first: u16, count: u16, to: &mut Run)
-        requires there { first + count ≤ 2 ^ N }
+        requires there { first + count ≤ 2 ^ S.n }
         requires room { count ≤ length to.old }
         ensures value { AreLaid 0 first count self.now.machine.chips to.old to.new }
     {
@@ -279,7 +300,7 @@ impl<const N: usize, const CAP: usize> Machine<N, CAP> {
     /// Writes the memory planes of so many chips, from `first` on, chip by chip: `PITCH` words of cm_element apart. The
     /// words behind those of the last chip stay.
     pub fn write_planes(&self, first: u16, count: u16, memory: &mut [Plane])
-        requires chips { first + count ≤ 2 ^ N }
+        requires chips { first + count ≤ 2 ^ S.n }
         requires memory { count * 4128 ≤ length memory.old }
         ensures value { (c a : ℕ) → c < count → a < 4096 → IsPlane (slice_index memory.new (c * 4128 + a))
             (λ p. memory_bit (processor_at (chip_at self.now.machine.chips (first + c)) p) a) }
@@ -293,18 +314,18 @@ impl<const N: usize, const CAP: usize> Machine<N, CAP> {
 
     /// The messages that stand in a chip's router, in order of arrival.
     pub fn buffer(&self, chip: u16) -> &[Message]
-        requires chip { chip < 2 ^ N }
+        requires chip { chip < 2 ^ S.n }
         ensures value { result.now ≡ nth_or_nil self.now.machine.buffers chip }
-        ensures whole { IsMachine N CAP self.now.machine }
+        ensures whole { IsMachine S.n S.cap self.now.machine }
     {
         self.state.crossing.buffer(usize::from(chip))
     }
 
     /// A chip's events since the machine was made, the oldest first; a copy has those of its original.
     pub fn log(&self, chip: u16) -> Log<'_>
-        requires chip { chip < 2 ^ N }
+        requires chip { chip < 2 ^ S.n }
         ensures value { result ≡ nth_or_nil self.now.machine.logs chip }
-        ensures whole { IsMachine N CAP self.now.machine }
+        ensures whole { IsMachine S.n S.cap self.now.machine }
     {
         Log::of(chip, &self.state.logs[usize::from(chip)], &self.state.row)
     }
@@ -327,28 +348,42 @@ impl<const N: usize, const CAP: usize> Machine<N, CAP> {
 
     /// The dimensions of its cube.
     pub fn dims(&self) -> u8
-        ensures value { result ≡ N }
-        ensures sizes { AreSizes N CAP }
+        ensures value { result ≡ S.n }
+        ensures sizes { AreSizes S.n S.cap }
     {
-        // For the prover alone: reading a field brings in what holds of every machine.
-        let _kept = &self.state;
-        N as u8
+        self.state.shape.dims
+    }
+
+    /// How many chips it has.
+    pub fn chip_count(&self) -> u16
+        ensures value { result ≡ 2 ^ S.n }
+        ensures few { result ≤ 4096 }
+    {
+        1 << self.state.shape.dims
+    }
+
+    /// How many messages the router of a chip has room for.
+    pub fn room(&self) -> u8
+        ensures value { result ≡ S.cap }
+        ensures sizes { AreSizes S.n S.cap }
+    {
+        self.state.shape.room
     }
 
     /// Petit cycles so far.
     pub fn clock(&self) -> u64
         ensures value { result ≡ self.now.machine.clock }
         ensures within { result < 2 ^ 63 }
-        ensures sizes { AreSizes N CAP }
-        ensures whole { IsMachine N CAP self.now.machine }
+        ensures sizes { AreSizes S.n S.cap }
+        ensures whole { IsMachine S.n S.cap self.now.machine }
     {
         self.state.clock
     }
 
     /// Whether a chip's wire over a dimension is cut: nobody crosses it then, in either direction.
     pub fn cut(&self, chip: u16, dim: u8) -> bool
-        requires chip { chip < 2 ^ N }
-        requires dim { dim < N }
+        requires chip { chip < 2 ^ S.n }
+        requires dim { dim < S.n }
         ensures value { result ≡ is_cut self.now.machine.routing chip dim }
     {
         self.state.routing.cuts.has(chip, dim)
@@ -364,17 +399,17 @@ impl<const N: usize, const CAP: usize> Machine<N, CAP> {
     /// How its messages go: which wires are cut, and the rule.
     pub fn routing(&self) -> &Routing
         ensures value { routing_of result.now ≡ self.now.machine.routing }
-        ensures cube { result.now.cuts.dims ≡ N }
-        ensures whole { IsMachine N CAP self.now.machine }
+        ensures cube { result.now.cuts.dims ≡ S.n }
+        ensures whole { IsMachine S.n S.cap self.now.machine }
     {
         &self.state.routing
     }
 
     /// Where the message of a tag is: in a router, or else delivered, or else nowhere.
     pub fn find(&self, tag: Tag) -> Found
-        ensures value { result ≡ found_in N self.now.machine tag }
-        ensures there { IsWhereabouts N self.now.machine tag result }
-        ensures whole { IsMachine N CAP self.now.machine }
+        ensures value { result ≡ found_in S.n self.now.machine tag }
+        ensures there { IsWhereabouts S.n self.now.machine tag result }
+        ensures whole { IsMachine S.n S.cap self.now.machine }
     {
         if let Some(chip) = router_of(&self.state.crossing, &tag) {
             return Found::Router(chip);
@@ -391,14 +426,14 @@ impl<const N: usize, const CAP: usize> Machine<N, CAP> {
     /// The global wire: whether flag GLOBAL is 1 in some processor (Hillis 1985).
     pub fn wire(&self) -> bool
         ensures value { result ≡ wire self.now.machine.chips }
-        ensures whole { IsMachine N CAP self.now.machine }
+        ensures whole { IsMachine S.n S.cap self.now.machine }
     {
         cm_wire::wire(&self.state.run)
     }
 
     /// Puts a bit into the memory of one processor.
     pub fn poke(&mut self, chip: u16, proc: Proc, at: Addr, bit: bool)
-        requires chip { chip < 2 ^ N }
+        requires chip { chip < 2 ^ S.n }
         ensures value { self.new
             ≡ record self.old { machine = machine_with_memory_bit self.old.machine chip proc at bit } }
     {
@@ -413,7 +448,7 @@ impl<const N: usize, const CAP: usize> Machine<N, CAP> {
         number: FlagNo,
         bit: bool,
     ) -> Result<(), ZeroFlag>
-        requires chip { chip < 2 ^ N }
+        requires chip { chip < 2 ^ S.n }
         ensures zero_flag { IsErr result ↔ (number ≡ ZERO) }
         ensures ok { OnOk result (self.new
             ≡ record self.old { machine = machine_with_flag self.old.machine chip proc number bit }) }
@@ -428,8 +463,8 @@ impl<const N: usize, const CAP: usize> Machine<N, CAP> {
         requires few { cycles ≤ 64 }
         requires clock { self.old.machine.clock + cycles < 2 ^ 63 }
         ensures no_cycles { cycles ≡ 0 → IsOk result }
-        ensures memory { OnErr result (LacksLogRoom (cycles * (4 + CAP)) self.old.log_rooms) }
-        ensures ok { OnOk result (self.new.machine ≡ run_of N CAP self.old.machine acts.now) }
+        ensures memory { OnErr result (LacksLogRoom (cycles * (4 + S.cap)) self.old.log_rooms) }
+        ensures ok { OnOk result (self.new.machine ≡ run_of S.n S.cap self.old.machine acts.now) }
         ensures err { OnErr result (self.new.machine ≡ self.old.machine) }
     {
         if !self.state.pass_time(acts, cycles) {

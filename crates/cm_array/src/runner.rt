@@ -9,7 +9,8 @@ ghost use Rattle.cm_array.specs.Faults.{CountsLacks, is_no_thread, plain_threads
 ghost use Rattle.cm_array.specs.Parts.{LacksLogRoom};
 
 use crate::limits::{LAST_CLOCK, LONGEST, MOST_CYCLES};
-use crate::machine::Machine;
+use crate::machine::MachineOf;
+use crate::sizes::Sizes;
 use cm_bits::NoMemory;
 use cm_model::Act;
 use thiserror::Error;
@@ -39,7 +40,7 @@ impl From<NoMemory> for RunFault {
 }
 
 /// Makes a machine go through lists of at most 4,096 acts, of which at most 64 are petit cycles.
-pub trait Runner<const N: usize, const CAP: usize> {
+pub trait Runner<S: Sizes> {
     /// What a caller of an unknown runner has to know of its type; of `Plain` it is no condition.
     ghost ready: { Type 0 };
 
@@ -55,15 +56,15 @@ pub trait Runner<const N: usize, const CAP: usize> {
 
     /// Runs the acts one after another, or none of them. The account has then the lines of what was
     /// injected in addition, and no others.
-    fn go(&mut self, machine: &mut Machine<N, CAP>, acts: &[Act]) -> Result<(), RunFault>
+    fn go(&mut self, machine: &mut MachineOf<S>, acts: &[Act]) -> Result<(), RunFault>
         requires runner { ready }
         ensures long { (result ≡ Err RunFault.Long) ↔ IsTrue (is_long acts.now) }
         ensures clock { (result ≡ Err RunFault.Clock)
             ↔ (IsFalse (is_long acts.now) × IsTrue (is_late machine.old.machine.clock acts.now)) }
         ensures empty { acts.now ≡ [] → IsOk result }
-        ensures ok { OnOk result (machine.new.machine ≡ run_of N CAP machine.old.machine acts.now) }
-        ensures account { OnOk result (SameLines (account N machine.new.machine)
-            (account N machine.old.machine ++ newly_injected N machine.old.machine machine.new.machine)) }
+        ensures ok { OnOk result (machine.new.machine ≡ run_of S.n S.cap machine.old.machine acts.now) }
+        ensures account { OnOk result (SameLines (account S.n machine.new.machine)
+            (account S.n machine.old.machine ++ newly_injected S.n machine.old.machine machine.new.machine)) }
         ensures threads { CountsLacks is_no_thread (threads_lacked self.old) (threads_lacked self.new) result }
         ensures err { OnErr result (machine.new.machine ≡ machine.old.machine) };
 }
@@ -77,7 +78,7 @@ pub fn wants_change_their_count()
 #[derive(Clone, Copy, Debug, PartialEq, Eq)]
 pub struct Plain;
 
-impl<const N: usize, const CAP: usize> Runner<N, CAP> for Plain {
+impl<S: Sizes> Runner<S> for Plain {
     ghost ready = { Unit {0} };
 
     ghost threads_lacked = { plain_threads_lacked };
@@ -92,19 +93,19 @@ impl<const N: usize, const CAP: usize> Runner<N, CAP> for Plain {
 
     /// Takes memory for the events of all petit cycles in the list, before the first act, and none where the
     /// row into which all chips tell has room for them: a petit cycle tells at most 4 + `CAP` events of a chip.
-    fn go(&mut self, machine: &mut Machine<N, CAP>, acts: &[Act]) -> Result<(), RunFault>
+    fn go(&mut self, machine: &mut MachineOf<S>, acts: &[Act]) -> Result<(), RunFault>
         ensures long { (result ≡ Err RunFault.Long) ↔ IsTrue (is_long acts.now) }
         ensures clock { (result ≡ Err RunFault.Clock)
             ↔ (IsFalse (is_long acts.now) × IsTrue (is_late machine.old.machine.clock acts.now)) }
         ensures empty { acts.now ≡ [] → IsOk result }
         ensures no_cycles { cycles_in acts.now ≡ 0 → IsFalse (is_long acts.now) → IsOk result }
         ensures memory { IsErrOf result RunFault.Memory
-            → LacksLogRoom (cycles_in acts.now * (4 + CAP)) machine.old.log_rooms }
+            → LacksLogRoom (cycles_in acts.now * (4 + S.cap)) machine.old.log_rooms }
         ensures no_thread { ¬ IsErrOf result RunFault.NoThread }
         ensures threads { CountsLacks is_no_thread (plain_threads_lacked self.old) (plain_threads_lacked self.new) result }
-        ensures ok { OnOk result (machine.new.machine ≡ run_of N CAP machine.old.machine acts.now) }
-        ensures account { OnOk result (SameLines (account N machine.new.machine)
-            (account N machine.old.machine ++ newly_injected N machine.old.machine machine.new.machine)) }
+        ensures ok { OnOk result (machine.new.machine ≡ run_of S.n S.cap machine.old.machine acts.now) }
+        ensures account { OnOk result (SameLines (account S.n machine.new.machine)
+            (account S.n machine.old.machine ++ newly_injected S.n machine.old.machine machine.new.machine)) }
         ensures err { OnErr result (machine.new.machine ≡ machine.old.machine) }
     {
         let cycles = check_stretch(acts, machine.clock())?;

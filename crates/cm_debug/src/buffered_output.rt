@@ -84,7 +84,7 @@ impl BufferedOutput {
             && self.bytes.extend_from_slice(&self.line).is_ok()
     }
 
-    /// Writes what is gathered. It is not inlined, since the code that calls it is compiled for each size of machine.
+    /// Writes what is gathered. It is not inlined, since the code that calls it is compiled for each runner.
     #[inline(never)]
     pub fn send<O: Sink>(&mut self, out: &mut O) -> Result<(), CutOff>
         requires writer { O.has_failed out.old ≡ false }

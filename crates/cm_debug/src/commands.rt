@@ -16,7 +16,7 @@ ghost use Rattle.cm_debug.specs.Telling.{asks_for_acts, runs_acts};
 use crate::answers::{push_bit, push_buffer, push_found, push_log, push_number, push_word};
 use crate::debugger::{Debugger, Stops};
 use crate::out_of::OutOf;
-use cm_array::{Log, Machine, Runner};
+use cm_array::{Log, MachineOf, Runner, Sizes};
 use cm_bits::{Addr, Field, FlagNo, NoMemory, Place};
 use cm_model::{Found, Tag};
 use cm_session::{Command, Refusal};
@@ -25,16 +25,17 @@ use std::alloc::AllocError;
 impl Debugger<'_> {
     /// Answers what was read of a line. After an `Err` the machine is as it was, or some of the acts that the line runs
     /// are run.
-    pub fn answer<const N: usize, const CAP: usize, R: Runner<N, CAP>>(
+    pub fn answer<S: Sizes, R: Runner<S>>(
         &mut self,
-        machine: &mut Machine<N, CAP>,
+        machine: &mut MachineOf<S>,
         runner: &mut R,
         asked: Result<Option<Command>, Refusal>,
         text: &mut Vec<u8>,
     ) -> Result<(), OutOf>
         requires runner { R.ready }
-        requires operands { IfOk asked (λ command. IfSome command (IsFor N (length self.old.acts.now))) }
-        ensures goes { Goes N CAP (answered N CAP self.old.acts.now (session_of machine.old.machine self.old) asked)
+        requires operands { IfOk asked (λ command. IfSome command (IsFor S.n (length self.old.acts.now))) }
+        ensures goes { Goes S.n S.cap
+            (answered S.n S.cap self.old.acts.now (session_of machine.old.machine self.old) asked)
             (state machine.old.machine self.old text.old.items (R.threads_lacked runner.old))
             (state machine.new.machine self.new text.new.items (R.threads_lacked runner.new)) result }
         ensures acts { IsErrOf result OutOf.Thread → IsTrue (asks_for_acts asked) }
@@ -55,16 +56,16 @@ impl Debugger<'_> {
     }
 
     /// Does what a command asks for that runs no acts, and tells what it is answered.
-    fn obey<const N: usize, const CAP: usize>(
+    fn obey<S: Sizes>(
         &mut self,
-        machine: &mut Machine<N, CAP>,
+        machine: &mut MachineOf<S>,
         command: Command,
         text: &mut Vec<u8>,
     ) -> Result<(), AllocError>
-        requires operands { IsFor N (length self.old.acts.now) command }
+        requires operands { IsFor S.n (length self.old.acts.now) command }
         requires still { IsFalse (runs_acts command) }
         ensures ok { OnOk result (IsDone
-            (obeyed N CAP self.old.acts.now (session_of machine.old.machine self.old) command)
+            (obeyed S.n S.cap self.old.acts.now (session_of machine.old.machine self.old) command)
             (state machine.old.machine self.old text.old.items 0)
             (state machine.new.machine self.new text.new.items 0)) }
         ensures err { OnErr result (machine.new.machine ≡ machine.old.machine) }
@@ -127,8 +128,8 @@ pub fn asks_for_acts(asked: &Result<Option<Command>, Refusal>) -> bool
 
 /// Where the message of a tag is. A birth that is still to come is of none: then nothing is looked through.
 #[tactic(auto, using(crate::proofs::Finding::unborn))]
-fn whereabouts<const N: usize, const CAP: usize>(machine: &Machine<N, CAP>, tag: Tag) -> Found
-    ensures value { result ≡ found_in N machine.now.machine tag }
+fn whereabouts<S: Sizes>(machine: &MachineOf<S>, tag: Tag) -> Found
+    ensures value { result ≡ found_in S.n machine.now.machine tag }
 {
     if tag.birth >= machine.clock() {
         return Found::Unknown;
@@ -144,13 +145,13 @@ fn push_wire(text: &mut Vec<u8>, word: &[u8]) -> Result<(), AllocError>
     push_word(text, word)
 }
 
-fn push_field<const N: usize, const CAP: usize>(
+fn push_field<S: Sizes>(
     text: &mut Vec<u8>,
-    machine: &Machine<N, CAP>,
+    machine: &MachineOf<S>,
     place: Place,
     field: Field,
 ) -> Result<(), AllocError>
-    requires chip { place.chip < 2 ^ N }
+    requires chip { place.chip < 2 ^ S.n }
     ensures ok { OnOk result (text.new.items ≡ text.old.items
         ++ line (codes "field"
         ∷ decimal (field_value (processor_of machine.now.machine.chips place) field.at field.len) ∷ [])) }
@@ -159,13 +160,13 @@ fn push_field<const N: usize, const CAP: usize>(
     push_number(text, b"field", value)
 }
 
-fn push_flag<const N: usize, const CAP: usize>(
+fn push_flag<S: Sizes>(
     text: &mut Vec<u8>,
-    machine: &Machine<N, CAP>,
+    machine: &MachineOf<S>,
     place: Place,
     number: FlagNo,
 ) -> Result<(), AllocError>
-    requires chip { place.chip < 2 ^ N }
+    requires chip { place.chip < 2 ^ S.n }
     ensures ok { OnOk result (text.new.items ≡ text.old.items
         ++ line (codes "flag"
         ∷ decimal (bit_number (flag (processor_of machine.now.machine.chips place) number)) ∷ [])) }
@@ -178,12 +179,12 @@ fn push_flag<const N: usize, const CAP: usize>(
 }
 
 /// Deals a machine's events out and tells those of a chip; where memory is wanting for that, tells them from a copy.
-fn push_events<const N: usize, const CAP: usize>(
+fn push_events<S: Sizes>(
     text: &mut Vec<u8>,
-    machine: &mut Machine<N, CAP>,
+    machine: &mut MachineOf<S>,
     chip: u16,
 ) -> Result<(), AllocError>
-    requires chip { chip < 2 ^ N }
+    requires chip { chip < 2 ^ S.n }
     ensures ok { OnOk result (text.new.items
         ≡ text.old.items ++ log_lines (nth_or_nil machine.old.machine.logs chip)) }
     ensures machine { machine.new.machine ≡ machine.old.machine }
@@ -208,13 +209,8 @@ fn push_copied(text: &mut Vec<u8>, log: &Log<'_>) -> Result<(), AllocError>
 }
 
 /// Puts a bit into a flag that is not flag 8.
-fn poke_flag<const N: usize, const CAP: usize>(
-    machine: &mut Machine<N, CAP>,
-    place: Place,
-    number: FlagNo,
-    bit: bool,
-)
-    requires chip { place.chip < 2 ^ N }
+fn poke_flag<S: Sizes>(machine: &mut MachineOf<S>, place: Place, number: FlagNo, bit: bool)
+    requires chip { place.chip < 2 ^ S.n }
     requires pokeable { number ≢ ZERO }
     ensures value { machine.new.machine ≡ machine_with_flag machine.old.machine place.chip place.proc number bit }
 {

@@ -19,7 +19,7 @@ use crate::commands::asks_for_acts;
 use crate::debugger::Debugger;
 use crate::out_of::OutOf;
 use crate::reader::read_command;
-use cm_array::{Machine, Runner};
+use cm_array::{MachineOf, Runner, Sizes};
 use cm_bits::Sink;
 use cm_model::Act;
 use cm_session::{Command, Refusal, SessionFault};
@@ -56,9 +56,9 @@ impl<'a> Console<'a> {
 
     /// Answers the lines whose ends stand among these bytes, and keeps the bytes of the line that is open. The answers
     /// are written then.
-    pub fn feed<const N: usize, const CAP: usize, R: Runner<N, CAP>, O: Sink>(
+    pub fn feed<S: Sizes, R: Runner<S>, O: Sink>(
         &mut self,
-        machine: &mut Machine<N, CAP>,
+        machine: &mut MachineOf<S>,
         runner: &mut R,
         piece: &[u8],
         out: &mut O,
@@ -66,7 +66,7 @@ impl<'a> Console<'a> {
         requires runner { R.ready }
         requires writer { O.has_failed out.old ≡ false }
         requires room { answered_bytes self.old.output + (length piece.now + 1) * 2 ^ 64 < 2 ^ 128 }
-        ensures takes { Takes N CAP
+        ensures takes { Takes S.n S.cap
             (talk machine.old.machine self.old (O.contents out.old) (R.threads_lacked runner.old)) piece.now
             (talk machine.new.machine self.new (O.contents out.new) (R.threads_lacked runner.new)) result }
         ensures none { OnOk result (self.new.output.bytes.items ≡ []) }
@@ -83,9 +83,9 @@ impl<'a> Console<'a> {
     }
 
     /// The same, but answers may be left that are gathered.
-    fn hear<const N: usize, const CAP: usize, R: Runner<N, CAP>, O: Sink>(
+    fn hear<S: Sizes, R: Runner<S>, O: Sink>(
         &mut self,
-        machine: &mut Machine<N, CAP>,
+        machine: &mut MachineOf<S>,
         runner: &mut R,
         piece: &[u8],
         out: &mut O,
@@ -93,7 +93,7 @@ impl<'a> Console<'a> {
         requires runner { R.ready }
         requires writer { O.has_failed out.old ≡ false }
         requires room { answered_bytes self.old.output + (length piece.now + 1) * 2 ^ 64 < 2 ^ 128 }
-        ensures takes { Takes N CAP
+        ensures takes { Takes S.n S.cap
             (talk machine.old.machine self.old (O.contents out.old) (R.threads_lacked runner.old)) piece.now
             (talk machine.new.machine self.new (O.contents out.new) (R.threads_lacked runner.new)) result }
         ensures failed { O.has_failed out.new ≡ is_write result }
@@ -119,9 +119,9 @@ impl<'a> Console<'a> {
 
     /// A line ends with these bytes, and is answered. A runner of threads may want one: before it is asked, the answers
     /// of other lines are written, and before acts that may be many.
-    fn end_line<const N: usize, const CAP: usize, R: Runner<N, CAP>, O: Sink>(
+    fn end_line<S: Sizes, R: Runner<S>, O: Sink>(
         &mut self,
-        machine: &mut Machine<N, CAP>,
+        machine: &mut MachineOf<S>,
         runner: &mut R,
         part: &[u8],
         out: &mut O,
@@ -130,15 +130,14 @@ impl<'a> Console<'a> {
         requires writer { O.has_failed out.old ≡ false }
         requires unended { IsUnended part.now }
         requires room { answered_bytes self.old.output + 2 ^ 64 < 2 ^ 128 }
-        ensures takes { Takes N CAP
+        ensures takes { Takes S.n S.cap
             (talk machine.old.machine self.old (O.contents out.old) (R.threads_lacked runner.old)) (part.now ++ 10 ∷ [])
             (talk machine.new.machine self.new (O.contents out.new) (R.threads_lacked runner.new)) result }
         ensures failed { O.has_failed out.new ≡ is_write result }
     {
-        // a machine that is looked at has at most 12 dimensions
-        machine.clock();
+        let n = usize::from(machine.dims());
         let count = self.debugger.acts.len();
-        let asked = match read_ended(&mut self.line, part, N, count) {
+        let asked = match read_ended::<S>(&mut self.line, part, n, count) {
             Ok(asked) => asked,
             Err(_) => return Err(self.output.give_up(OutOf::Memory, out)),
         };
@@ -155,22 +154,22 @@ impl<'a> Console<'a> {
 
     /// Does what was read of a line, and its answer is gathered, which is made whole first. Where acts are asked for
     /// that may be many, or of a runner that may want a thread, nothing is gathered before.
-    fn tell<const N: usize, const CAP: usize, R: Runner<N, CAP>, O: Sink>(
+    fn tell<S: Sizes, R: Runner<S>, O: Sink>(
         &mut self,
-        machine: &mut Machine<N, CAP>,
+        machine: &mut MachineOf<S>,
         runner: &mut R,
         asked: Result<Option<Command>, Refusal>,
         out: &mut O,
     ) -> Result<(), SessionFault>
         requires runner { R.ready }
-        requires operands { IfOk asked (λ command. IfSome command (IsFor N (length self.old.debugger.acts.now))) }
+        requires operands { IfOk asked (λ command. IfSome command (IsFor S.n (length self.old.debugger.acts.now))) }
         requires none { ((before after : R) → R.threads_lacked before ≡ R.threads_lacked after)
             ⊎ (IsTrue (asks_for_acts asked) → self.old.output.bytes.items ≡ []) }
         requires run { IsTrue (asks_to_run asked) → self.old.output.bytes.items ≡ [] }
         requires writer { O.has_failed out.old ≡ false }
         requires room { answered_bytes self.old.output + 2 ^ 64 < 2 ^ 128 }
-        ensures tells { ConsoleAnswers N CAP
-            (answered N CAP self.old.debugger.acts.now (session_of machine.old.machine self.old.debugger) asked)
+        ensures tells { ConsoleAnswers S.n S.cap
+            (answered S.n S.cap self.old.debugger.acts.now (session_of machine.old.machine self.old.debugger) asked)
             (talk machine.old.machine self.old (O.contents out.old) (R.threads_lacked runner.old))
             (talk machine.new.machine self.new (O.contents out.new) (R.threads_lacked runner.new)) result }
         ensures failed { O.has_failed out.new ≡ is_write result }
@@ -192,16 +191,17 @@ impl<'a> Console<'a> {
 }
 
 /// What the line asks for that ends with these bytes. None is open then.
-fn read_ended(
+fn read_ended<S: Sizes>(
     line: &mut Vec<u8>,
     part: &[u8],
     dimensions: usize,
     count: usize,
 ) -> Result<Result<Option<Command>, Refusal>, AllocError>
-    requires dimension { dimensions ≤ 12 }
+    requires n { dimensions ≡ S.n }
+    requires dimension { S.n ≤ 12 }
     ensures asked { IfOk result (λ asked. asked
-        ≡ command_of dimensions count (words_of (line.old.items ++ part.now))) }
-    ensures inside { IfOk result (λ asked. IfOk asked (λ command. IfSome command (IsFor dimensions count))) }
+        ≡ command_of S.n count (words_of (line.old.items ++ part.now))) }
+    ensures inside { IfOk result (λ asked. IfOk asked (λ command. IfSome command (IsFor S.n count))) }
     ensures none { OnOk result (line.new.items ≡ []) }
 {
     if line.is_empty() {

@@ -15,22 +15,22 @@ use crate::answers::{push_number, push_sense, push_word};
 use crate::debugger::{Debugger, Stops};
 use crate::out_of::OutOf;
 use crate::stretch::{is_look, lacks_room, stretch_len};
-use cm_array::{Machine, RunFault, Runner};
+use cm_array::{MachineOf, RunFault, Runner, Sizes};
 use cm_model::Act;
 use cm_session::CLOCK;
 use std::alloc::AllocError;
 
 impl Debugger<'_> {
     /// Runs the acts from the position on until the session stops, and tells what it answers.
-    pub fn run_on<const N: usize, const CAP: usize, R: Runner<N, CAP>>(
+    pub fn run_on<S: Sizes, R: Runner<S>>(
         &mut self,
-        machine: &mut Machine<N, CAP>,
+        machine: &mut MachineOf<S>,
         runner: &mut R,
         stops: Stops,
         text: &mut Vec<u8>,
     ) -> Result<(), OutOf>
         requires runner { R.ready }
-        ensures goes { Goes N CAP (gone N CAP stops (state machine.old.machine self.old text.old.items 0))
+        ensures goes { Goes S.n S.cap (gone S.n S.cap stops (state machine.old.machine self.old text.old.items 0))
             (state machine.old.machine self.old text.old.items (R.threads_lacked runner.old))
             (state machine.new.machine self.new text.new.items (R.threads_lacked runner.new)) result }
     {
@@ -61,9 +61,9 @@ impl Debugger<'_> {
     }
 
     /// Runs the next stretch of acts, and tells what its first act tells. On a refusal the machine is as it was.
-    fn run_stretch<const N: usize, const CAP: usize, R: Runner<N, CAP>>(
+    fn run_stretch<S: Sizes, R: Runner<S>>(
         &mut self,
-        machine: &mut Machine<N, CAP>,
+        machine: &mut MachineOf<S>,
         runner: &mut R,
         stops: Stops,
         text: &mut Vec<u8>,
@@ -72,7 +72,8 @@ impl Debugger<'_> {
         requires within { self.old.position < length self.old.acts.now }
         requires room { lacks_room machine.old.machine.clock
             (slice_index_or self.old.acts.now self.old.position act.Cycle) ≡ false }
-        ensures ran { Ran N CAP stops (state machine.old.machine self.old text.old.items (R.threads_lacked runner.old))
+        ensures ran { Ran S.n S.cap stops
+            (state machine.old.machine self.old text.old.items (R.threads_lacked runner.old))
             (state machine.new.machine self.new text.new.items (R.threads_lacked runner.new)) result }
     {
         let acts = self.acts;
@@ -86,10 +87,10 @@ impl Debugger<'_> {
     }
 
     /// What an act tells before it is run.
-    fn push_told<const N: usize, const CAP: usize>(
+    fn push_told<S: Sizes>(
         &self,
         text: &mut Vec<u8>,
-        machine: &Machine<N, CAP>,
+        machine: &MachineOf<S>,
         act: &Act,
     ) -> Result<(), AllocError>
         ensures ok { OnOk result (text.new.items
@@ -103,15 +104,15 @@ impl Debugger<'_> {
 }
 
 /// Has the runner run acts that it takes at once.
-fn hand_over<const N: usize, const CAP: usize, R: Runner<N, CAP>>(
-    machine: &mut Machine<N, CAP>,
+fn hand_over<S: Sizes, R: Runner<S>>(
+    machine: &mut MachineOf<S>,
     acts: &[Act],
     runner: &mut R,
 ) -> Result<(), OutOf>
     requires runner { R.ready }
     requires short { IsFalse (is_long acts.now) }
     requires early { IsFalse (is_late machine.old.machine.clock acts.now) }
-    ensures ok { OnOk result (machine.new.machine ≡ run_of N CAP machine.old.machine acts.now) }
+    ensures ok { OnOk result (machine.new.machine ≡ run_of S.n S.cap machine.old.machine acts.now) }
     ensures err { OnErr result (machine.new.machine ≡ machine.old.machine) }
     ensures thread { CountsLacks is_thread (R.threads_lacked runner.old) (R.threads_lacked runner.new) result }
 {

@@ -10,7 +10,7 @@ ghost use Rattle.cm_debug.specs.Talk.{setting, talk, AreProcessed};
 ghost use Rattle.cm_debug.specs.Hearing.{HasEnded, TakesAll};
 
 use crate::console::Console;
-use cm_array::{Machine, Runner};
+use cm_array::{MachineOf, Runner, Sizes};
 use cm_asm::Program;
 use cm_bits::{Sink, Source};
 use cm_model::Act;
@@ -27,9 +27,9 @@ const PIECE: usize = 4096;
 /// After a fault of reading, and after too much, the lines that ended before are answered. After a failed write, or for
 /// want of memory or of a thread, a front of the answers is written, and the machine is that after a front of the lines
 /// and perhaps some of the acts that the next one runs.
-pub fn session<const N: usize, const CAP: usize, R: Runner<N, CAP>, I: Source, O: Sink>(
+pub fn session<S: Sizes, R: Runner<S>, I: Source, O: Sink>(
     alloc: Global,
-    machine: &mut Machine<N, CAP>,
+    machine: &mut MachineOf<S>,
     program: &Program,
     commands: &mut I,
     out: &mut O,
@@ -38,10 +38,10 @@ pub fn session<const N: usize, const CAP: usize, R: Runner<N, CAP>, I: Source, O
     requires runner { R.ready }
     requires reader { I.has_failed commands.old ≡ false }
     requires writer { O.has_failed out.old ≡ false }
-    ensures ends { IfSome (I.left commands.old) (λ text. Ends N CAP program.now.acts text (I.left commands.new)
+    ensures ends { IfSome (I.left commands.old) (λ text. Ends S.n S.cap program.now.acts text (I.left commands.new)
         machine.old.machine (O.contents out.old) machine.new.machine (O.contents out.new) result) }
-    ensures heard { EndsForSome N CAP program.now.acts (I.left commands.old) (I.left commands.new) machine.old.machine
-        (O.contents out.old) machine.new.machine (O.contents out.new) result }
+    ensures heard { EndsForSome S.n S.cap program.now.acts (I.left commands.old) (I.left commands.new)
+        machine.old.machine (O.contents out.old) machine.new.machine (O.contents out.new) result }
     ensures end { OnOk result (IsAtEnd (I.left commands.new)) }
     ensures within { ConsumesAtMost (COMMANDS_LIMIT + PIECE_LIMIT) (I.left commands.old) (I.left commands.new) }
     ensures read { (I.has_failed commands.new ≡ true) ↔ IsErrOf result SessionFault.Read }
@@ -53,9 +53,9 @@ pub fn session<const N: usize, const CAP: usize, R: Runner<N, CAP>, I: Source, O
 }
 
 /// Answers the commands of a source, with a program of these acts.
-fn answer_all<const N: usize, const CAP: usize, R: Runner<N, CAP>, I: Source, O: Sink>(
+fn answer_all<S: Sizes, R: Runner<S>, I: Source, O: Sink>(
     alloc: Global,
-    machine: &mut Machine<N, CAP>,
+    machine: &mut MachineOf<S>,
     acts: &[Act],
     commands: &mut I,
     out: &mut O,
@@ -64,7 +64,7 @@ fn answer_all<const N: usize, const CAP: usize, R: Runner<N, CAP>, I: Source, O:
     requires runner { R.ready }
     requires reader { I.has_failed commands.old ≡ false }
     requires writer { O.has_failed out.old ≡ false }
-    ensures ended { HasEnded N CAP
+    ensures ended { HasEnded S.n S.cap
         (setting acts.now machine.old.machine (O.contents out.old) (R.threads_lacked runner.old))
         (I.left commands.old) (I.left commands.new)
         (setting acts.now machine.new.machine (O.contents out.new) (R.threads_lacked runner.new)) result }
@@ -90,9 +90,9 @@ fn answer_all<const N: usize, const CAP: usize, R: Runner<N, CAP>, I: Source, O:
 
 impl Console<'_> {
     /// Answers the lines that end in the bytes of a source, until that is at its end, and keeps the line that is open.
-    fn hear_all<const N: usize, const CAP: usize, R: Runner<N, CAP>, I: Source, O: Sink>(
+    fn hear_all<S: Sizes, R: Runner<S>, I: Source, O: Sink>(
         &mut self,
-        machine: &mut Machine<N, CAP>,
+        machine: &mut MachineOf<S>,
         runner: &mut R,
         commands: &mut I,
         out: &mut O,
@@ -100,12 +100,12 @@ impl Console<'_> {
         requires runner { R.ready }
         requires reader { I.has_failed commands.old ≡ false }
         requires writer { O.has_failed out.old ≡ false }
-        requires first { AreProcessed N CAP (setting self.old.debugger.acts.now machine.old.machine (O.contents out.old)
-            (R.threads_lacked runner.old)) []
+        requires first { AreProcessed S.n S.cap (setting self.old.debugger.acts.now machine.old.machine
+            (O.contents out.old) (R.threads_lacked runner.old)) []
             (talk machine.old.machine self.old (O.contents out.old) (R.threads_lacked runner.old)) }
         requires none { self.old.output.bytes.items ≡ [] }
         requires sent { self.old.output.sent ≡ 0 }
-        ensures takes { TakesAll N CAP (setting self.old.debugger.acts.now machine.old.machine (O.contents out.old)
+        ensures takes { TakesAll S.n S.cap (setting self.old.debugger.acts.now machine.old.machine (O.contents out.old)
             (R.threads_lacked runner.old)) (I.left commands.old) (I.left commands.new)
             (talk machine.new.machine self.new (O.contents out.new) (R.threads_lacked runner.new)) result }
         ensures none { OnOk result (self.new.output.bytes.items ≡ []) }

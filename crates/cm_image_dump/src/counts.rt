@@ -6,17 +6,16 @@ ghost use Rattle.cm_model.specs.Array.{chip_at};
 ghost use Rattle.cm_image_format.specs.Whole.{memory_plane_of};
 ghost use Rattle.cm_image_dump.specs.Planes.{AreCounted, AreInUse};
 
-use cm_array::Machine;
+use cm_array::{MachineOf, Sizes};
 use cm_bits::{ADDRESSES, Addr, NoMemory, Plane};
-use cm_image_fields::chip_count;
 use std::alloc::Global;
 
 /// The addresses at which memory has rows, rising: at the others no plane is listed.
-pub(crate) fn addresses_in_use<const N: usize, const CAP: usize>(
+pub(crate) fn addresses_in_use<S: Sizes>(
     alloc: Global,
-    machine: &Machine<N, CAP>,
+    machine: &MachineOf<S>,
 ) -> Result<Vec<u16>, NoMemory>
-    ensures value { IfOk result (λ used. AreInUse (2 ^ N) machine.now.machine.chips 4096 used.items) }
+    ensures value { IfOk result (λ used. AreInUse (2 ^ S.n) machine.now.machine.chips 4096 used.items) }
 {
     let mut used = Vec::new(alloc);
     for at in 0..ADDRESSES {
@@ -26,14 +25,14 @@ pub(crate) fn addresses_in_use<const N: usize, const CAP: usize>(
 }
 
 /// One more address, if memory has a row there.
-fn push_in_use<const N: usize, const CAP: usize>(
+fn push_in_use<S: Sizes>(
     used: &mut Vec<u16>,
-    machine: &Machine<N, CAP>,
+    machine: &MachineOf<S>,
     at: u16,
 ) -> Result<(), NoMemory>
     requires at { at < 4096 }
-    requires in_use { AreInUse (2 ^ N) machine.now.machine.chips at used.old.items }
-    ensures ok { OnOk result (AreInUse (2 ^ N) machine.now.machine.chips (at + 1) used.new.items) }
+    requires in_use { AreInUse (2 ^ S.n) machine.now.machine.chips at used.old.items }
+    ensures ok { OnOk result (AreInUse (2 ^ S.n) machine.now.machine.chips (at + 1) used.new.items) }
 {
     if !machine.is_in_use(Addr::new(at).unwrap()) {
         return Ok(());
@@ -46,14 +45,14 @@ fn push_in_use<const N: usize, const CAP: usize>(
 
 /// By chip, how many memory planes are not 0: they are counted address by address, since the planes of an
 /// address lie side by side.
-pub(crate) fn listed_planes<const N: usize, const CAP: usize>(
+pub(crate) fn listed_planes<S: Sizes>(
     alloc: Global,
-    machine: &Machine<N, CAP>,
+    machine: &MachineOf<S>,
 ) -> Result<Vec<u16>, NoMemory>
-    requires dimension { N ≤ 12 }
-    ensures value { IfOk result (λ counts. AreCounted (2 ^ N) machine.now.machine.chips 4096 counts.items) }
+    requires dimension { S.n ≤ 12 }
+    ensures value { IfOk result (λ counts. AreCounted (2 ^ S.n) machine.now.machine.chips 4096 counts.items) }
 {
-    let chips = usize::from(chip_count::<N>());
+    let chips = usize::from(machine.chip_count());
     let Ok(mut counts) = vec![in alloc; 0; chips] else {
         return Err(NoMemory);
     };
@@ -64,15 +63,11 @@ pub(crate) fn listed_planes<const N: usize, const CAP: usize>(
 }
 
 /// One more for each chip whose plane at an address is not 0.
-fn count_planes<const N: usize, const CAP: usize>(
-    counts: &mut [u16],
-    machine: &Machine<N, CAP>,
-    at: u16,
-)
+fn count_planes<S: Sizes>(counts: &mut [u16], machine: &MachineOf<S>, at: u16)
     requires at { at < 4096 }
-    requires count { length counts.old ≡ 2 ^ N }
+    requires count { length counts.old ≡ 2 ^ S.n }
     requires few { (c : ℕ) → c < length counts.old → slice_index counts.old c < 4096 }
-    ensures value { (c : ℕ) → c < 2 ^ N → slice_index counts.new c ≡ slice_index counts.old c
+    ensures value { (c : ℕ) → c < 2 ^ S.n → slice_index counts.new c ≡ slice_index counts.old c
         + (if memory_plane_of (chip_at machine.now.machine.chips c) at == 0 then 0 else 1) }
 {
     let address = Addr::new(at).unwrap();

@@ -11,7 +11,7 @@ ghost use Rattle.cm_image_dump.specs.Planes.{AreCounted, chips_text, plane_listi
 ghost use Rattle.cm_image_dump.specs.Sending.{GoesOut, GoesOutInPart, is_dump_write};
 
 use crate::dumps::{push_flags, push_messages, push_plane};
-use cm_array::Machine;
+use cm_array::{MachineOf, Sizes};
 use cm_bits::{ADDRESSES, NoMemory, Plane};
 use cm_element::{ChipView, PITCH};
 use cm_image_fields::{AT_ONCE, EIGHT_LEN, LISTING_LEN, eight_from, push_u8, push_u16, put_eight};
@@ -25,13 +25,13 @@ pub(crate) const TILE_PLANES: usize = 64 * PITCH;
 const ALL_LISTED_LEN: usize = 16384;
 
 /// Writes the planes of so many chips, from `first` on, chip by chip.
-pub(crate) fn write_tile<const N: usize, const CAP: usize>(
-    machine: &Machine<N, CAP>,
+pub(crate) fn write_tile<S: Sizes>(
+    machine: &MachineOf<S>,
     first: u16,
     some: u16,
     planes: &mut [Plane],
 )
-    requires chips { first + some ≤ 2 ^ N }
+    requires chips { first + some ≤ 2 ^ S.n }
     requires few { some * 4128 ≤ length planes.old }
     ensures value { (c a : ℕ) → c < some → a < 4096
         → slice_index planes.new (c * 4128 + a) ≡ memory_plane_of (chip_at machine.now.machine.chips (first + c)) a }

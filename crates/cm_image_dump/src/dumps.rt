@@ -17,12 +17,12 @@ ghost use Rattle.cm_image_dump.specs.Planes.{listed_below, planes_below};
 ghost use Rattle.cm_image_dump.specs.Sending.{front_text, GoesOut, GoesOutInPart, is_dump_write};
 
 use crate::sending::{DumpRoom, ListedMachine, sizes};
-use cm_array::Machine;
+use cm_array::{MachineOf, Sizes};
 use cm_bits::{Addr, FLAGS, Failed, FlagNo, NoMemory, Plane, Sink};
 use cm_element::ChipView;
 use cm_image_fields::{
-    BLANK_CHIP_LEN, LISTING_LEN, chip_count, cuts_len, push, push_cuts, push_head, push_u8,
-    push_u16, push_u64, version_of,
+    BLANK_CHIP_LEN, LISTING_LEN, cuts_len, push, push_cuts, push_head, push_u8, push_u16, push_u64,
+    version_of,
 };
 use cm_image_format::texts_leave_out_logs;
 use cm_message::{Message, bytes};
@@ -34,12 +34,9 @@ const HEADER_LEN: usize = 16;
 const MESSAGE_LEN: usize = 18;
 
 /// The image of a machine: its one text. Its logs are not in it.
-pub fn dump<const N: usize, const CAP: usize>(
-    alloc: Global,
-    machine: &Machine<N, CAP>,
-) -> Result<Vec<u8>, NoMemory>
-    ensures value { IfOk result (λ text. text.items ≡ text_of N CAP machine.now.machine) }
-    ensures read { IfOk result (λ text. read_image N CAP text.items ≡ Ok (without_logs N machine.now.machine)) }
+pub fn dump<S: Sizes>(alloc: Global, machine: &MachineOf<S>) -> Result<Vec<u8>, NoMemory>
+    ensures value { IfOk result (λ text. text.items ≡ text_of S.n S.cap machine.now.machine) }
+    ensures read { IfOk result (λ text. read_image S.n S.cap text.items ≡ Ok (without_logs S.n machine.now.machine)) }
 {
     sizes(machine);
     text_is_read(machine);
@@ -64,8 +61,8 @@ pub fn dump<const N: usize, const CAP: usize>(
 }
 
 /// The text of a machine is read as the machine without its logs.
-fn text_is_read<const N: usize, const CAP: usize>(machine: &Machine<N, CAP>)
-    ensures { read_image N CAP (text_of N CAP machine.now.machine) ≡ Ok (without_logs N machine.now.machine) }
+fn text_is_read<S: Sizes>(machine: &MachineOf<S>)
+    ensures { read_image S.n S.cap (text_of S.n S.cap machine.now.machine) ≡ Ok (without_logs S.n machine.now.machine) }
 {
     let _ = machine.clock();
     texts_leave_out_logs();
@@ -89,11 +86,11 @@ impl Sink for Nowhere {
 }
 
 /// What an image has before its chips: header, counter, cut wires.
-pub(crate) fn push_front<const N: usize, const CAP: usize>(
+pub(crate) fn push_front<S: Sizes>(
     text: &mut Vec<u8>,
-    machine: &Machine<N, CAP>,
+    machine: &MachineOf<S>,
 ) -> Result<(), NoMemory>
-    ensures ok { OnOk result (text.new.items ≡ text.old.items ++ front_text N CAP machine.now.machine) }
+    ensures ok { OnOk result (text.new.items ≡ text.old.items ++ front_text S.n S.cap machine.now.machine) }
     ensures capacity { vec_capacity text.old ≤ vec_capacity text.new }
     ensures grows { OnOk result (length text.new.items ≤ length text.old.items + 80000) }
     ensures full { OnErr result (vec_capacity text.old < length text.old.items + 80000) }
@@ -103,16 +100,18 @@ pub(crate) fn push_front<const N: usize, const CAP: usize>(
     let cuts = routing.cuts.edges();
     let version = version_of(routing.rule, cuts);
     cuts_are_few();
-    push_head(text, version, N, CAP, routing.rule)?;
+    let n = usize::from(machine.dims());
+    let cap = usize::from(machine.room());
+    push_head(text, version, n, cap, routing.rule)?;
     push_u64(text, cycles)?;
     push_cuts(text, version, cuts)?;
     Ok(())
 }
 
 /// How many bytes the image has, so that its list need not grow.
-fn text_len<const N: usize, const CAP: usize>(machine: &Machine<N, CAP>, counts: &[u16]) -> usize
-    requires counts { AreCounted (2 ^ N) machine.now.machine.chips 4096 counts.now }
-    ensures value { result ≡ length (text_of N CAP machine.now.machine) }
+fn text_len<S: Sizes>(machine: &MachineOf<S>, counts: &[u16]) -> usize
+    requires counts { AreCounted (2 ^ S.n) machine.now.machine.chips 4096 counts.now }
+    ensures value { result ≡ length (text_of S.n S.cap machine.now.machine) }
 {
     sizes(machine);
     let routing = machine.routing();
@@ -123,15 +122,15 @@ fn text_len<const N: usize, const CAP: usize>(machine: &Machine<N, CAP>, counts:
 }
 
 /// How many bytes it has of the chips.
-fn chips_len<const N: usize, const CAP: usize>(machine: &Machine<N, CAP>, counts: &[u16]) -> usize
-    requires dimension { N ≤ 12 }
-    requires room { CAP ≤ 15 }
-    requires counts { AreCounted (2 ^ N) machine.now.machine.chips 4096 counts.now }
-    ensures value { result ≡ length (chips_text machine.now.machine 0 (2 ^ N)) }
+fn chips_len<S: Sizes>(machine: &MachineOf<S>, counts: &[u16]) -> usize
+    requires dimension { S.n ≤ 12 }
+    requires room { S.cap ≤ 15 }
+    requires counts { AreCounted (2 ^ S.n) machine.now.machine.chips 4096 counts.now }
+    ensures value { result ≡ length (chips_text machine.now.machine 0 (2 ^ S.n)) }
     ensures within { result ≤ 4096 * 300000 }
 {
     let mut len = 0;
-    let count = chip_count::<N>();
+    let count = machine.chip_count();
     for c in 0..count {
         len += chip_len(counts[usize::from(c)], machine.buffer(c));
     }

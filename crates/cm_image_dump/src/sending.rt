@@ -14,10 +14,9 @@ ghost use Rattle.cm_image_dump.specs.Sending.{StandNear, StandsNear, is_dump_wri
 use crate::counts::{addresses_in_use, listed_planes};
 use crate::dense::{TILE_PLANES, push_dense_chip, write_tile};
 use crate::dumps::{push_front, push_sparse_chip};
-use cm_array::Machine;
+use cm_array::{MachineOf, Sizes};
 use cm_bits::{NoMemory, Plane, Sink, write_all};
 use cm_element::{PITCH, Run};
-use cm_image_fields::chip_count;
 use std::alloc::Global;
 use thiserror::Error;
 
@@ -61,11 +60,8 @@ pub(crate) enum Near {
 
 impl DumpRoom {
     /// The room for the image of this machine.
-    pub fn of<const N: usize, const CAP: usize>(
-        alloc: Global,
-        machine: &Machine<N, CAP>,
-    ) -> Result<DumpRoom, NoMemory>
-        ensures value { IfOk result (IsRoomOf N machine.now.machine) }
+    pub fn of<S: Sizes>(alloc: Global, machine: &MachineOf<S>) -> Result<DumpRoom, NoMemory>
+        ensures value { IfOk result (IsRoomOf S.n machine.now.machine) }
     {
         let DumpRoom {
             counts,
@@ -83,11 +79,11 @@ impl DumpRoom {
     }
 
     /// The same, but none for bytes that wait.
-    pub(crate) fn without_text<const N: usize, const CAP: usize>(
+    pub(crate) fn without_text<S: Sizes>(
         alloc: Global,
-        machine: &Machine<N, CAP>,
+        machine: &MachineOf<S>,
     ) -> Result<DumpRoom, NoMemory>
-        ensures value { IfOk result (IsLaidOutFor N machine.now.machine) }
+        ensures value { IfOk result (IsLaidOutFor S.n machine.now.machine) }
     {
         sizes(machine);
         let counts = listed_planes(alloc, machine)?;
@@ -103,8 +99,8 @@ impl DumpRoom {
 }
 
 /// A machine has at most 4,096 chips, with room for at most 15 messages each.
-pub(crate) fn sizes<const N: usize, const CAP: usize>(machine: &Machine<N, CAP>)
-    ensures { AreSizes N CAP }
+pub(crate) fn sizes<S: Sizes>(machine: &MachineOf<S>)
+    ensures { AreSizes S.n S.cap }
 {
     let _ = machine.clock();
 }
@@ -120,16 +116,17 @@ fn room_near(alloc: Global, rows: usize) -> Result<Near, NoMemory>
 }
 
 /// Writes the image of a machine, its one text, piece by piece. Its logs are not in it.
-pub fn dump_into<const N: usize, const CAP: usize, O: Sink>(
-    machine: &Machine<N, CAP>,
+pub fn dump_into<S: Sizes, O: Sink>(
+    machine: &MachineOf<S>,
     room: DumpRoom,
     sink: &mut O,
 ) -> Result<(), DumpFault>
-    requires room { IsRoomOf N machine.now.machine room }
+    requires room { IsRoomOf S.n machine.now.machine room }
     requires working { O.has_failed sink.old ≡ false }
-    ensures ok { OnOk result (Appends (O.contents sink.old) (O.contents sink.new) (text_of N CAP machine.now.machine)) }
+    ensures ok { OnOk result (Appends (O.contents sink.old) (O.contents sink.new)
+        (text_of S.n S.cap machine.now.machine)) }
     ensures err { IfErr result (λ _. GoesOutInPart (O.contents sink.old) (O.contents sink.new)
-        (text_of N CAP machine.now.machine)) }
+        (text_of S.n S.cap machine.now.machine)) }
     ensures failed { O.has_failed sink.new ≡ is_dump_write result }
     ensures memory { ¬ IsErrOf result DumpFault.Memory }
 {
@@ -156,13 +153,13 @@ pub fn dump_into<const N: usize, const CAP: usize, O: Sink>(
 
 /// A machine whose image is written: how many planes of each chip are listed, and at which addresses.
 #[derive(Clone, Copy)]
-pub(crate) struct ListedMachine<'a, const N: usize, const CAP: usize> {
-    pub(crate) machine: &'a Machine<N, CAP>,
+pub(crate) struct ListedMachine<'a, S: Sizes> {
+    pub(crate) machine: &'a MachineOf<S>,
     pub(crate) counts: &'a [u16],
     pub(crate) addresses: &'a [u16],
 }
 
-impl<'a, const N: usize, const CAP: usize> ListedMachine<'a, N, CAP> {
+impl<'a, S: Sizes> ListedMachine<'a, S> {
     /// What an image has of each chip, by number, behind what waits, which goes out whenever so many bytes wait: some
     /// chips at a time are laid out near.
     pub(crate) fn send_chips<O: Sink>(
@@ -172,23 +169,23 @@ impl<'a, const N: usize, const CAP: usize> ListedMachine<'a, N, CAP> {
         near: &mut Near,
         piece: usize,
     ) -> Result<(), DumpFault>
-        requires dimension { N ≤ 12 }
-        requires room { CAP ≤ 15 }
-        requires counts { AreCounted (2 ^ N) self.now.machine.now.machine.chips 4096 self.now.counts.now }
-        requires in_use { AreInUse (2 ^ N) self.now.machine.now.machine.chips 4096 self.now.addresses.now }
+        requires dimension { S.n ≤ 12 }
+        requires room { S.cap ≤ 15 }
+        requires counts { AreCounted (2 ^ S.n) self.now.machine.now.machine.chips 4096 self.now.counts.now }
+        requires in_use { AreInUse (2 ^ S.n) self.now.machine.now.machine.chips 4096 self.now.addresses.now }
         requires near { IsNear near.old }
         requires working { O.has_failed sink.old ≡ false }
         ensures ok { OnOk result (GoesOut (O.contents sink.old) (O.contents sink.new)
-            (text.old.items ++ chips_text self.now.machine.now.machine 0 (2 ^ N)) text.new.items) }
+            (text.old.items ++ chips_text self.now.machine.now.machine 0 (2 ^ S.n)) text.new.items) }
         ensures err { IfErr result (λ _. GoesOutInPart (O.contents sink.old) (O.contents sink.new)
-            (text.old.items ++ chips_text self.now.machine.now.machine 0 (2 ^ N))) }
+            (text.old.items ++ chips_text self.now.machine.now.machine 0 (2 ^ S.n))) }
         ensures failed { O.has_failed sink.new ≡ is_dump_write result }
         ensures capacity { vec_capacity text.old ≤ vec_capacity text.new }
         ensures waits { OnOk result (length text.old.items ≤ piece → length text.new.items ≤ piece) }
         ensures memory { length text.old.items ≤ piece → piece + 20000 ≤ vec_capacity text.old
             → ¬ IsErrOf result DumpFault.Memory }
     {
-        let count = chip_count::<N>();
+        let count = self.machine.chip_count();
         let mut first = 0;
         while first < count {
             let some = TILE.min(count - first);
@@ -212,10 +209,10 @@ impl<'a, const N: usize, const CAP: usize> ListedMachine<'a, N, CAP> {
         some: u16,
         piece: usize,
     ) -> Result<(), DumpFault>
-        requires room { CAP ≤ 15 }
-        requires counts { AreCounted (2 ^ N) self.now.machine.now.machine.chips 4096 self.now.counts.now }
-        requires in_use { AreInUse (2 ^ N) self.now.machine.now.machine.chips 4096 self.now.addresses.now }
-        requires chips { first + some ≤ 2 ^ N }
+        requires room { S.cap ≤ 15 }
+        requires counts { AreCounted (2 ^ S.n) self.now.machine.now.machine.chips 4096 self.now.counts.now }
+        requires in_use { AreInUse (2 ^ S.n) self.now.machine.now.machine.chips 4096 self.now.addresses.now }
+        requires chips { first + some ≤ 2 ^ S.n }
         requires within { first + some < 65536 }
         requires near { StandNear self.now.machine.now.machine first some near.now }
         requires working { O.has_failed sink.old ≡ false }
@@ -249,10 +246,10 @@ impl<'a, const N: usize, const CAP: usize> ListedMachine<'a, N, CAP> {
         place: u16,
         number: u16,
     ) -> Result<(), NoMemory>
-        requires room { CAP ≤ 15 }
-        requires counts { AreCounted (2 ^ N) self.now.machine.now.machine.chips 4096 self.now.counts.now }
-        requires in_use { AreInUse (2 ^ N) self.now.machine.now.machine.chips 4096 self.now.addresses.now }
-        requires chip { number < 2 ^ N }
+        requires room { S.cap ≤ 15 }
+        requires counts { AreCounted (2 ^ S.n) self.now.machine.now.machine.chips 4096 self.now.counts.now }
+        requires in_use { AreInUse (2 ^ S.n) self.now.machine.now.machine.chips 4096 self.now.addresses.now }
+        requires chip { number < 2 ^ S.n }
         requires near { StandsNear self.now.machine.now.machine number place near.now }
         ensures ok { OnOk result (text.new.items ≡ text.old.items ++ chip_text (image_of_chip
             (chip_at self.now.machine.now.machine.chips number)
@@ -282,14 +279,9 @@ impl<'a, const N: usize, const CAP: usize> ListedMachine<'a, N, CAP> {
 
 impl Near {
     /// Lays out so many chips of a machine, from `first` on.
-    fn lay_out<const N: usize, const CAP: usize>(
-        &mut self,
-        machine: &Machine<N, CAP>,
-        first: u16,
-        some: u16,
-    )
+    fn lay_out<S: Sizes>(&mut self, machine: &MachineOf<S>, first: u16, some: u16)
         requires near { IsNear self.old }
-        requires chips { first + some ≤ 2 ^ N }
+        requires chips { first + some ≤ 2 ^ S.n }
         requires few { some ≤ 64 }
         ensures near { IsNear self.new }
         ensures value { StandNear machine.now.machine first some self.new }

@@ -10,23 +10,23 @@ ghost use Rattle.cm_image_format.specs.Cuts.{routing_part};
 ghost use Rattle.cm_image_fields.specs.Cuts.{header_of, with_routing, with_cuts};
 
 use crate::header::Header;
-use crate::numbers::{chip_count, push_u8, push_u16, take_chip_number, take_u8, take_u16};
-use cm_array::Builder;
+use crate::numbers::{push_u8, push_u16, take_chip_number, take_u8, take_u16};
+use cm_array::{BuilderOf, Sizes};
 use cm_bits::{Edge, NoMemory};
 use cm_image_format::ImageFault;
 use cm_message::Rule;
 
 /// Lets a machine route as its image tells behind this header, and gives the bytes after that.
-pub fn take_routing<'a, const N: usize, const CAP: usize>(
-    builder: &mut Builder<N, CAP>,
+pub fn take_routing<'a, S: Sizes>(
+    builder: &mut BuilderOf<S>,
     header: Header,
     bytes: &'a [u8],
 ) -> Result<&'a [u8], ImageFault>
-    requires dimension { N ≤ 12 }
+    requires dimension { S.n ≤ 12 }
     requires plain { builder.old.routing ≡ plain_routing }
-    ensures ok { IfOk result (λ rest. made (with_routing builder.old) (routing_part N (header_of N CAP header).0)
+    ensures ok { IfOk result (λ rest. made (with_routing builder.old) (routing_part S.n (header_of S.n S.cap header).0)
         bytes.now ≡ Ok (builder.new, rest.now)) }
-    ensures refused { IfErr result (λ fault. routing_part N (header_of N CAP header).0 bytes.now ≡ Err fault) }
+    ensures refused { IfErr result (λ fault. routing_part S.n (header_of S.n S.cap header).0 bytes.now ≡ Err fault) }
 {
     builder.rule(header.rule);
     if header.version == 1 {
@@ -36,25 +36,26 @@ pub fn take_routing<'a, const N: usize, const CAP: usize>(
 }
 
 /// Cuts the wires that are listed behind their count, under this rule, and gives the bytes after them.
-fn take_cuts<'a, const N: usize, const CAP: usize>(
-    builder: &mut Builder<N, CAP>,
+fn take_cuts<'a, S: Sizes>(
+    builder: &mut BuilderOf<S>,
     rule: Rule,
     bytes: &'a [u8],
 ) -> Result<&'a [u8], ImageFault>
-    requires dimension { N ≤ 12 }
+    requires dimension { S.n ≤ 12 }
     requires none { builder.old.routing.cuts ≡ [] }
-    ensures ok { IfOk result (λ rest. made (with_cuts builder.old) (listed_cuts_part N (rule_number rule)) bytes.now
+    ensures ok { IfOk result (λ rest. made (with_cuts builder.old) (listed_cuts_part S.n (rule_number rule)) bytes.now
         ≡ Ok (builder.new, rest.now)) }
-    ensures refused { IfErr result (λ fault. listed_cuts_part N (rule_number rule) bytes.now ≡ Err fault) }
+    ensures refused { IfErr result (λ fault. listed_cuts_part S.n (rule_number rule) bytes.now ≡ Err fault) }
 {
     let (count, mut rest) = take_u16(bytes)?;
-    if !is_cut_count::<N>(rule, count) {
+    let n = usize::from(builder.dims());
+    if !is_cut_count::<S>(n, rule, count) {
         return Err(ImageFault::Count);
     }
-    let chips = chip_count::<N>();
+    let chips = builder.chip_count();
     let mut least = 0;
     for i in 0..count {
-        let (chip, dim, after) = take_cut(N, chips, least, rest)?;
+        let (chip, dim, after) = take_cut::<S>(n, chips, least, rest)?;
         builder.cut(Edge::new(chip, dim).unwrap());
         least = chip * 16 + u16::from(dim) + 1;
         rest = after;
@@ -63,24 +64,31 @@ fn take_cuts<'a, const N: usize, const CAP: usize>(
 }
 
 /// Whether an image may list so many wires: under the first rule there has to be one.
-fn is_cut_count<const N: usize>(rule: Rule, count: u16) -> bool
-    requires dimension { N ≤ 12 }
-    ensures value { result ≡ is_cut_count N (rule_number rule) count }
+fn is_cut_count<S: Sizes>(n: usize, rule: Rule, count: u16) -> bool
+    requires n { n ≡ S.n }
+    requires dimension { S.n ≤ 12 }
+    ensures value { result ≡ is_cut_count S.n (rule_number rule) count }
 {
-    usize::from(count) <= N * (1 << N) / 2 && !(count == 0 && rule.number() == 0)
+    usize::from(count) <= n * (1 << n) / 2 && !(count == 0 && rule.number() == 0)
 }
 
 /// A wire by its lower chip and its dimension, and the bytes after it. As a number the pair is this one or above it.
-fn take_cut(n: usize, chips: u16, least: u16, bytes: &[u8]) -> Result<(u16, u8, &[u8]), ImageFault>
-    requires dimension { n ≤ 12 }
-    requires cube { chips ≡ 2 ^ n }
+fn take_cut<S: Sizes>(
+    n: usize,
+    chips: u16,
+    least: u16,
+    bytes: &[u8],
+) -> Result<(u16, u8, &[u8]), ImageFault>
+    requires n { n ≡ S.n }
+    requires dimension { S.n ≤ 12 }
+    requires cube { chips ≡ 2 ^ S.n }
     requires few { chips ≤ 4096 }
     ensures value { Gives (λ x. (record { chip = x.0; dim = x.1 }, x.2.now)) result
-        (cut_part n least bytes.now) }
-    ensures wire { IfOk result (λ x. IsWireOf n (record { chip = x.0; dim = x.1 })) }
+        (cut_part S.n least bytes.now) }
+    ensures wire { IfOk result (λ x. IsWireOf S.n (record { chip = x.0; dim = x.1 })) }
     ensures above { IfOk result (λ x. least ≤ x.0 * 16 + x.1) }
 {
-    let (chip, rest) = take_chip_number(n, chips, bytes)?;
+    let (chip, rest) = take_chip_number::<S>(chips, bytes)?;
     let (dim, rest) = take_u8(rest)?;
     if usize::from(dim) >= n || chip >> dim & 1 == 1 {
         return Err(ImageFault::Value);

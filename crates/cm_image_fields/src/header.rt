@@ -11,6 +11,7 @@ ghost use Rattle.cm_image_format.specs.Whole.{read_shape};
 ghost use Rattle.cm_image_fields.specs.Cuts.{header_of};
 
 use crate::numbers::{push_u8, push_u32, take_u8, take_u32, take_u64};
+use cm_array::Sizes;
 use cm_bits::NoMemory;
 use cm_image_format::ImageFault;
 use cm_message::Rule;
@@ -49,10 +50,16 @@ pub fn shape(bytes: &[u8]) -> Result<(u8, u8), ImageFault>
     Ok((dimension, room))
 }
 
-/// The header of an image of this dimension and room, and the bytes after it.
-pub fn take_header(n: usize, cap: usize, bytes: &[u8]) -> Result<(Header, &[u8]), ImageFault>
-    ensures value { Gives (λ x. (header_of n cap x.0, x.1.now)) result (header_part n cap bytes.now) }
-    ensures sizes { IsOk result → AreSizes n cap }
+/// The header of an image of these sizes, and the bytes after it.
+pub fn take_header<S: Sizes>(
+    n: usize,
+    cap: usize,
+    bytes: &[u8],
+) -> Result<(Header, &[u8]), ImageFault>
+    requires n { n ≡ S.n }
+    requires cap { cap ≡ S.cap }
+    ensures value { Gives (λ x. (header_of S.n S.cap x.0, x.1.now)) result (header_part S.n S.cap bytes.now) }
+    ensures sizes { IsOk result → AreSizes S.n S.cap }
     ensures early { IfOk result (λ x. x.0.clock < 2 ^ 63) }
 {
     let (_, rest) = take_magic(bytes)?;

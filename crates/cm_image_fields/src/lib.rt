@@ -11,7 +11,7 @@ pub use cuts::{cuts_len, push_cuts, take_routing, version_of};
 pub use eights::{AT_ONCE, EIGHT_LEN, eight_at, eight_from, put_eight};
 pub use header::{Header, push_head, shape, take_header};
 pub use numbers::{
-    chip_count, push, push_u8, push_u16, push_u64, push_zeros, take_chip_number, take_u8, take_u16,
-    take_u32, take_u64,
+    push, push_u8, push_u16, push_u64, push_zeros, take_chip_number, take_u8, take_u16, take_u32,
+    take_u64,
 };
 pub use planes::{BLANK_CHIP_LEN, LISTING_LEN, take_flags, take_memory};

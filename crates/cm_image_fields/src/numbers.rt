@@ -6,6 +6,7 @@ ghost use Rattle.cm_message.specs.Bytes.{number_bytes};
 ghost use Rattle.cm_image_format.specs.Reading.{Gives, number_at};
 ghost use Rattle.cm_image_format.specs.Cuts.{chip_number_part};
 
+use cm_array::Sizes;
 use cm_bits::NoMemory;
 use cm_image_format::ImageFault;
 
@@ -59,19 +60,10 @@ pub fn take_u64(bytes: &[u8]) -> Result<(u64, &[u8]), ImageFault>
     Ok((number, &bytes[8..]))
 }
 
-/// The chips of a cube of N dimensions.
-pub fn chip_count<const N: usize>() -> u16
-    requires dimension { N ≤ 12 }
-    ensures value { result ≡ 2 ^ N }
-    ensures few { result ≤ 4096 }
-{
-    1 << N
-}
-
 /// The number of one of so many chips, and the bytes after it.
-pub fn take_chip_number(n: usize, chips: u16, bytes: &[u8]) -> Result<(u16, &[u8]), ImageFault>
-    requires cube { chips ≡ 2 ^ n }
-    ensures value { Gives (λ x. (x.0, x.1.now)) result (chip_number_part n bytes.now) }
+pub fn take_chip_number<S: Sizes>(chips: u16, bytes: &[u8]) -> Result<(u16, &[u8]), ImageFault>
+    requires cube { chips ≡ 2 ^ S.n }
+    ensures value { Gives (λ x. (x.0, x.1.now)) result (chip_number_part S.n bytes.now) }
     ensures below { IfOk result (λ x. x.0 < chips) }
 {
     let (chip, rest) = take_u16(bytes)?;

@@ -6,7 +6,7 @@ ghost use Rattle.cm_image_format.specs.Image.{flag_part, listed_part, flags_part
 ghost use Rattle.cm_image_fields.specs.Memory.{with_listed};
 
 use crate::numbers::take_u16;
-use cm_array::Builder;
+use cm_array::{BuilderOf, Sizes};
 use cm_bits::{Addr, Plane};
 use cm_image_format::ImageFault;
 
@@ -63,12 +63,12 @@ fn take_listed(least: u16, bytes: &[u8]) -> Result<(u16, Plane, &[u8]), ImageFau
 }
 
 /// Puts the memory planes that are listed into a chip, and gives the bytes after them.
-pub fn take_memory<'a, const N: usize, const CAP: usize>(
-    builder: &mut Builder<N, CAP>,
+pub fn take_memory<'a, S: Sizes>(
+    builder: &mut BuilderOf<S>,
     chip: u16,
     bytes: &'a [u8],
 ) -> Result<&'a [u8], ImageFault>
-    requires chip { chip < 2 ^ N }
+    requires chip { chip < 2 ^ S.n }
     ensures ok { IfOk result (λ rest. made (λ listed. fold (with_listed chip) builder.old listed) memory_part bytes.now
         ≡ Ok (builder.new, rest.now)) }
     ensures refused { IfErr result (λ fault. memory_part bytes.now ≡ Err fault) }

@@ -10,6 +10,6 @@ mod waiting_chips;
 
 pub use cm_image_fields::shape;
 pub use cm_image_format::ImageFault;
-pub use loads::load;
+pub use loads::{load, load_of};
 pub use pieces::{PIECE, SourceFault, take_rest};
 pub use sourced::{load_source, shapes_go_on};

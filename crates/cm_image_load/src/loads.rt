@@ -10,7 +10,7 @@ ghost use Rattle.cm_image_load.specs.WaitingChips.{with_waiting};
 
 use crate::chips::take_chips;
 use crate::waiting_chips::WaitingChips;
-use cm_array::{BuildFault, Builder, Machine};
+use cm_array::{BuildFault, BuilderOf, Machine, MachineOf, Sizes};
 use cm_image_fields::{Header, take_header, take_routing};
 use cm_image_format::ImageFault;
 use std::alloc::Global;
@@ -26,9 +26,26 @@ pub fn load<const N: usize, const CAP: usize>(
     ensures refused { IfErr result (λ fault. fault ≢ ImageFault.Memory → image_fault N CAP bytes.now ≡ Some fault) }
     ensures otherwise { image_fault N CAP bytes.now ≡ None → IsOkUnless result ImageFault.Memory }
 {
-    let (header, behind) = take_header(N, CAP, bytes)?;
+    load_of(alloc, N, CAP, bytes)
+}
+
+/// The same, of a machine of 2^`n` chips whose routers have room for `cap` messages each.
+pub fn load_of<S: Sizes>(
+    alloc: Global,
+    n: usize,
+    cap: usize,
+    bytes: &[u8],
+) -> Result<MachineOf<S>, ImageFault>
+    requires n { n ≡ S.n }
+    requires cap { cap ≡ S.cap }
+    ensures value { IfOk result (λ kept. read_image S.n S.cap bytes.now ≡ Ok kept.machine) }
+    ensures header { IfSome (header_fault S.n S.cap bytes.now) (λ fault. IsErrOf result fault) }
+    ensures refused { IfErr result (λ fault. fault ≢ ImageFault.Memory → image_fault S.n S.cap bytes.now ≡ Some fault) }
+    ensures otherwise { image_fault S.n S.cap bytes.now ≡ None → IsOkUnless result ImageFault.Memory }
+{
+    let (header, behind) = take_header::<S>(n, cap, bytes)?;
     // The header has this machine's sizes, so that only memory can be wanting.
-    let Ok(mut builder) = Builder::start(alloc, header.clock) else {
+    let Ok(mut builder) = BuilderOf::start_of(alloc, n, cap, header.clock) else {
         return Err(ImageFault::Memory);
     };
     let Ok(waiting) = WaitingChips::new(alloc) else {
@@ -39,25 +56,25 @@ pub fn load<const N: usize, const CAP: usize>(
 }
 
 /// The machine of an image whose chips are put in, or wait, up to this one, and are in these bytes from it on.
-pub(crate) fn finish<const N: usize, const CAP: usize>(
-    mut builder: Builder<N, CAP>,
+pub(crate) fn finish<S: Sizes>(
+    mut builder: BuilderOf<S>,
     mut waiting: WaitingChips,
     first: u16,
     header: Header,
     bytes: &[u8],
-) -> Result<Machine<N, CAP>, ImageFault>
-    requires dimension { N ≤ 12 }
-    requires first { first ≤ 2 ^ N }
+) -> Result<MachineOf<S>, ImageFault>
+    requires dimension { S.n ≤ 12 }
+    requires first { first ≤ 2 ^ S.n }
     requires waiting { length waiting ≤ first }
-    requires blank { IsBlankFrom N first (with_waiting first builder waiting) }
+    requires blank { IsBlankFrom S.n first (with_waiting first builder waiting) }
     requires clock { builder.clock ≡ header.clock }
-    ensures value { IfOk result (λ kept. (whole : List ℕ) → IsReadTo N CAP (header_of N CAP header) first
-        (with_waiting first builder.entry waiting) bytes.now whole → read_image N CAP whole ≡ Ok kept.machine) }
-    ensures refused { IfErr result (λ fault. fault ≢ ImageFault.Memory → (whole : List ℕ) → IsReadTo N CAP
-        (header_of N CAP header) first (with_waiting first builder.entry waiting) bytes.now whole
-        → read_image N CAP whole ≡ Err fault) }
-    ensures otherwise { (whole : List ℕ) → IsReadTo N CAP (header_of N CAP header) first
-        (with_waiting first builder.entry waiting) bytes.now whole → image_fault N CAP whole ≡ None
+    ensures value { IfOk result (λ kept. (whole : List ℕ) → IsReadTo S.n S.cap (header_of S.n S.cap header) first
+        (with_waiting first builder waiting) bytes.now whole → read_image S.n S.cap whole ≡ Ok kept.machine) }
+    ensures refused { IfErr result (λ fault. fault ≢ ImageFault.Memory → (whole : List ℕ) → IsReadTo S.n S.cap
+        (header_of S.n S.cap header) first (with_waiting first builder waiting) bytes.now whole
+        → read_image S.n S.cap whole ≡ Err fault) }
+    ensures otherwise { (whole : List ℕ) → IsReadTo S.n S.cap (header_of S.n S.cap header) first
+        (with_waiting first builder waiting) bytes.now whole → image_fault S.n S.cap whole ≡ None
         → IsOkUnless result ImageFault.Memory }
 {
     let rest = take_chips(&mut builder, &mut waiting, first, header.clock, bytes)?;
@@ -69,14 +86,12 @@ pub(crate) fn finish<const N: usize, const CAP: usize>(
 }
 
 /// The machine that was built, if no two of its messages have one tag.
-fn finished<const N: usize, const CAP: usize>(
-    builder: Builder<N, CAP>,
-) -> Result<Machine<N, CAP>, ImageFault>
-    ensures value { IfOk result (λ kept. kept.machine ≡ builder.entry) }
-    ensures once { IsOk result → has_tag_twice (standing_messages builder.entry) ≡ false }
+fn finished<S: Sizes>(builder: BuilderOf<S>) -> Result<MachineOf<S>, ImageFault>
+    ensures value { IfOk result (λ kept. kept.machine ≡ builder) }
+    ensures once { IsOk result → has_tag_twice (standing_messages builder) ≡ false }
     ensures twice { IfErr result (λ fault. fault ≢ ImageFault.Memory
-        → (fault ≡ ImageFault.TagTwice) × (has_tag_twice (standing_messages builder.entry) ≡ true)) }
-    ensures otherwise { has_tag_twice (standing_messages builder.entry) ≡ false
+        → (fault ≡ ImageFault.TagTwice) × (has_tag_twice (standing_messages builder) ≡ true)) }
+    ensures otherwise { has_tag_twice (standing_messages builder) ≡ false
         → IsOkUnless result ImageFault.Memory }
 {
     match builder.done() {

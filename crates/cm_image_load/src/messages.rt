@@ -6,7 +6,7 @@ ghost use Rattle.cm_image_format.specs.Reading.{Gives, made};
 ghost use Rattle.cm_image_format.specs.Image.{processor_part, message_part, messages_part};
 ghost use Rattle.cm_image_load.specs.Chips.{with_message};
 
-use cm_array::Builder;
+use cm_array::{BuilderOf, Sizes};
 use cm_bits::Proc;
 use cm_image_fields::{take_chip_number, take_u8, take_u32, take_u64};
 use cm_image_format::ImageFault;
@@ -22,25 +22,22 @@ fn take_processor(bytes: &[u8]) -> Result<(u8, &[u8]), ImageFault>
     Ok((proc, rest))
 }
 
-/// A message of a cube of so many chips, born before this count of petit cycles. It is not inlined, since the code that
-/// calls it is compiled for each size of machine.
-#[inline(never)]
-fn take_message(
-    n: usize,
+/// A message of a cube of so many chips, born before this count of petit cycles.
+fn take_message<S: Sizes>(
     chips: u16,
     clock: u64,
     bytes: &[u8],
 ) -> Result<(Message, &[u8]), ImageFault>
-    requires cube { chips ≡ 2 ^ n }
-    ensures value { Gives (λ x. (x.0, x.1.now)) result (message_part n clock bytes.now) }
+    requires cube { chips ≡ 2 ^ S.n }
+    ensures value { Gives (λ x. (x.0, x.1.now)) result (message_part S.n clock bytes.now) }
     ensures rel { IfOk result (λ x. x.0.rel < chips) }
     ensures origin { IfOk result (λ x. x.0.tag.chip < chips) }
     ensures born { IfOk result (λ x. x.0.tag.birth < clock) }
 {
-    let (rel, rest) = take_chip_number(n, chips, bytes)?;
+    let (rel, rest) = take_chip_number::<S>(chips, bytes)?;
     let (proc, rest) = take_processor(rest)?;
     let (payload, rest) = take_u32(rest)?;
-    let (chip, rest) = take_chip_number(n, chips, rest)?;
+    let (chip, rest) = take_chip_number::<S>(chips, rest)?;
     let (origin, rest) = take_processor(rest)?;
     let (birth, rest) = take_u64(rest)?;
     if birth >= clock {
@@ -65,28 +62,28 @@ fn take_message(
 }
 
 /// Puts the messages of a chip into its buffer, and gives the bytes after them.
-pub(crate) fn take_messages<'a, const N: usize, const CAP: usize>(
-    builder: &mut Builder<N, CAP>,
+pub(crate) fn take_messages<'a, S: Sizes>(
+    builder: &mut BuilderOf<S>,
     chip: u16,
     chips: u16,
     clock: u64,
     bytes: &'a [u8],
 ) -> Result<&'a [u8], ImageFault>
-    requires cube { chips ≡ 2 ^ N }
+    requires cube { chips ≡ 2 ^ S.n }
     requires chip { chip < chips }
-    requires buffer_count { length builder.old.buffers ≡ 2 ^ N }
+    requires buffer_count { length builder.old.buffers ≡ 2 ^ S.n }
     requires none { nth_or_nil builder.old.buffers chip ≡ [] }
     requires clock { builder.old.clock ≡ clock }
     ensures ok { IfOk result (λ rest. made (λ messages. fold (with_message chip) builder.old messages)
-        (messages_part N CAP clock) bytes.now ≡ Ok (builder.new, rest.now)) }
-    ensures refused { IfErr result (λ fault. messages_part N CAP clock bytes.now ≡ Err fault) }
+        (messages_part S.n S.cap clock) bytes.now ≡ Ok (builder.new, rest.now)) }
+    ensures refused { IfErr result (λ fault. messages_part S.n S.cap clock bytes.now ≡ Err fault) }
 {
     let (count, mut rest) = take_u8(bytes)?;
-    if usize::from(count) > CAP {
+    if count > builder.room() {
         return Err(ImageFault::Count);
     }
     for i in 0..count {
-        match take_message(N, chips, clock, rest) {
+        match take_message::<S>(chips, clock, rest) {
             Ok((message, after)) => {
                 builder.message(chip, message);
                 rest = after;
@@ -98,18 +95,19 @@ pub(crate) fn take_messages<'a, const N: usize, const CAP: usize>(
 }
 
 /// Whether the messages of a chip stand at the front of bytes without a fault.
-pub(crate) fn are_messages(n: usize, cap: usize, chips: u16, clock: u64, bytes: &[u8]) -> bool
-    requires cube { chips ≡ 2 ^ n }
-    ensures value { result ≡ true → IsOk (messages_part n cap clock bytes.now) }
+pub(crate) fn are_messages<S: Sizes>(room: u8, chips: u16, clock: u64, bytes: &[u8]) -> bool
+    requires room { room ≡ S.cap }
+    requires cube { chips ≡ 2 ^ S.n }
+    ensures value { result ≡ true → IsOk (messages_part S.n S.cap clock bytes.now) }
 {
     let Ok((count, mut rest)) = take_u8(bytes) else {
         return false;
     };
-    if usize::from(count) > cap {
+    if count > room {
         return false;
     }
     for i in 0..count {
-        let Ok((_, after)) = take_message(n, chips, clock, rest) else {
+        let Ok((_, after)) = take_message::<S>(chips, clock, rest) else {
             return false;
         };
         rest = after;

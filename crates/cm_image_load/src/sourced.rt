@@ -9,35 +9,40 @@ ghost use Rattle.cm_image_load.specs.Pieces.{GivesRest, IsStopped, ShapesGoOn};
 ghost use Rattle.cm_image_load.specs.WaitingChips.{with_waiting};
 
 use crate::chips::take_full_chips;
-use crate::loads::{finish, load};
+use crate::loads::{finish, load_of};
 use crate::pieces::{SourceFault, Window, take_rest};
 use crate::waiting_chips::{WaitingChips, lists_all};
-use cm_array::{Builder, Machine};
+use cm_array::{BuilderOf, MachineOf, Sizes};
 use cm_bits::Source;
 use cm_image_fields::{Header, take_header, take_routing};
 use cm_image_format::ImageFault;
 use std::alloc::Global;
 
-/// The machine whose image these bytes are and all that a source has behind them, at most so many. While all memory
-/// planes of chips are listed, bytes are held no longer than it takes to put them into the machine.
-pub fn load_source<const N: usize, const CAP: usize, I: Source>(
+/// The machine of 2^`n` chips, whose routers have room for `cap` messages each, whose image these bytes are and all
+/// that a source has behind them, at most so many. While all memory planes of chips are listed, bytes are held no
+/// longer than it takes to put them into the machine.
+pub fn load_source<S: Sizes, I: Source>(
     alloc: Global,
+    n: usize,
+    cap: usize,
     front: &[u8],
     source: &mut I,
     most: u64,
-) -> Result<Machine<N, CAP>, SourceFault>
+) -> Result<MachineOf<S>, SourceFault>
+    requires n { n ≡ S.n }
+    requires cap { cap ≡ S.cap }
     requires few { length front.now ≤ 65536 }
     requires working { I.has_failed source.old ≡ false }
     ensures value { IfOk result (λ kept. GivesRest most (I.left source.old) (I.left source.new)
-        (λ more. read_image N CAP (front.now ++ more) ≡ Ok kept.machine)) }
+        (λ more. read_image S.n S.cap (front.now ++ more) ≡ Ok kept.machine)) }
     ensures refused { IfErr result (IsStopped most (I.left source.old) (I.left source.new)
-        (λ fault more. read_image N CAP (front.now ++ more) ≡ Err fault)) }
+        (λ fault more. read_image S.n S.cap (front.now ++ more) ≡ Err fault)) }
     ensures read { (I.has_failed source.new ≡ true) ↔ IsErrOf result SourceFault.Read }
 {
-    let Ok((header, behind)) = take_header(N, CAP, front) else {
-        return load_held(alloc, front, source, most);
+    let Ok((header, behind)) = take_header::<S>(n, cap, front) else {
+        return load_held(alloc, n, cap, front, source, most);
     };
-    let Ok(mut builder) = Builder::start(alloc, header.clock) else {
+    let Ok(mut builder) = BuilderOf::start_of(alloc, n, cap, header.clock) else {
         return Err(SourceFault::Image(ImageFault::Memory));
     };
     let Ok(waiting) = WaitingChips::new(alloc) else {
@@ -52,26 +57,30 @@ pub fn load_source<const N: usize, const CAP: usize, I: Source>(
             };
             loading.load_chips(alloc, chips, source, most)
         }
-        Err(_) => load_held(alloc, front, source, most),
+        Err(_) => load_held(alloc, n, cap, front, source, most),
     }
 }
 
 /// The same, by all bytes together.
-fn load_held<const N: usize, const CAP: usize, I: Source>(
+fn load_held<S: Sizes, I: Source>(
     alloc: Global,
+    n: usize,
+    cap: usize,
     front: &[u8],
     source: &mut I,
     most: u64,
-) -> Result<Machine<N, CAP>, SourceFault>
+) -> Result<MachineOf<S>, SourceFault>
     requires working { I.has_failed source.old ≡ false }
+    requires n { n ≡ S.n }
+    requires cap { cap ≡ S.cap }
     ensures value { IfOk result (λ kept. GivesRest most (I.left source.old) (I.left source.new)
-        (λ more. read_image N CAP (front.now ++ more) ≡ Ok kept.machine)) }
+        (λ more. read_image S.n S.cap (front.now ++ more) ≡ Ok kept.machine)) }
     ensures refused { IfErr result (IsStopped most (I.left source.old) (I.left source.new)
-        (λ fault more. read_image N CAP (front.now ++ more) ≡ Err fault)) }
+        (λ fault more. read_image S.n S.cap (front.now ++ more) ≡ Err fault)) }
     ensures read { (I.has_failed source.new ≡ true) ↔ IsErrOf result SourceFault.Read }
 {
     let bytes = take_rest(alloc, front, source, most)?;
-    match load(alloc, &bytes) {
+    match load_of(alloc, n, cap, &bytes) {
         Ok(machine) => Ok(machine),
         Err(fault) => Err(SourceFault::Image(fault)),
     }
@@ -79,13 +88,13 @@ fn load_held<const N: usize, const CAP: usize, I: Source>(
 
 /// A machine that is read of an image: what was put into it, the chips that wait, and how the image began.
 #[derive(Drop)]
-struct Loading<const N: usize, const CAP: usize> {
-    builder: Builder<N, CAP>,
+struct Loading<S: Sizes> {
+    builder: BuilderOf<S>,
     waiting: WaitingChips,
     header: Header,
 }
 
-impl<const N: usize, const CAP: usize> Loading<N, CAP> {
+impl<S: Sizes> Loading<S> {
     /// The machine of an image of which no chip was put in yet.
     fn load_chips<I: Source>(
         mut self,
@@ -93,21 +102,21 @@ impl<const N: usize, const CAP: usize> Loading<N, CAP> {
         chips: &[u8],
         source: &mut I,
         most: u64,
-    ) -> Result<Machine<N, CAP>, SourceFault>
+    ) -> Result<MachineOf<S>, SourceFault>
         requires few { length chips.now ≤ 65536 }
-        requires dimension { N ≤ 12 }
+        requires dimension { S.n ≤ 12 }
         requires none { self.waiting ≡ [] }
-        requires blank { IsBlankFrom N 0 self.builder }
+        requires blank { IsBlankFrom S.n 0 self.builder }
         requires clock { self.builder.clock ≡ self.header.clock }
         requires working { I.has_failed source.old ≡ false }
         ensures value { IfOk result (λ kept. GivesRest most (I.left source.old) (I.left source.new)
             (λ more. (whole : List ℕ)
-            → IsReadTo N CAP (header_of N CAP self.entry.header) 0 self.entry.builder (chips.now ++ more) whole
-            → read_image N CAP whole ≡ Ok kept.machine)) }
+            → IsReadTo S.n S.cap (header_of S.n S.cap self.header) 0 self.builder (chips.now ++ more) whole
+            → read_image S.n S.cap whole ≡ Ok kept.machine)) }
         ensures refused { IfErr result (IsStopped most (I.left source.old) (I.left source.new)
             (λ fault more. (whole : List ℕ)
-            → IsReadTo N CAP (header_of N CAP self.entry.header) 0 self.entry.builder (chips.now ++ more) whole
-            → read_image N CAP whole ≡ Err fault)) }
+            → IsReadTo S.n S.cap (header_of S.n S.cap self.header) 0 self.builder (chips.now ++ more) whole
+            → read_image S.n S.cap whole ≡ Err fault)) }
         ensures read { (I.has_failed source.new ≡ true) ↔ IsErrOf result SourceFault.Read }
     {
         let (next, bytes) = self.take_pieces(alloc, chips, source, most)?;
@@ -132,19 +141,19 @@ impl<const N: usize, const CAP: usize> Loading<N, CAP> {
         most: u64,
     ) -> Result<(u16, Vec<u8>), SourceFault>
         requires few { length chips.now ≤ 65536 }
-        requires dimension { N ≤ 12 }
+        requires dimension { S.n ≤ 12 }
         requires none { self.old.waiting ≡ [] }
-        requires blank { IsBlankFrom N 0 self.old.builder }
+        requires blank { IsBlankFrom S.n 0 self.old.builder }
         requires clock { self.old.builder.clock ≡ self.old.header.clock }
         requires working { I.has_failed source.old ≡ false }
         ensures value { IfOk result (λ x. GivesRest most (I.left source.old) (I.left source.new)
             (λ more. (whole : List ℕ)
-            → IsReadTo N CAP (header_of N CAP self.old.header) 0 self.old.builder (chips.now ++ more) whole
-            → IsReadTo N CAP (header_of N CAP self.old.header) x.0
+            → IsReadTo S.n S.cap (header_of S.n S.cap self.old.header) 0 self.old.builder (chips.now ++ more) whole
+            → IsReadTo S.n S.cap (header_of S.n S.cap self.old.header) x.0
             (with_waiting x.0 self.new.builder self.new.waiting) x.1.items whole)) }
-        ensures blank { IfOk result (λ x. IsBlankFrom N x.0 (with_waiting x.0 self.new.builder self.new.waiting)) }
+        ensures blank { IfOk result (λ x. IsBlankFrom S.n x.0 (with_waiting x.0 self.new.builder self.new.waiting)) }
         ensures waiting { IfOk result (λ x. length self.new.waiting ≤ x.0) }
-        ensures within { IfOk result (λ x. x.0 ≤ 2 ^ N) }
+        ensures within { IfOk result (λ x. x.0 ≤ 2 ^ S.n) }
         ensures clock { OnOk result (self.new.builder.clock ≡ self.old.header.clock) }
         ensures header { self.new.header ≡ self.old.header }
         ensures refused { IfErr result (IsStopped most (I.left source.old) (I.left source.new) (λ fault more. ⊥)) }

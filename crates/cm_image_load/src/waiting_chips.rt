@@ -10,7 +10,7 @@ ghost use Rattle.cm_image_format.specs.Image.{listed_part, memory_part};
 ghost use Rattle.cm_image_format.specs.Whole.{planes_of};
 ghost use Rattle.cm_image_load.specs.WaitingChips.{with_waiting, AreListedFrom};
 
-use cm_array::Builder;
+use cm_array::{BuilderOf, Sizes};
 use cm_bits::{ADDRESSES, FLAGS, NoMemory, Plane};
 use cm_element::PITCH;
 use cm_image_fields::{AT_ONCE, EIGHT_LEN, LISTING_LEN, eight_at, eight_from};
@@ -63,13 +63,9 @@ impl WaitingChips {
     }
 
     /// Puts the chips that wait into a machine, where they end before this one.
-    pub(crate) fn put<const N: usize, const CAP: usize>(
-        &mut self,
-        builder: &mut Builder<N, CAP>,
-        end: u16,
-    )
+    pub(crate) fn put<S: Sizes>(&mut self, builder: &mut BuilderOf<S>, end: u16)
         requires waiting { length self.old ≤ end }
-        requires end { end ≤ 2 ^ N }
+        requires end { end ≤ 2 ^ S.n }
         ensures value { builder.new ≡ with_waiting end builder.old self.old }
         ensures none { self.new ≡ [] }
     {
@@ -81,13 +77,9 @@ impl WaitingChips {
     }
 
     /// Puts them in, if no more can wait.
-    pub(crate) fn make_room<const N: usize, const CAP: usize>(
-        &mut self,
-        builder: &mut Builder<N, CAP>,
-        end: u16,
-    )
+    pub(crate) fn make_room<S: Sizes>(&mut self, builder: &mut BuilderOf<S>, end: u16)
         requires waiting { length self.old ≤ end }
-        requires end { end ≤ 2 ^ N }
+        requires end { end ≤ 2 ^ S.n }
         ensures value { with_waiting end builder.new self.new ≡ with_waiting end builder.old self.old }
         ensures room { length self.new < 256 }
         ensures waiting { length self.new ≤ end }

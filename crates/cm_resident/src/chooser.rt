@@ -12,7 +12,7 @@ ghost use Rattle.cm_gates.specs.Forks.{fork_fault};
 
 use crate::shared_list::SharedList;
 use crate::short_lists::is_soon_done;
-use cm_array::{Machine, Part, Plain, RunFault, Runner, check_stretch};
+use cm_array::{MachineOf, Part, Plain, RunFault, Runner, Sizes, check_stretch};
 use cm_gates::{ForkFault, OutOf, Passage, fault_of, share_of, told};
 use cm_model::Act;
 use cm_subcube::rounds;
@@ -78,22 +78,21 @@ impl<'a, R> Chooser<'a, R> {
     }
 }
 
-impl<'a, const N: usize, const CAP: usize, R: Threads + Wait + Sync> Runner<N, CAP>
-    for Chooser<'a, R> {
+impl<'a, S: Sizes, R: Threads + Wait + Sync> Runner<S> for Chooser<'a, R> {
     ghost ready = { IsSync R.row };
 
     ghost threads_lacked = { λ runner. runner.threads_lacked };
 
     /// Takes memory to count the rounds, and then that of `Plain` or of `Resident`.
-    fn go(&mut self, machine: &mut Machine<N, CAP>, list: &[Act]) -> Result<(), RunFault>
+    fn go(&mut self, machine: &mut MachineOf<S>, list: &[Act]) -> Result<(), RunFault>
         requires runner { IsSync R.row }
         ensures long { (result ≡ Err RunFault.Long) ↔ IsTrue (is_long list.now) }
         ensures clock { (result ≡ Err RunFault.Clock)
             ↔ (IsFalse (is_long list.now) × IsTrue (is_late machine.old.machine.clock list.now)) }
         ensures empty { list.now ≡ [] → IsOk result }
-        ensures ok { OnOk result (machine.new.machine ≡ run_of N CAP machine.old.machine list.now) }
-        ensures account { OnOk result (SameLines (account N machine.new.machine)
-            (account N machine.old.machine ++ newly_injected N machine.old.machine machine.new.machine)) }
+        ensures ok { OnOk result (machine.new.machine ≡ run_of S.n S.cap machine.old.machine list.now) }
+        ensures account { OnOk result (SameLines (account S.n machine.new.machine)
+            (account S.n machine.old.machine ++ newly_injected S.n machine.old.machine machine.new.machine)) }
         ensures threads { CountsLacks is_no_thread self.old.threads_lacked self.new.threads_lacked result }
         ensures err { OnErr result (machine.new.machine ≡ machine.old.machine) }
         ensures blocks { self.new.k ≡ self.old.k }

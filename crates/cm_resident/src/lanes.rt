@@ -5,7 +5,7 @@ ghost use Rattle.cm_subcube.specs.Rounds.{rounds_of};
 ghost use Rattle.cm_turns.specs.Lanes.{Run, kind_of_index, ends_each, course, dues, own, givers};
 ghost use Rattle.cm_resident.specs.Teams.{AreAtPlace, AreByPlace};
 
-use cm_array::Machine;
+use cm_array::{MachineOf, Sizes};
 use cm_bits::NoMemory;
 use cm_board::{FromEnd, Lane, Plan, ToEnd};
 use cm_gates::hand_over;
@@ -16,40 +16,41 @@ use std::alloc::Global;
 
 /// What a block sends over one of its lanes when a machine goes through acts.
 #[derive(Drop)]
-pub(crate) struct Sent<'a, const N: usize, const CAP: usize> {
-    machine: &'a Machine<N, CAP>,
+pub(crate) struct Sent<'a, S: Sizes> {
+    machine: &'a MachineOf<S>,
     acts: &'a [Act],
     k: u8,
     block: u16,
     place: usize,
 }
 
-impl<'a, const N: usize, const CAP: usize> Plan<Parcel> for Sent<'a, N, CAP> {
+impl<'a, S: Sizes> Plan<Parcel> for Sent<'a, S> {
     ghost due = { λ p. dues
-        (record { n = N; k = p.k; room = CAP; machine = p.machine.now.machine; acts = p.acts.now }) p.block p.place };
+        (record { n = S.n; k = p.k; room = S.cap; machine = p.machine.now.machine; acts = p.acts.now })
+        p.block p.place };
 }
 
-impl<'a, const N: usize, const CAP: usize> Sent<'a, N, CAP> {
+impl<'a, S: Sizes> Sent<'a, S> {
     /// The ends of the lane that carries it; rounds of this kind go over lanes of its place.
     fn open_lane(
         self,
         alloc: Global,
         kind: Kind,
     ) -> Result<(FromEnd<Parcel>, ToEnd<Parcel>), NoMemory>
-        requires within { self.k ≤ N - N / 2 }
-        requires few { length (rounds_of N self.k self.acts.now) ≤ 4416 }
-        requires kind { kind ≡ kind_of_index N self.k self.place }
+        requires within { self.k ≤ S.n - S.n / 2 }
+        requires few { length (rounds_of S.n self.k self.acts.now) ≤ 4416 }
+        requires kind { kind ≡ kind_of_index S.n self.k self.place }
         ensures from { let run : Run = record {
-          n = N;
+          n = S.n;
           k = self.entry.k;
-          room = CAP;
+          room = S.cap;
           machine = self.entry.machine.now.machine;
           acts = self.entry.acts.now;
         } in IfOk result (λ ends. ends.0 ≡ course run self.entry.block self.entry.place 0) }
         ensures to { let run : Run = record {
-          n = N;
+          n = S.n;
           k = self.entry.k;
-          room = CAP;
+          room = S.cap;
           machine = self.entry.machine.now.machine;
           acts = self.entry.acts.now;
         } in IfOk result (λ ends. ends.1 ≡ course run self.entry.block self.entry.place 0) }
@@ -81,19 +82,19 @@ pub(crate) struct Ends {
     pub(crate) gets: Vec<Vec<ToEnd<Parcel>>>,
 }
 
-pub(crate) fn open_all<const N: usize, const CAP: usize>(
+pub(crate) fn open_all<S: Sizes>(
     alloc: Global,
-    machine: &Machine<N, CAP>,
+    machine: &MachineOf<S>,
     acts: &[Act],
     k: u8,
 ) -> Result<Ends, NoMemory>
-    requires within { k ≤ N - N / 2 }
-    requires few { length (rounds_of N k acts.now) ≤ 4416 }
+    requires within { k ≤ S.n - S.n / 2 }
+    requires few { length (rounds_of S.n k acts.now) ≤ 4416 }
     ensures sends { IfOk result (λ ends. AreByPlace
-        (record { n = N; k = k; room = CAP; machine = machine.now.machine; acts = acts.now })
+        (record { n = S.n; k = k; room = S.cap; machine = machine.now.machine; acts = acts.now })
         own 0 (ends_each k) ends.sends.items) }
     ensures gets { IfOk result (λ ends. AreByPlace
-        (record { n = N; k = k; room = CAP; machine = machine.now.machine; acts = acts.now })
+        (record { n = S.n; k = k; room = S.cap; machine = machine.now.machine; acts = acts.now })
         givers 0 (ends_each k) ends.gets.items) }
 {
     let each = ends_each(k);
@@ -108,21 +109,21 @@ pub(crate) fn open_all<const N: usize, const CAP: usize>(
 }
 
 /// The ends of the lanes at a place: those over which the blocks send, and those over which they get.
-fn open_place<const N: usize, const CAP: usize>(
+fn open_place<S: Sizes>(
     alloc: Global,
-    machine: &Machine<N, CAP>,
+    machine: &MachineOf<S>,
     acts: &[Act],
     k: u8,
     place: usize,
 ) -> Result<(Vec<FromEnd<Parcel>>, Vec<ToEnd<Parcel>>), NoMemory>
-    requires within { k ≤ N - N / 2 }
-    requires few { length (rounds_of N k acts.now) ≤ 4416 }
+    requires within { k ≤ S.n - S.n / 2 }
+    requires few { length (rounds_of S.n k acts.now) ≤ 4416 }
     requires place { place < k + 2 }
     ensures sends { IfOk result (λ ends. AreAtPlace
-        (record { n = N; k = k; room = CAP; machine = machine.now.machine; acts = acts.now })
+        (record { n = S.n; k = k; room = S.cap; machine = machine.now.machine; acts = acts.now })
         own 0 place ends.0) }
     ensures gets { IfOk result (λ ends. AreAtPlace
-        (record { n = N; k = k; room = CAP; machine = machine.now.machine; acts = acts.now })
+        (record { n = S.n; k = k; room = S.cap; machine = machine.now.machine; acts = acts.now })
         givers 0 place ends.1) }
 {
     let dims = machine.dims();

@@ -10,7 +10,7 @@ ghost use Rattle.cm_array.specs.Faults.{CountsLacks, is_no_thread};
 ghost use Rattle.cm_gates.specs.Forks.{fork_fault, most_workers};
 
 use crate::shared_list::SharedList;
-use cm_array::{Machine, Part, RunFault, Runner, check_stretch};
+use cm_array::{MachineOf, Part, RunFault, Runner, Sizes, check_stretch};
 use cm_gates::{ForkFault, OutOf, Passage, fault_of, share_of, told};
 use cm_model::Act;
 use cm_subcube::rounds;
@@ -66,8 +66,7 @@ impl<'a, R> Resident<'a, R> {
     }
 }
 
-impl<'a, const N: usize, const CAP: usize, R: Threads + Wait + Sync> Runner<N, CAP>
-    for Resident<'a, R> {
+impl<'a, S: Sizes, R: Threads + Wait + Sync> Runner<S> for Resident<'a, R> {
     ghost ready = { IsSync R.row };
 
     ghost threads_lacked = { λ runner. runner.threads_lacked };
@@ -76,18 +75,18 @@ impl<'a, const N: usize, const CAP: usize, R: Threads + Wait + Sync> Runner<N, C
     /// cycles in the list, for what its blocks exchange, and for what its threads leave. Then each worker is admitted
     /// and its thread started, one after the other; none begins before all are started. Where memory or a thread is
     /// wanting the machine stays as it was.
-    fn go(&mut self, machine: &mut Machine<N, CAP>, acts: &[Act]) -> Result<(), RunFault>
+    fn go(&mut self, machine: &mut MachineOf<S>, acts: &[Act]) -> Result<(), RunFault>
         requires runner { IsSync R.row }
         ensures long { (result ≡ Err RunFault.Long) ↔ IsTrue (is_long acts.now) }
         ensures clock { (result ≡ Err RunFault.Clock)
             ↔ (IsFalse (is_long acts.now) × IsTrue (is_late machine.old.machine.clock acts.now)) }
         ensures empty { acts.now ≡ [] → IsOk result }
-        ensures ok { OnOk result (machine.new.machine ≡ run_of N CAP machine.old.machine acts.now) }
-        ensures account { OnOk result (SameLines (account N machine.new.machine)
-            (account N machine.old.machine ++ newly_injected N machine.old.machine machine.new.machine)) }
+        ensures ok { OnOk result (machine.new.machine ≡ run_of S.n S.cap machine.old.machine acts.now) }
+        ensures account { OnOk result (SameLines (account S.n machine.new.machine)
+            (account S.n machine.old.machine ++ newly_injected S.n machine.old.machine machine.new.machine)) }
         ensures threads { CountsLacks is_no_thread self.old.threads_lacked self.new.threads_lacked result }
         ensures admitted { IfOk result (λ _. acts.now ≢ [] → (gate : _) → self.old.passage ≡ Passage.Gated gate
-            → (w : ℕ) → w < most_workers N self.old.k self.old.workers → admits (gate.vtable, gate.value) w) }
+            → (w : ℕ) → w < most_workers S.n self.old.k self.old.workers → admits (gate.vtable, gate.value) w) }
         ensures err { OnErr result (machine.new.machine ≡ machine.old.machine) }
         ensures blocks { self.new.k ≡ self.old.k }
         ensures workers { self.new.workers ≡ self.old.workers }

@@ -15,7 +15,7 @@ use crate::gathering::{in_order, room_for};
 use crate::running::{TeamSetup, line_up, work_all};
 use crate::teams::team_in;
 use crate::together::Together;
-use cm_array::{Machine, Part};
+use cm_array::{MachineOf, Part, Sizes};
 use cm_bits::NoMemory;
 use cm_gates::{NoThread, OutOf, Passage};
 use cm_model::Act;
@@ -37,19 +37,19 @@ pub(crate) struct SharedList<'a> {
 
 impl<'a> SharedList<'a> {
     /// A machine goes through it, or stays as it was.
-    pub(crate) fn run<const N: usize, const CAP: usize, R: Threads + Wait + Sync>(
+    pub(crate) fn run<S: Sizes, R: Threads + Wait + Sync>(
         &self,
         rt: &R,
         alloc: Global,
         passage: &Passage,
-        machine: &mut Machine<N, CAP>,
+        machine: &mut MachineOf<S>,
         used: &mut Vec<Part>,
     ) -> Result<(), OutOf>
-        requires list { IsListFor N self.now }
+        requires list { IsListFor S.n self.now }
         requires clock { IsFalse (is_late machine.old.machine.clock self.now.acts.now) }
-        ensures ok { OnOk result (machine.new.machine ≡ run_of N CAP machine.old.machine self.now.acts.now) }
-        ensures account { OnOk result (SameLines (account N machine.new.machine)
-            (account N machine.old.machine ++ newly_injected N machine.old.machine machine.new.machine)) }
+        ensures ok { OnOk result (machine.new.machine ≡ run_of S.n S.cap machine.old.machine self.now.acts.now) }
+        ensures account { OnOk result (SameLines (account S.n machine.new.machine)
+            (account S.n machine.old.machine ++ newly_injected S.n machine.old.machine machine.new.machine)) }
         ensures admitted { IfOk result (λ _. (gate : _) → passage.now ≡ Passage.Gated gate
             → (w : ℕ) → w < self.now.workers → admits (gate.vtable, gate.value) w) }
         ensures err { OnErr result (machine.new.machine ≡ machine.old.machine) }
@@ -63,19 +63,19 @@ impl<'a> SharedList<'a> {
     }
 
     /// A machine goes through it by its blocks, or stays as it was.
-    fn share_out<const N: usize, const CAP: usize, R: Threads + Wait + Sync>(
+    fn share_out<S: Sizes, R: Threads + Wait + Sync>(
         &self,
         rt: &R,
         alloc: Global,
         passage: &Passage,
-        machine: &mut Machine<N, CAP>,
+        machine: &mut MachineOf<S>,
         used: &mut Vec<Part>,
     ) -> Result<(), OutOf>
-        requires list { IsListFor N self.now }
+        requires list { IsListFor S.n self.now }
         requires clock { IsFalse (is_late machine.old.machine.clock self.now.acts.now) }
-        ensures ok { OnOk result (machine.new.machine ≡ run_of N CAP machine.old.machine self.now.acts.now) }
-        ensures account { OnOk result (SameLines (account N machine.new.machine)
-            (account N machine.old.machine ++ newly_injected N machine.old.machine machine.new.machine)) }
+        ensures ok { OnOk result (machine.new.machine ≡ run_of S.n S.cap machine.old.machine self.now.acts.now) }
+        ensures account { OnOk result (SameLines (account S.n machine.new.machine)
+            (account S.n machine.old.machine ++ newly_injected S.n machine.old.machine machine.new.machine)) }
         ensures admitted { IfOk result (λ _. (gate : _) → passage.now ≡ Passage.Gated gate
             → (w : ℕ) → w < self.now.workers → admits (gate.vtable, gate.value) w) }
         ensures err { OnErr result (machine.new.machine ≡ machine.old.machine) }
@@ -87,20 +87,20 @@ impl<'a> SharedList<'a> {
 
     /// The same where nobody looks at the blocks: the logs of the machine are set aside and not copied, and what its
     /// blocks tell comes to stand behind them.
-    fn share_out_without_logs<const N: usize, const CAP: usize, R: Threads + Wait + Sync>(
+    fn share_out_without_logs<S: Sizes, R: Threads + Wait + Sync>(
         &self,
         rt: &R,
         alloc: Global,
         passage: &Passage,
-        machine: &mut Machine<N, CAP>,
+        machine: &mut MachineOf<S>,
         used: &mut Vec<Part>,
     ) -> Result<(), OutOf>
         requires open { passage.now ≡ Passage.Open }
-        requires list { IsListFor N self.now }
+        requires list { IsListFor S.n self.now }
         requires clock { IsFalse (is_late machine.old.machine.clock self.now.acts.now) }
-        ensures ok { OnOk result (machine.new.machine ≡ run_of N CAP machine.old.machine self.now.acts.now) }
-        ensures account { OnOk result (SameLines (account N machine.new.machine)
-            (account N machine.old.machine ++ newly_injected N machine.old.machine machine.new.machine)) }
+        ensures ok { OnOk result (machine.new.machine ≡ run_of S.n S.cap machine.old.machine self.now.acts.now) }
+        ensures account { OnOk result (SameLines (account S.n machine.new.machine)
+            (account S.n machine.old.machine ++ newly_injected S.n machine.old.machine machine.new.machine)) }
         ensures admitted { IfOk result (λ _. (gate : _) → passage.now ≡ Passage.Gated gate
             → (w : ℕ) → w < self.now.workers → admits (gate.vtable, gate.value) w) }
         ensures err { OnErr result (machine.new.machine ≡ machine.old.machine) }
@@ -118,17 +118,17 @@ impl<'a> SharedList<'a> {
     }
 
     /// Takes all memory that a list takes.
-    fn prepare<const N: usize, const CAP: usize>(
+    fn prepare<S: Sizes>(
         &self,
         alloc: Global,
-        machine: &Machine<N, CAP>,
+        machine: &MachineOf<S>,
         used: &mut Vec<Part>,
     ) -> Result<Prepared, NoMemory>
-        requires list { IsListFor N self.now }
+        requires list { IsListFor S.n self.now }
         requires clock { IsFalse (is_late machine.now.machine.clock self.now.acts.now) }
         ensures k { IfOk result (λ prepared. prepared.k ≡ self.now.k) }
         ensures team { IfOk result (λ prepared. AreLinedUp
-            (record { n = N; k = prepared.k; room = CAP; machine = machine.now.machine; acts = self.now.acts.now })
+            (record { n = S.n; k = prepared.k; room = S.cap; machine = machine.now.machine; acts = self.now.acts.now })
             self.now.workers prepared.all.readies.items) }
         ensures none { IfOk result (λ prepared.
             AreEmpty prepared.all.handles.items prepared.all.left.items prepared.all.shares.items) }
@@ -162,16 +162,16 @@ struct Prepared {
 }
 
 /// Workers for whom all is prepared go through their run, or the machine stays as it was; no memory is taken.
-fn run_prepared<const N: usize, const CAP: usize, R: Threads + Wait + Sync>(
+fn run_prepared<S: Sizes, R: Threads + Wait + Sync>(
     rt: &R,
     passage: &Passage,
-    machine: &mut Machine<N, CAP>,
+    machine: &mut MachineOf<S>,
     prepared: Prepared,
     used: &mut Vec<Part>,
 ) -> Result<(), NoThread>
-    requires within { prepared.k ≤ N - N / 2 }
+    requires within { prepared.k ≤ S.n - S.n / 2 }
     requires some { 0 < length prepared.all.readies.items }
-    requires team { AreLinedUpForSome N prepared.k CAP machine.old.machine prepared.all.readies.items }
+    requires team { AreLinedUpForSome S.n prepared.k S.cap machine.old.machine prepared.all.readies.items }
     requires none { AreEmpty prepared.all.handles.items prepared.all.left.items prepared.all.shares.items }
     requires room { HaveRoom (length prepared.all.readies.items)
         (vec_capacity prepared.all.handles) (vec_capacity prepared.all.left) (vec_capacity prepared.all.shares) }
@@ -179,8 +179,8 @@ fn run_prepared<const N: usize, const CAP: usize, R: Threads + Wait + Sync>(
     requires no_places { prepared.places.items ≡ [] }
     requires place_room { 2 ^ prepared.k ≤ vec_capacity prepared.places }
     ensures ok { OnOk result ((acts : List Act) (count : ℕ) → AreLinedUp
-        (record { n = N; k = prepared.k; room = CAP; machine = machine.old.machine; acts = acts })
-        count prepared.all.readies.items → machine.new.machine ≡ run_of N CAP machine.old.machine acts) }
+        (record { n = S.n; k = prepared.k; room = S.cap; machine = machine.old.machine; acts = acts })
+        count prepared.all.readies.items → machine.new.machine ≡ run_of S.n S.cap machine.old.machine acts) }
     ensures admitted { IfOk result (λ _. (gate : _) → passage.now ≡ Passage.Gated gate
         → (w : ℕ) (d : _) → w < length prepared.all.readies.items
         → admits (gate.vtable, gate.value) (get_or prepared.all.readies.items w d).worker.id) }

@@ -3,7 +3,7 @@
 ghost use Rattle.std.specs.Prelude.{◌<◌};
 
 use crate::lanes::power_of_two;
-use cm_array::Machine;
+use cm_array::{MachineOf, Sizes};
 use cm_bits::{Addr, FlagNo};
 use cm_model::Act;
 
@@ -27,8 +27,8 @@ const ROUND: usize = 6;
 
 /// Whether one thread runs a list before it was shared out among so many workers and its blocks came through so many
 /// rounds. It has so many petit cycles.
-pub(crate) fn is_soon_done<const N: usize, const CAP: usize>(
-    machine: &Machine<N, CAP>,
+pub(crate) fn is_soon_done<S: Sizes>(
+    machine: &MachineOf<S>,
     acts: &[Act],
     workers: u16,
     rounds: usize,
@@ -36,7 +36,7 @@ pub(crate) fn is_soon_done<const N: usize, const CAP: usize>(
 ) -> bool
     requires some { 0 < workers }
 {
-    let cycle = MESSAGE.saturating_mul(CAP);
+    let cycle = MESSAGE.saturating_mul(usize::from(machine.room()));
     let alone = cycles.saturating_mul(cycle).saturating_add(acts.len());
     let spared = alone - alone / usize::from(workers);
     let cut = CUT.saturating_add(rounds.saturating_mul(PARCELS));
@@ -50,7 +50,7 @@ pub(crate) fn is_soon_done<const N: usize, const CAP: usize>(
 }
 
 /// How many rows of memory a machine has.
-fn rows_in_use<const N: usize, const CAP: usize>(machine: &Machine<N, CAP>) -> usize {
+fn rows_in_use<S: Sizes>(machine: &MachineOf<S>) -> usize {
     let mut rows = 0usize;
     for at in 0u16..4096 {
         if machine.is_in_use(Addr::new(at).unwrap()) {
@@ -65,7 +65,7 @@ fn has_no_instruction(acts: &[Act]) -> bool {
 }
 
 /// Whether no message is under way, and nothing is asked to be sent: a petit cycle does next to nothing then.
-fn is_at_rest<const N: usize, const CAP: usize>(machine: &Machine<N, CAP>) -> bool {
+fn is_at_rest<S: Sizes>(machine: &MachineOf<S>) -> bool {
     for chip in 0..power_of_two(machine.dims()) {
         if !machine.buffer(chip).is_empty() || machine.chip(chip).has_flag(FlagNo::SEND) {
             return false;

@@ -9,7 +9,7 @@ ghost use Rattle.cm_resident.specs.Teams.{HasWorkerParts};
 
 use crate::shared_list::SharedList;
 use crate::worker_parts::{WorkerParts, worker_parts};
-use cm_array::{Machine, Part, check_stretch};
+use cm_array::{MachineOf, Part, Sizes, check_stretch};
 use cm_bits::NoMemory;
 use cm_gates::deal;
 use cm_model::Act;
@@ -59,14 +59,14 @@ fn worker_of(
 
 /// So many workers, who share out the blocks of a machine that is cut into 2^`k` among them: worker w has blocks w,
 /// w + `workers`, and so on, with the ends of their lanes for these acts.
-pub fn team<const N: usize, const CAP: usize>(
+pub fn team<S: Sizes>(
     alloc: Global,
-    machine: &Machine<N, CAP>,
+    machine: &MachineOf<S>,
     acts: &[Act],
     k: u8,
     workers: u16,
 ) -> Result<Vec<Worker>, NoMemory>
-    requires within { k ≤ N - N / 2 }
+    requires within { k ≤ S.n - S.n / 2 }
     requires some { 0 < workers }
     requires few { workers ≤ 2 ^ k }
     requires most { workers ≤ 64 }
@@ -75,7 +75,7 @@ pub fn team<const N: usize, const CAP: usize>(
     ensures count { IfOk result (λ team. length team.items ≡ workers) }
     ensures ids { IfOk result (λ team. (w : ℕ) (d : _) → w < workers → (get_or team.items w d).id ≡ w) }
     ensures value { IfOk result (λ team. (w : ℕ) (d : _) → w < workers → IsOfTeam
-        (record { n = N; k = k; room = CAP; machine = machine.now.machine; acts = acts.now })
+        (record { n = S.n; k = k; room = S.cap; machine = machine.now.machine; acts = acts.now })
         workers (get_or team.items w d)) }
 {
     let Ok(cycles) = check_stretch(acts, machine.clock()) else {
@@ -93,18 +93,18 @@ pub fn team<const N: usize, const CAP: usize>(
 }
 
 /// The same, whose blocks are in the room of parts that are not needed any more, as far as there are such.
-pub(crate) fn team_in<const N: usize, const CAP: usize>(
+pub(crate) fn team_in<S: Sizes>(
     alloc: Global,
-    machine: &Machine<N, CAP>,
+    machine: &MachineOf<S>,
     list: &SharedList<'_>,
     used: &mut Vec<Part>,
 ) -> Result<Vec<Worker>, NoMemory>
-    requires list { IsListFor N list.now }
+    requires list { IsListFor S.n list.now }
     requires clock { IsFalse (is_late machine.now.machine.clock list.now.acts.now) }
     ensures count { IfOk result (λ team. length team.items ≡ list.now.workers) }
     ensures ids { IfOk result (λ team. (w : ℕ) (d : _) → w < list.now.workers → (get_or team.items w d).id ≡ w) }
     ensures value { IfOk result (λ team. (w : ℕ) (d : _) → w < list.now.workers → IsOfTeam
-        (record { n = N; k = list.now.k; room = CAP; machine = machine.now.machine; acts = list.now.acts.now })
+        (record { n = S.n; k = list.now.k; room = S.cap; machine = machine.now.machine; acts = list.now.acts.now })
         list.now.workers (get_or team.items w d)) }
 {
     let worker_parts = worker_parts(alloc, machine, list.acts, list.k, list.cycles, used)?;

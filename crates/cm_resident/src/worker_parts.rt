@@ -11,7 +11,7 @@ ghost use Rattle.cm_resident.specs.Teams.{IsWorkerParts};
 
 use crate::gathering::take_firsts;
 use crate::lanes::{Ends, open_all};
-use cm_array::{Machine, Part};
+use cm_array::{MachineOf, Part, Sizes};
 use cm_bits::NoMemory;
 use cm_board::{FromEnd, ToEnd};
 use cm_model::Act;
@@ -28,20 +28,20 @@ pub(crate) struct WorkerParts {
 
 /// The blocks of a machine that is cut into 2^`k`, in their order, with the ends of their lanes for these acts, which
 /// have so many petit cycles. Parts that are not needed any more give room.
-pub(crate) fn worker_parts<const N: usize, const CAP: usize>(
+pub(crate) fn worker_parts<S: Sizes>(
     alloc: Global,
-    machine: &Machine<N, CAP>,
+    machine: &MachineOf<S>,
     acts: &[Act],
     k: u8,
     cycles: usize,
     used: &mut Vec<Part>,
 ) -> Result<Vec<WorkerParts>, NoMemory>
-    requires within { k ≤ N - N / 2 }
-    requires few { length (rounds_of N k acts.now) ≤ 4416 }
+    requires within { k ≤ S.n - S.n / 2 }
+    requires few { length (rounds_of S.n k acts.now) ≤ 4416 }
     requires cycles { cycles ≡ cycles_in acts.now }
     requires clock { machine.now.machine.clock + cycles < 2 ^ 63 }
     ensures value { IfOk result (λ worker_parts. AreAll (IsWorkerParts
-        (record { n = N; k = k; room = CAP; machine = machine.now.machine; acts = acts.now }))
+        (record { n = S.n; k = k; room = S.cap; machine = machine.now.machine; acts = acts.now }))
         (2 ^ k) worker_parts.items) }
 {
     let mut blocks = partition(alloc, machine, k, cycles, used)?;
@@ -63,17 +63,17 @@ pub(crate) fn worker_parts<const N: usize, const CAP: usize>(
 }
 
 /// The blocks of a machine, with room in their logs for so many petit cycles.
-fn partition<const N: usize, const CAP: usize>(
+fn partition<S: Sizes>(
     alloc: Global,
-    machine: &Machine<N, CAP>,
+    machine: &MachineOf<S>,
     k: u8,
     cycles: usize,
     used: &mut Vec<Part>,
 ) -> Result<Vec<Block>, NoMemory>
-    requires within { k ≤ N - N / 2 }
+    requires within { k ≤ S.n - S.n / 2 }
     requires clock { machine.now.machine.clock + cycles < 2 ^ 63 }
     ensures value { IfOk result (λ blocks. (acts : List Act) → cycles_in acts ≡ cycles → AreFrom (IsRunBlock
-        (record { n = N; k = k; room = CAP; machine = machine.now.machine; acts = acts })) 0 (2 ^ k) blocks.items) }
+        (record { n = S.n; k = k; room = S.cap; machine = machine.now.machine; acts = acts })) 0 (2 ^ k) blocks.items) }
 {
     match split_in(alloc, machine, k, cycles, used) {
         Ok(blocks) => Ok(blocks),

@@ -7,7 +7,7 @@ use Rattle.cm_session.specs.declared.fault.SessionFault.TheVariants as session
 use Rattle.cm_system.specs.declared.program_fault.ProgramFault.{ProgramFault}
 use Rattle.cm_system.specs.declared.program_fault.ProgramFault.TheVariants.{NoThread}
 use Rattle.cm_system.specs.ProgramFault.{of_session}
-use Rattle.cm_sizes.specs.Sizes.{SizedMachine}
+use Rattle.cm_array.specs.Sizes.{SizedMachine}
 use Rattle.cm_system.specs.OutputFiles.{KeepsImage}
 use Rattle.cm_system.specs.Streams.{Streams}
 use Rattle.cm_run.specs.Runs.{IsSession}

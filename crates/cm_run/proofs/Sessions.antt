@@ -10,7 +10,7 @@ use Rattle.cm_session.specs.Ends.{COMMANDS_LIMIT, Ends, EndsForSome, is_write}
 use Rattle.cm_system.specs.declared.program_fault.ProgramFault.{ProgramFault}
 use Rattle.cm_system.specs.declared.program_fault.ProgramFault.TheVariants.{Read, Write, Memory, NoThread}
 use Rattle.cm_system.specs.ProgramFault.{of_session}
-use Rattle.cm_sizes.specs.Sizes.{SizedMachine}
+use Rattle.cm_array.specs.Sizes.{SizedMachine}
 use Rattle.cm_system.specs.OutputFiles.{KeepsImage}
 use Rattle.cm_run.specs.Run.{IsReportedAs}
 use Rattle.cm_system.specs.Streams.{Streams}

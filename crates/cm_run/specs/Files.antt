@@ -1,7 +1,7 @@
 -- What `cm1 run` does before its session begins. Ours.
 use Rattle.std.specs.Prelude.{◌≡◌, ◌⊎◌, ℕ, Option, Some, None, List, [], ◌++◌, option_map, string_bytes}
 use Rattle.cm_language.specs.Program.{ProgramText}
-use Rattle.cm_sizes.specs.Sizes.{SizedMachine}
+use Rattle.cm_array.specs.Sizes.{SizedMachine}
 use Rattle.cm_run.specs.declared.files.RunLine.{RunLine}
 use Rattle.cm_system.specs.declared.program_fault.ProgramFault.{ProgramFault}
 use Rattle.cm_run.specs.Sharing.{sharing_fault}

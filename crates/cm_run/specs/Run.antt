@@ -9,7 +9,7 @@ use Rattle.cm_system.specs.declared.program_fault.ProgramFault.{ProgramFault}
 use Rattle.cm_system.specs.declared.program_fault.ProgramFault.TheVariants.{Memory}
 use Rattle.cm_system.specs.OutputFiles.{IsImageKept}
 use Rattle.cm_system.specs.ProgramFault.{of_session}
-use Rattle.cm_sizes.specs.Sizes.{SizedMachine}
+use Rattle.cm_array.specs.Sizes.{SizedMachine}
 
 -- all commands were answered, and this image is kept of the machine that they left
 pub record HasLeft (start : SizedMachine) (acts : List Act) (lines : List ℕ) (rest out_before out_after : Option (List ℕ))

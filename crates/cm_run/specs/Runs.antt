@@ -9,7 +9,7 @@ use Rattle.cm_session.specs.Ends.{COMMANDS_LIMIT}
 use Rattle.cm_run.specs.declared.files.RunLine.{RunLine}
 use Rattle.cm_system.specs.declared.program_fault.ProgramFault.{ProgramFault}
 use Rattle.cm_system.specs.declared.program_fault.ProgramFault.TheVariants.{Read, Write, NoThread}
-use Rattle.cm_sizes.specs.Sizes.{SizedMachine}
+use Rattle.cm_array.specs.Sizes.{SizedMachine}
 use Rattle.cm_run.specs.Run.{HasLeft, HasLeftForSome, HasAbortedSession, HasAbortedForSome}
 use Rattle.cm_system.specs.Trace.{IoEvent}
 use Rattle.cm_system.specs.InputFiles.{Reads}

@@ -5,7 +5,7 @@ use Rattle.cm_session.specs.declared.fault.SessionFault.{SessionFault}
 use Rattle.cm_session.specs.declared.fault.SessionFault.TheVariants as session
 use Rattle.cm_session.specs.Reading.{ConsumesAtMost, PIECE_LIMIT}
 use Rattle.cm_session.specs.Ends.{COMMANDS_LIMIT, Ends, EndsForSome, is_write}
-use Rattle.cm_sizes.specs.Sizes.{SizedMachine}
+use Rattle.cm_array.specs.Sizes.{SizedMachine}
 use Rattle.cm_system.specs.Streams.{Streams}
 
 -- it began on the one machine, ended so, and left the other, which has the same sizes

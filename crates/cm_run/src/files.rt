@@ -1,7 +1,7 @@
 //! `cm1 run`: a session over files.
 
 ghost use Rattle.std.specs.Prelude.{◌≡◌, ◌≤◌, false, None, IfOk, IfErr, IsErrOf, OnOk, option_map, string_bytes};
-ghost use Rattle.cm_sizes.specs.Sizes.{SizedMachine, sized, sized_of_room};
+ghost use Rattle.cm_array.specs.Sizes.{SizedMachine};
 ghost use Rattle.cm_run.specs.Sharing.{sharing_fault};
 ghost use Rattle.cm_system.specs.Trace.{HasTrace};
 ghost use Rattle.cm_system.specs.InputFiles.{reads_by};
@@ -12,11 +12,12 @@ ghost use Rattle.cm_run.specs.Runs.{IsRunTrace, RunsFrom};
 
 use crate::session_runner::SessionRunner;
 use crate::sharing::Sharing;
+use cm_array::{AnyMachine, Sizes};
 use cm_asm::Program;
 use cm_bits::{Sink, Source};
-use cm_sizes::{AnyDims, AnyMachine, on_dims, on_room};
 use cm_system::{ProgramFault, System, Taken, abort_files, finish_files, make_ready, take_both};
 use std::alloc::Global;
+use std::marker::Brand;
 
 /// What is asked to be run: the files of an image and of a program, how the session is shared out, and the file, if one
 /// is named, into which the image goes of the machine that is left.
@@ -37,16 +38,16 @@ struct PreparedFiles<M, P> {
 }
 
 /// Runs a session over files by this runner.
-pub fn run_files<S: SessionRunner, H: System, I: Source, O: Sink>(
+pub fn run_files<R: SessionRunner, H: System, I: Source, O: Sink>(
     alloc: Global,
     system: &mut H,
     line: &RunLine,
-    runner: S,
+    runner: R,
     commands: &mut I,
     answers: &mut O,
 ) -> Result<(), ProgramFault>
-    requires can { (any : SizedMachine) → sharing_fault any.n line.now.sharing ≡ None → S.can_run runner any }
-    requires alone { line.now.sharing.workers ≡ 1 → ¬ S.may_want runner }
+    requires can { (any : SizedMachine) → sharing_fault any.n line.now.sharing ≡ None → R.can_run runner any }
+    requires alone { line.now.sharing.workers ≡ 1 → ¬ R.may_want runner }
     requires reader { I.has_failed commands.old ≡ false }
     requires writer { O.has_failed answers.old ≡ false }
     ensures does { HasTrace H.does system.old system.new (IsRunTrace (reads_by H.File.left H.File.has_failed) line.now
@@ -73,7 +74,7 @@ fn begin_files<H: System>(
     line: &RunLine,
 ) -> Result<PreparedFiles<AnyMachine, H::Pending>, ProgramFault>
     ensures value { IfOk result (λ begun. HasTrace H.does system.old system.new (BeginsFiles
-        (reads_by H.File.left H.File.has_failed) line.now (sized begun.taken.machine) begun.taken.program begun.part)) }
+        (reads_by H.File.left H.File.has_failed) line.now begun.taken.machine begun.taken.program begun.part)) }
     ensures refused { IfErr result (λ fault. HasTrace H.does system.old system.new (RefusesFiles
         (reads_by H.File.left H.File.has_failed) line.now fault)) }
 {
@@ -108,59 +109,26 @@ fn begin_taken<H: System, M: Drop>(
 }
 
 /// Runs a session on a machine; and then the image of the machine goes into the file that was made ready, if one was.
-fn run_any<S: SessionRunner, H: System, I: Source, O: Sink>(
+fn run_any<R: SessionRunner, H: System, I: Source, O: Sink>(
     alloc: Global,
     system: &mut H,
-    mut machine: AnyMachine,
+    machine: AnyMachine,
     program: &Program,
     part: Option<H::Pending>,
-    runner: S,
+    runner: R,
     commands: &mut I,
     answers: &mut O,
 ) -> Result<(), ProgramFault>
-    requires can { S.can_run runner (sized machine) }
+    requires can { R.can_run runner machine }
     requires reader { I.has_failed commands.old ≡ false }
     requires writer { O.has_failed answers.old ≡ false }
-    ensures does { HasTrace H.does system.old system.new (RunsFrom (sized machine) program.now.acts (S.may_want runner)
+    ensures does { HasTrace H.does system.old system.new (RunsFrom machine program.now.acts (R.may_want runner)
         (streams (I.left commands.old) (I.left commands.new) (O.contents answers.old) (O.contents answers.new)
         (I.has_failed commands.new) (O.has_failed answers.new)) part result) }
 {
-    let ended = run_lent(
-        alloc,
-        system,
-        &mut machine,
-        program,
-        part,
-        runner,
-        commands,
-        answers,
-    );
-    // Taken apart, since the borrow checker counts each variant where one of another crate is dropped as it stands.
-    on_room!(machine, machine => drop(machine));
-    ended
-}
-
-/// The same on a machine that is lent to it.
-fn run_lent<S: SessionRunner, H: System, I: Source, O: Sink>(
-    alloc: Global,
-    system: &mut H,
-    machine: &mut AnyMachine,
-    program: &Program,
-    part: Option<H::Pending>,
-    runner: S,
-    commands: &mut I,
-    answers: &mut O,
-) -> Result<(), ProgramFault>
-    requires can { S.can_run runner (sized machine.old) }
-    requires reader { I.has_failed commands.old ≡ false }
-    requires writer { O.has_failed answers.old ≡ false }
-    ensures does { HasTrace H.does system.old system.new (RunsFrom (sized machine.old) program.now.acts
-        (S.may_want runner)
-        (streams (I.left commands.old) (I.left commands.new) (O.contents answers.old) (O.contents answers.new)
-        (I.has_failed commands.new) (O.has_failed answers.new)) part result) }
-{
-    match runner.go(alloc, machine, program, commands, answers) {
-        Ok(()) => close_any(alloc, system, part, answers, machine),
+    let (left, ended) = runner.go(alloc, machine, program, commands, answers);
+    match ended {
+        Ok(()) => close_any(alloc, system, part, answers, left),
         Err(fault) => abort_files(system, part, ProgramFault::from(fault)),
     }
 }
@@ -171,26 +139,27 @@ fn close_any<H: System, O: Sink>(
     system: &mut H,
     part: Option<H::Pending>,
     out: &O,
-    machine: &AnyMachine,
+    machine: AnyMachine,
 ) -> Result<(), ProgramFault>
     ensures value { HasTrace H.does system.old system.new
-        (FinishesWithImage (sized machine.now).n (sized machine.now).cap
-        (sized machine.now).machine part (O.contents out.now) result) }
+        (FinishesWithImage machine.n machine.cap machine.machine part (O.contents out.now) result) }
 {
-    on_room!(machine, machine => close_of_room(alloc, system, part, out, machine))
+    close_sized::<Brand, H, O>(alloc, system, part, out, machine)
 }
 
-/// The same where it has left a machine of this room.
-fn close_of_room<const CAP: usize, H: System, O: Sink>(
+/// The same where it has left a machine of these sizes.
+fn close_sized<S: Sizes, H: System, O: Sink>(
     alloc: Global,
     system: &mut H,
     part: Option<H::Pending>,
     out: &O,
-    machine: &AnyDims<CAP>,
+    machine: AnyMachine,
 ) -> Result<(), ProgramFault>
+    requires n { machine.n ≡ S.n }
+    requires cap { machine.cap ≡ S.cap }
     ensures value { HasTrace H.does system.old system.new
-        (FinishesWithImage (sized_of_room machine.now).n (sized_of_room machine.now).cap
-        (sized_of_room machine.now).machine part (O.contents out.now) result) }
+        (FinishesWithImage machine.n machine.cap machine.machine part (O.contents out.now) result) }
 {
-    on_dims!(machine, machine => finish_files(alloc, system, part, out, machine))
+    let machine = machine.sized::<S>();
+    finish_files(alloc, system, part, out, &machine)
 }

@@ -8,12 +8,11 @@ use Rattle.cm_image_format.specs.declared.fault.ImageFault.TheVariants.{Memory}
 use Rattle.cm_image_load.specs.declared.pieces.SourceFault.{SourceFault}
 use Rattle.cm_image_load.specs.declared.pieces.SourceFault.TheVariants as source
 use Rattle.cm_image_load.specs.Pieces.{GivesAtMost, GivesRest, IsStopped}
-use Rattle.cm_sizes.specs.declared.any_machine.AnyMachine.{AnyMachine}
+use Rattle.cm_array.specs.Sizes.{SizedMachine}
 use Rattle.cm_sizes.specs.declared.opening.OpenFault.{OpenFault}
 use Rattle.cm_sizes.specs.declared.opening.OpenFault.TheVariants.{Image, Room}
 use Rattle.cm_sizes.specs.declared.opening.OpenSourceFault.{OpenSourceFault}
 use Rattle.cm_sizes.specs.declared.opening.OpenSourceFault.TheVariants as unopened
-use Rattle.cm_sizes.specs.Sizes.{sized}
 use Rattle.cm_sizes.specs.Opening.{image_opened, IsUnopened}
 use Rattle.cm_sizes.specs.ImageSources.{IsRefusedAs, of_open, opened_of_source}
 
@@ -69,15 +68,15 @@ refused_of most left a b c front P (unopened.Source (source.Image own)) parts fi
 )
 refused_of most left a b c front P unopened.Room parts first given = all_of most left a b c front (P Room) parts first given
 
-pub opens_all : (most left : ℕ) (a b c : Option (List ℕ)) (front : List ℕ) (P : AnyMachine → List ℕ → Type 0)
-    (r : Result AnyMachine OpenSourceFault) → length front + left ≡ most → Consumes a b front
+pub opens_all : (most left : ℕ) (a b c : Option (List ℕ)) (front : List ℕ) (P : SizedMachine → List ℕ → Type 0)
+    (r : Result SizedMachine OpenSourceFault) → length front + left ≡ most → Consumes a b front
     → IfOk r (λ machine. GivesRest left b c (λ more. P machine (front ++ more)))
     → IfOk r (λ machine. GivesRest most a c (P machine))
 opens_all most left a b c front P (Ok machine) parts first given = all_of most left a b c front (P machine) parts first given
 opens_all most left a b c front P (Err fault) parts first given = tt
 
 pub refuses_all : (most left : ℕ) (a b c : Option (List ℕ)) (front : List ℕ) (P : OpenFault → List ℕ → Type 0)
-    (r : Result AnyMachine OpenSourceFault) → length front + left ≡ most → Consumes a b front
+    (r : Result SizedMachine OpenSourceFault) → length front + left ≡ most → Consumes a b front
     → IfErr r (IsRefusedAs (λ own more. P own (front ++ more)) left b c) → IfErr r (IsRefusedAs P most a c)
 refuses_all most left a b c front P (Ok machine) parts first refused = tt
 refuses_all most left a b c front P (Err fault) parts first refused =
@@ -147,21 +146,21 @@ never_read Room told is read = let wrong : unopened.Room ≡ unopened.Source sou
 
 -- ---- an image that was all taken, and what came of it
 
-pub held_opens : (front bytes : List ℕ) (most : ℕ) (a c : Option (List ℕ)) (r : Result AnyMachine OpenFault)
-    → GivesRest most a c (λ more. bytes ≡ front ++ more) → IfOk r (λ machine. image_opened bytes ≡ Ok (sized machine))
-    → IfOk (opened_of_source r) (λ machine. GivesRest most a c (λ more. image_opened (front ++ more) ≡ Ok (sized machine)))
+pub held_opens : (front bytes : List ℕ) (most : ℕ) (a c : Option (List ℕ)) (r : Result SizedMachine OpenFault)
+    → GivesRest most a c (λ more. bytes ≡ front ++ more) → IfOk r (λ machine. image_opened bytes ≡ Ok machine)
+    → IfOk (opened_of_source r) (λ machine. GivesRest most a c (λ more. image_opened (front ++ more) ≡ Ok machine))
 held_opens front bytes most a c (Ok machine) given is =
-    rest_so most a c (λ more. bytes ≡ front ++ more) (λ more. image_opened (front ++ more) ≡ Ok (sized machine))
-    (λ more same. subst (λ (b : List ℕ). image_opened b ≡ Ok (sized machine)) same is) given
+    rest_so most a c (λ more. bytes ≡ front ++ more) (λ more. image_opened (front ++ more) ≡ Ok machine)
+    (λ more same. subst (λ (b : List ℕ). image_opened b ≡ Ok machine) same is) given
 held_opens front bytes most a c (Err fault) given is = tt
 
-pub held_refuses : (front bytes : List ℕ) (most : ℕ) (a c : Option (List ℕ)) (r : Result AnyMachine OpenFault)
+pub held_refuses : (front bytes : List ℕ) (most : ℕ) (a c : Option (List ℕ)) (r : Result SizedMachine OpenFault)
     → GivesRest most a c (λ more. bytes ≡ front ++ more) → IfErr r (IsUnopened bytes)
     → IfErr (opened_of_source r) (IsRefusedAs (λ own more. image_opened (front ++ more) ≡ Err own) most a c)
 held_refuses front bytes most a c (Ok machine) given is = tt
 held_refuses front bytes most a c (Err fault) given is = held_refused front bytes most a c fault given is
 
-pub held_reads : (r : Result AnyMachine OpenFault) → IsErrOf (opened_of_source r) (unopened.Source source.Read) → ⊥
+pub held_reads : (r : Result SizedMachine OpenFault) → IsErrOf (opened_of_source r) (unopened.Source source.Read) → ⊥
 held_reads (Ok machine) e = absurd (cc)
 held_reads (Err fault) e =
     never_read fault (of_open fault) refl (let same : of_open fault ≡ unopened.Source source.Read = cc (e) in same)

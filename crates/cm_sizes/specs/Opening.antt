@@ -6,7 +6,8 @@ use Rattle.cm_image_format.specs.declared.fault.ImageFault.TheVariants.{Memory}
 use Rattle.cm_image_format.specs.Whole.{read_shape, read_image, header_fault}
 use Rattle.cm_sizes.specs.declared.opening.OpenFault.{OpenFault}
 use Rattle.cm_sizes.specs.declared.opening.OpenFault.TheVariants.{Image, Room}
-use Rattle.cm_sizes.specs.Sizes.{SizedMachine, is_own_room}
+use Rattle.cm_array.specs.Sizes.{SizedMachine}
+use Rattle.cm_sizes.specs.Sizes.{is_own_room}
 
 -- the machine of an image of these sizes, or the fault of its bytes
 abbrev pub of_read : ℕ → ℕ → Result Machine ImageFault → Result SizedMachine OpenFault

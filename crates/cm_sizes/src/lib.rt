@@ -1,10 +1,10 @@
-//! Machines of each size that the programs have, as one type, and their images.
+//! Images of machines of the sizes that the programs have: opened as machines of any sizes, and written.
 #![tactic(auto)]
 
-mod any_machine;
+mod images;
 mod laws;
 mod opening;
 
-pub use any_machine::{AnyDims, AnyMachine};
+pub use images::image_of;
 pub use laws::images_are_short_enough;
 pub use opening::{IMAGE_LIMIT, OpenFault, OpenSourceFault, open_image, open_image_source};

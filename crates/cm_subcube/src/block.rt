@@ -8,7 +8,7 @@ ghost use Rattle.cm_array.specs.Cuts.{joined, AreWhole};
 ghost use Rattle.cm_subcube.specs.Blocks.{IsBlock, IsFresh};
 ghost use Rattle.cm_subcube.specs.Laws.{all_blocks};
 
-use cm_array::{IntoPart, Machine, Part};
+use cm_array::{IntoPart, MachineOf, Part, Sizes};
 use cm_bits::NoMemory;
 use cm_element::ChipView;
 use cm_message::{Event, Message};
@@ -124,32 +124,32 @@ impl IntoPart for Block {
 }
 
 /// Cuts a machine into 2^`k` blocks, each a copy, with room in their logs for so many petit cycles.
-pub fn split<const N: usize, const CAP: usize>(
+pub fn split<S: Sizes>(
     alloc: Global,
-    machine: &Machine<N, CAP>,
+    machine: &MachineOf<S>,
     k: u8,
     cycles: usize,
 ) -> Result<Vec<Block>, SplitFault>
     ensures value { IfOk result (λ blocks. map (λ b. b.kept.part) blocks.items
-        ≡ all_blocks N k machine.now.machine) }
-    ensures fresh { IfOk result (λ blocks. All (IsFresh N CAP k (cycles * (4 + CAP))) blocks.items) }
-    ensures split { IsErrOf result SplitFault.Split ↔ (N - N / 2 < k) }
+        ≡ all_blocks S.n k machine.now.machine) }
+    ensures fresh { IfOk result (λ blocks. All (IsFresh S.n S.cap k (cycles * (4 + S.cap))) blocks.items) }
+    ensures split { IsErrOf result SplitFault.Split ↔ (S.n - S.n / 2 < k) }
 {
     split_in(alloc, machine, k, cycles, &mut Vec::new(alloc))
 }
 
 /// The same in the room of parts that are not needed any more, as far as there are parts of as many chips as a block.
-pub fn split_in<const N: usize, const CAP: usize>(
+pub fn split_in<S: Sizes>(
     alloc: Global,
-    machine: &Machine<N, CAP>,
+    machine: &MachineOf<S>,
     k: u8,
     cycles: usize,
     used: &mut Vec<Part>,
 ) -> Result<Vec<Block>, SplitFault>
     ensures value { IfOk result (λ blocks. map (λ b. b.kept.part) blocks.items
-        ≡ all_blocks N k machine.now.machine) }
-    ensures fresh { IfOk result (λ blocks. All (IsFresh N CAP k (cycles * (4 + CAP))) blocks.items) }
-    ensures split { IsErrOf result SplitFault.Split ↔ (N - N / 2 < k) }
+        ≡ all_blocks S.n k machine.now.machine) }
+    ensures fresh { IfOk result (λ blocks. All (IsFresh S.n S.cap k (cycles * (4 + S.cap))) blocks.items) }
+    ensures split { IsErrOf result SplitFault.Split ↔ (S.n - S.n / 2 < k) }
 {
     let dims = machine.dims();
     if k > dims - dims / 2 {
@@ -165,18 +165,18 @@ pub fn split_in<const N: usize, const CAP: usize>(
 }
 
 /// Block `b` of 2^`k`, a copy, with room in its logs for so many petit cycles.
-fn cut<const N: usize, const CAP: usize>(
+fn cut<S: Sizes>(
     alloc: Global,
-    machine: &Machine<N, CAP>,
+    machine: &MachineOf<S>,
     k: u8,
     b: u16,
     cycles: usize,
     used: Option<Part>,
 ) -> Result<Block, NoMemory>
-    requires within { k ≤ N - N / 2 }
+    requires within { k ≤ S.n - S.n / 2 }
     requires block { b < 2 ^ k }
-    ensures value { IfOk result (λ cut. cut.kept.part ≡ block N k b machine.now.machine) }
-    ensures fresh { IfOk result (IsFresh N CAP k (cycles * (4 + CAP))) }
+    ensures value { IfOk result (λ cut. cut.kept.part ≡ block S.n k b machine.now.machine) }
+    ensures fresh { IfOk result (IsFresh S.n S.cap k (cycles * (4 + S.cap))) }
 {
     let size = power_of_two(machine.dims() - k);
     let part = machine.part_in(alloc, b * size, size, cycles, used)?;
@@ -200,20 +200,16 @@ fn room_for(alloc: Global, count: usize) -> Result<Vec<Block>, NoMemory>
 }
 
 /// The machine becomes that which these blocks are in their order. No memory is taken.
-pub fn join<const N: usize, const CAP: usize>(blocks: Vec<Block>, into: &mut Machine<N, CAP>)
-    requires whole { AreWhole N CAP (map (λ b. b.kept.part) blocks.items) }
+pub fn join<S: Sizes>(blocks: Vec<Block>, into: &mut MachineOf<S>)
+    requires whole { AreWhole S.n S.cap (map (λ b. b.kept.part) blocks.items) }
     ensures value { into.new.machine ≡ joined (map (λ b. b.kept.part) blocks.items) }
 {
     into.put(blocks);
 }
 
 /// The same, and keeps parts as `split_in` takes them, as many as there are places for. No memory is taken.
-pub fn join_and_keep<const N: usize, const CAP: usize>(
-    blocks: Vec<Block>,
-    into: &mut Machine<N, CAP>,
-    used: &mut Vec<Part>,
-)
-    requires whole { AreWhole N CAP (map (λ b. b.kept.part) blocks.items) }
+pub fn join_and_keep<S: Sizes>(blocks: Vec<Block>, into: &mut MachineOf<S>, used: &mut Vec<Part>)
+    requires whole { AreWhole S.n S.cap (map (λ b. b.kept.part) blocks.items) }
     ensures value { into.new.machine ≡ joined (map (λ b. b.kept.part) blocks.items) }
 {
     into.put_and_keep(blocks, used);

@@ -2,8 +2,7 @@
 use Rattle.std.proofs.Common.{◌≡◌, List, ℕ, Result, Ok, Err, refl, sym, subst, inr}
 use Rattle.std.specs.Prelude.{IfOk, IfErr}
 use Rattle.cm_language.specs.Program.{ProgramText}
-use Rattle.cm_sizes.specs.declared.any_machine.AnyMachine.{AnyMachine}
-use Rattle.cm_sizes.specs.Sizes.{SizedMachine, sized}
+use Rattle.cm_array.specs.Sizes.{SizedMachine}
 use Rattle.cm_system.specs.declared.input_files.Taken.{Taken}
 use Rattle.cm_system.specs.declared.program_fault.ProgramFault.{ProgramFault}
 use Rattle.cm_system.specs.Trace.{IoEvent, HasTrace}
@@ -25,24 +24,24 @@ refused_of {F} {P} {reads} {a} {b} {x} {y} {fault} {trace} one two refused =
 
 -- a machine was taken, and then a program, or not
 pub both_so : {S F P : Type 0} {does : S → IoEvent F P → S → Type 0} {from next : S} (to : S) (reads : Reads F)
-    (image text : List ℕ) (machine : AnyMachine) (r : Result (Taken AnyMachine) ProgramFault)
-    → HasTrace does from next (OpensImage reads image (sized machine))
+    (image text : List ℕ) (machine : SizedMachine) (r : Result (Taken SizedMachine) ProgramFault)
+    → HasTrace does from next (OpensImage reads image machine)
     → IfOk r (λ taken. HasTrace does next to (ReadsProgram reads text taken.program))
     → IfOk r (λ taken. taken.machine ≡ machine)
-    → IfOk r (λ taken. HasTrace does from to (TakesBoth reads image text (sized taken.machine) taken.program))
+    → IfOk r (λ taken. HasTrace does from to (TakesBoth reads image text taken.machine taken.program))
 both_so to reads image text machine (Ok taken) opened given same =
     did_both opened given (λ trace more opens read. record {
       first = trace;
       second = more;
       did = refl;
-      opens = subst (λ (any : AnyMachine). OpensImage reads image (sized any) trace) (sym same) opens;
+      opens = subst (λ (any : SizedMachine). OpensImage reads image any trace) (sym same) opens;
       reads_text = read;
     })
 both_so to reads image text machine (Err fault) opened given same = tt
 
 pub text_refused : {S F P : Type 0} {does : S → IoEvent F P → S → Type 0} {from next : S} (to : S) (reads : Reads F)
-    (image text : List ℕ) (machine : AnyMachine) (r : Result (Taken AnyMachine) ProgramFault)
-    → HasTrace does from next (OpensImage reads image (sized machine))
+    (image text : List ℕ) (machine : SizedMachine) (r : Result (Taken SizedMachine) ProgramFault)
+    → HasTrace does from next (OpensImage reads image machine)
     → IfErr r (λ fault. HasTrace does next to (RefusesProgram reads text fault))
     → IfErr r (λ fault. HasTrace does from to (RefusesBoth reads image text fault))
 text_refused to reads image text machine (Ok taken) opened given = tt
@@ -51,7 +50,7 @@ text_refused to reads image text machine (Err fault) opened given =
       first = trace;
       second = more;
       did = refl;
-      start = sized machine;
+      start = machine;
       opens = opens;
       refused = refused;
     }))

@@ -9,7 +9,7 @@ use Rattle.cm_image_load.specs.declared.pieces.SourceFault.TheVariants as source
 use Rattle.cm_image_load.specs.Pieces.{GivesRest}
 use Rattle.cm_sizes.specs.declared.opening.OpenSourceFault.{OpenSourceFault}
 use Rattle.cm_sizes.specs.declared.opening.OpenSourceFault.TheVariants.{Source}
-use Rattle.cm_sizes.specs.Sizes.{SizedMachine}
+use Rattle.cm_array.specs.Sizes.{SizedMachine}
 use Rattle.cm_sizes.specs.Opening.{image_opened}
 use Rattle.cm_sizes.specs.ImageSources.{IMAGE_LIMIT, IsUnopenedSource}
 use Rattle.cm_system.specs.declared.read_all.TakeFault.{TakeFault}

@@ -1,7 +1,6 @@
 //! The files that the program reads to their end, an image and a program's text.
 
 ghost use Rattle.std.specs.Prelude.{◌≡◌, IfOk, IfErr};
-ghost use Rattle.cm_sizes.specs.Sizes.{sized};
 ghost use Rattle.cm_system.specs.Trace.{HasTrace};
 ghost use Rattle.cm_system.specs.InputFiles.{OpensImage, ReadsProgram, RefusesImage, RefusesProgram, TakesFile};
 ghost use Rattle.cm_system.specs.InputFiles.{reads_by};
@@ -10,8 +9,9 @@ ghost use Rattle.cm_system.specs.InputFiles.{RefusesBoth, TakesBoth};
 use crate::program_fault::ProgramFault;
 use crate::read_all::{TakeFault, take};
 use crate::system::System;
+use cm_array::AnyMachine;
 use cm_asm::{Program, assemble};
-use cm_sizes::{AnyMachine, open_image_source};
+use cm_sizes::open_image_source;
 use std::alloc::Global;
 
 /// Most bytes of a program's file.
@@ -32,7 +32,7 @@ pub fn take_both<H: System>(
     program: &str,
 ) -> Result<Taken<AnyMachine>, ProgramFault>
     ensures value { IfOk result (λ taken. HasTrace H.does system.old system.new (TakesBoth
-        (reads_by H.File.left H.File.has_failed) image.now program.now (sized taken.machine) taken.program)) }
+        (reads_by H.File.left H.File.has_failed) image.now program.now taken.machine taken.program)) }
     ensures refused { IfErr result (λ fault. HasTrace H.does system.old system.new (RefusesBoth
         (reads_by H.File.left H.File.has_failed) image.now program.now fault)) }
 {
@@ -68,7 +68,7 @@ fn open_image_file<H: System>(
     path: &str,
 ) -> Result<AnyMachine, ProgramFault>
     ensures value { IfOk result (λ machine. HasTrace H.does system.old system.new (OpensImage
-        (reads_by H.File.left H.File.has_failed) path.now (sized machine))) }
+        (reads_by H.File.left H.File.has_failed) path.now machine)) }
     ensures refused { IfErr result (λ fault. HasTrace H.does system.old system.new (RefusesImage
         (reads_by H.File.left H.File.has_failed) path.now fault)) }
 {

@@ -10,7 +10,7 @@ ghost use Rattle.cm_system.specs.OutputFiles.{Readies, let_go};
 use crate::program_fault::ProgramFault;
 use crate::system::System;
 use crate::written::{Image, Written};
-use cm_array::Machine;
+use cm_array::{MachineOf, Sizes};
 use cm_bits::Sink;
 use std::alloc::Global;
 
@@ -61,15 +61,15 @@ pub fn flush_out<H: System, O: Sink>(system: &mut H, out: &O) -> Result<(), Prog
 
 /// Once a session has ended well, and left this machine: what it wrote goes out, and then the file that was made ready
 /// gets the machine's image. What writing that takes of memory is taken before.
-pub fn finish_files<const N: usize, const CAP: usize, H: System, O: Sink>(
+pub fn finish_files<S: Sizes, H: System, O: Sink>(
     alloc: Global,
     system: &mut H,
     part: Option<H::Pending>,
     out: &O,
-    machine: &Machine<N, CAP>,
+    machine: &MachineOf<S>,
 ) -> Result<(), ProgramFault>
     ensures value { HasTrace H.does system.old system.new
-        (FinishesWithImage N CAP machine.now.machine part (O.contents out.now)
+        (FinishesWithImage S.n S.cap machine.now.machine part (O.contents out.now)
         result) }
 {
     let Some(part) = part else {

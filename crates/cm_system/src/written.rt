@@ -7,7 +7,7 @@ ghost use Rattle.cm_image_dump.specs.Sending.{GoesOutInPart};
 ghost use Rattle.cm_system.specs.Written.{is_put_write};
 
 use crate::system::PutFault;
-use cm_array::Machine;
+use cm_array::{MachineOf, Sizes};
 use cm_bits::{NoMemory, Sink, write_all};
 use cm_image_dump::{DumpFault, DumpRoom, dump_into};
 use std::alloc::Global;
@@ -43,34 +43,34 @@ impl Written for &[u8] {
 ///
 /// Contracts see its bytes.
 #[derive(Drop)]
-pub struct Image<'a, const N: usize, const CAP: usize> {
-    machine: &'a Machine<N, CAP>,
+pub struct Image<'a, S: Sizes> {
+    machine: &'a MachineOf<S>,
     room: DumpRoom,
 }
 
-impl<'a, const N: usize, const CAP: usize> Model for Image<'a, N, CAP> {
+impl<'a, S: Sizes> Model for Image<'a, S> {
     ghost use Rattle.std.specs.Prelude.{List, ℕ};
     ghost use Rattle.cm_image_format.specs.Whole.{text_of};
     ghost use Rattle.cm_image_dump.specs.Sending.{IsRoomOf};
 
     ghost Value = { List ℕ };
 
-    ghost view = { λ image. text_of N CAP image.machine.now.machine };
+    ghost view = { λ image. text_of S.n S.cap image.machine.now.machine };
 
-    ghost invariant = { λ image. IsRoomOf N image.machine.now.machine image.room };
+    ghost invariant = { λ image. IsRoomOf S.n image.machine.now.machine image.room };
 }
 
-impl<'a, const N: usize, const CAP: usize> Image<'a, N, CAP> {
+impl<'a, S: Sizes> Image<'a, S> {
     /// The image of this machine. All memory is taken now that writing it takes.
-    pub fn of(alloc: Global, machine: &'a Machine<N, CAP>) -> Result<Image<'a, N, CAP>, NoMemory>
-        ensures value { IfOk result (λ image. image ≡ text_of N CAP machine.now.machine) }
+    pub fn of(alloc: Global, machine: &'a MachineOf<S>) -> Result<Image<'a, S>, NoMemory>
+        ensures value { IfOk result (λ image. image ≡ text_of S.n S.cap machine.now.machine) }
     {
         let room = DumpRoom::of(alloc, machine)?;
         Ok(Image { machine, room })
     }
 }
 
-impl<'a, const N: usize, const CAP: usize> Written for Image<'a, N, CAP> {
+impl<'a, S: Sizes> Written for Image<'a, S> {
     ghost bytes = { λ image. image };
 
     fn write<O: Sink>(self, sink: &mut O) -> Result<(), PutFault> {

@@ -9,7 +9,7 @@ use Rattle.cm_weave.specs.declared.first.WorldFault.TheVariants as world
 use Rattle.cm_weave.specs.Faults.{world_fault}
 use Rattle.cm_weave.specs.First.{IsFirst}
 use Rattle.cm_weave.specs.Woven.{Woven}
-use Rattle.cm_sizes.specs.Sizes.{SizedMachine}
+use Rattle.cm_array.specs.Sizes.{SizedMachine}
 use Rattle.cm_tools.specs.declared.weaves.WeaveLine.{WeaveLine}
 use Rattle.cm_system.specs.declared.program_fault.ProgramFault.{ProgramFault}
 use Rattle.cm_system.specs.declared.program_fault.ProgramFault.TheVariants.{Read}

@@ -4,21 +4,20 @@ ghost use Rattle.std.specs.Prelude.{◌≡◌, false, IfOk, IfErr, IfSome, optio
 ghost use Rattle.cm_model.specs.Machine.{run_of};
 ghost use Rattle.cm_weave_text.specs.Ends.{is_weave_write};
 ghost use Rattle.cm_weave_text.specs.Hearing.{exchange_in};
-ghost use Rattle.cm_sizes.specs.Sizes.{sized, sized_of_room};
 ghost use Rattle.cm_system.specs.Trace.{HasTrace};
 ghost use Rattle.cm_system.specs.InputFiles.{reads_by};
 ghost use Rattle.cm_tools.specs.Weaving.{EndsExchange, ended_of, outgoing_of};
 ghost use Rattle.cm_tools.specs.Weaves.{IsWeaveTrace, OpensEnds, OpensSteps, RefusesEnds, RefusesSteps, WeavesAt};
 ghost use Rattle.cm_tools.specs.Weaves.{WeavesWorld};
 
-use cm_array::Machine;
+use cm_array::{AnyMachine, MachineOf, Sizes};
 use cm_asm::Program;
 use cm_bits::{Failed, Sink, Source};
-use cm_sizes::{AnyDims, AnyMachine, on_dims, on_room};
 use cm_system::{ProgramFault, System, Taken, abort_files, finish_files, make_ready, take_both};
 use cm_weave::World;
 use cm_weave_text::{WeaveFault, give_up, weave_self, weave_session};
 use std::alloc::Global;
+use std::marker::Brand;
 
 /// What is asked of an exchange: the files of an image, of a program and of the steps, if one is named, into 2^`split`
 /// blocks how the machine is cut, and the file, if one is named, into which the image goes of the machine that is left.
@@ -70,41 +69,43 @@ fn weave_any<H: System, O: Sink>(
 ) -> Result<(), ProgramFault>
     requires writer { O.has_failed answers.old ≡ false }
     ensures does { HasTrace H.does system.old system.new (WeavesAt (reads_by H.File.left H.File.has_failed) line.now
-        (sized machine) program.now.acts
+        machine program.now.acts
         (outgoing_of (O.contents answers.old) (O.contents answers.new) (O.has_failed answers.new)) result) }
 {
-    on_room!(machine, machine => weave_of_room(alloc, system, line, machine, program, answers))
-}
-
-/// The same, on a machine of this room.
-fn weave_of_room<const CAP: usize, H: System, O: Sink>(
-    alloc: Global,
-    system: &mut H,
-    line: &WeaveLine,
-    machine: AnyDims<CAP>,
-    program: &Program,
-    answers: &mut O,
-) -> Result<(), ProgramFault>
-    requires writer { O.has_failed answers.old ≡ false }
-    ensures does { HasTrace H.does system.old system.new (WeavesAt (reads_by H.File.left H.File.has_failed) line.now
-        (sized_of_room machine.entry) program.now.acts
-        (outgoing_of (O.contents answers.old) (O.contents answers.new) (O.has_failed answers.new)) result) }
-{
-    on_dims!(machine, machine => weave_machine(alloc, system, line, machine, program, answers))
+    weave_sized::<Brand, H, O>(alloc, system, line, machine, program, answers)
 }
 
 /// The same, on a machine of these sizes.
-fn weave_machine<const N: usize, const CAP: usize, H: System, O: Sink>(
+fn weave_sized<S: Sizes, H: System, O: Sink>(
     alloc: Global,
     system: &mut H,
     line: &WeaveLine,
-    machine: Machine<N, CAP>,
+    machine: AnyMachine,
+    program: &Program,
+    answers: &mut O,
+) -> Result<(), ProgramFault>
+    requires n { machine.n ≡ S.n }
+    requires cap { machine.cap ≡ S.cap }
+    requires writer { O.has_failed answers.old ≡ false }
+    ensures does { HasTrace H.does system.old system.new (WeavesAt (reads_by H.File.left H.File.has_failed) line.now
+        machine program.now.acts
+        (outgoing_of (O.contents answers.old) (O.contents answers.new) (O.has_failed answers.new)) result) }
+{
+    weave_machine(alloc, system, line, machine.sized::<S>(), program, answers)
+}
+
+/// The same, once its sizes are those of its type.
+fn weave_machine<S: Sizes, H: System, O: Sink>(
+    alloc: Global,
+    system: &mut H,
+    line: &WeaveLine,
+    machine: MachineOf<S>,
     program: &Program,
     answers: &mut O,
 ) -> Result<(), ProgramFault>
     requires writer { O.has_failed answers.old ≡ false }
     ensures does { HasTrace H.does system.old system.new (WeavesAt (reads_by H.File.left H.File.has_failed)
-        line.now (record { n = N; cap = CAP; machine = machine.entry.machine }) program.now.acts
+        line.now (record { n = S.n; cap = S.cap; machine = machine.machine }) program.now.acts
         (outgoing_of (O.contents answers.old) (O.contents answers.new) (O.has_failed answers.new)) result) }
 {
     match World::new(alloc, machine, program.acts(), line.split) {
@@ -118,16 +119,16 @@ fn weave_machine<const N: usize, const CAP: usize, H: System, O: Sink>(
 
 /// The same, once there is a world; and then the image of the machine that is left goes into the file that was made
 /// ready, if one was.
-fn weave_world<const N: usize, const CAP: usize, H: System, O: Sink>(
+fn weave_world<S: Sizes, H: System, O: Sink>(
     alloc: Global,
     system: &mut H,
     line: &WeaveLine,
-    world: World<N, CAP>,
+    world: World<S>,
     answers: &mut O,
 ) -> Result<(), ProgramFault>
     requires writer { O.has_failed answers.old ≡ false }
     ensures does { HasTrace H.does system.old system.new (WeavesWorld (reads_by H.File.left H.File.has_failed) line.now
-        N CAP world.entry
+        S.n S.cap world
         (outgoing_of (O.contents answers.old) (O.contents answers.new) (O.has_failed answers.new)) result) }
 {
     let Ends { steps, part } = match open_ends(alloc, system, line) {
@@ -186,16 +187,16 @@ fn open_steps<H: System>(system: &mut H, steps: &Option<String>) -> Result<Optio
 }
 
 /// Steps a world to its end, by these steps or by itself, and gives the machine that is left.
-fn step_world<const N: usize, const CAP: usize, I: Source + Drop, O: Sink>(
+fn step_world<S: Sizes, I: Source + Drop, O: Sink>(
     alloc: Global,
-    world: World<N, CAP>,
+    world: World<S>,
     steps: Option<I>,
     answers: &mut O,
-) -> Result<Machine<N, CAP>, WeaveFault>
+) -> Result<MachineOf<S>, WeaveFault>
     requires reader { IfSome steps (λ one. I.has_failed one ≡ false) }
     requires writer { O.has_failed answers.old ≡ false }
-    ensures machine { IfOk result (λ done. done.machine ≡ run_of N CAP world.entry.machine world.entry.acts) }
-    ensures ends { EndsExchange (reads_by I.left I.has_failed) (exchange_in N CAP world.entry) world.entry.world steps
+    ensures machine { IfOk result (λ done. done.machine ≡ run_of S.n S.cap world.machine world.acts) }
+    ensures ends { EndsExchange (reads_by I.left I.has_failed) (exchange_in S.n S.cap world) world.world steps
         (outgoing_of (O.contents answers.old) (O.contents answers.new) (O.has_failed answers.new)) (ended_of result) }
     ensures write { O.has_failed answers.new ≡ is_weave_write result }
 {

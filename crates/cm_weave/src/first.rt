@@ -10,7 +10,7 @@ ghost use Rattle.cm_weave.specs.First.{AreBeginning, AreUnused, IsPrepared};
 
 use crate::kinds::{block_count, kind_numbered};
 use crate::lane::Lane;
-use cm_array::{Machine, RunFault, check_stretch};
+use cm_array::{MachineOf, RunFault, Sizes, check_stretch};
 use cm_bits::NoMemory;
 use cm_exchange::Stand;
 use cm_model::Act;
@@ -46,9 +46,9 @@ impl From<NoMemory> for WorldFault {
 
 /// A machine of which no world was made, as it was, and why.
 #[derive(Debug, Drop)]
-pub struct Refused<const N: usize, const CAP: usize> {
+pub struct Refused<S: Sizes> {
     pub fault: WorldFault,
-    pub machine: Machine<N, CAP>,
+    pub machine: MachineOf<S>,
 }
 
 /// What a world has beside its machine.
@@ -62,16 +62,16 @@ pub(crate) struct Prepared {
 }
 
 /// Cuts a machine into 2^`k` blocks, which go by themselves to their first round, and makes lanes for them.
-pub(crate) fn begin<const N: usize, const CAP: usize>(
+pub(crate) fn begin<S: Sizes>(
     alloc: Global,
-    machine: &Machine<N, CAP>,
+    machine: &MachineOf<S>,
     acts: &[Act],
     k: u8,
 ) -> Result<Prepared, WorldFault>
-    ensures value { IfOk result (IsPrepared N CAP k machine.now.machine acts.now) }
-    ensures ok { IsOk result → world_fault N k machine.now.machine.clock acts.now ≡ None }
+    ensures value { IfOk result (IsPrepared S.n S.cap k machine.now.machine acts.now) }
+    ensures ok { IsOk result → world_fault S.n k machine.now.machine.clock acts.now ≡ None }
     ensures fault { IfErr result (λ fault. fault
-        ≡ unwrap_or (world_fault N k machine.now.machine.clock acts.now) WorldFault.Memory) }
+        ≡ unwrap_or (world_fault S.n k machine.now.machine.clock acts.now) WorldFault.Memory) }
 {
     let cycles = look_at(machine, acts, k)?;
     let dims = machine.dims();
@@ -85,18 +85,14 @@ pub(crate) fn begin<const N: usize, const CAP: usize>(
 }
 
 /// What is refused before memory is asked for; tells how many petit cycles there are.
-fn look_at<const N: usize, const CAP: usize>(
-    machine: &Machine<N, CAP>,
-    acts: &[Act],
-    k: u8,
-) -> Result<usize, WorldFault>
-    ensures ok { IsOk result → world_fault N k machine.now.machine.clock acts.now ≡ None }
+fn look_at<S: Sizes>(machine: &MachineOf<S>, acts: &[Act], k: u8) -> Result<usize, WorldFault>
+    ensures ok { IsOk result → world_fault S.n k machine.now.machine.clock acts.now ≡ None }
     ensures fault { IfErr result (λ fault. fault
-        ≡ unwrap_or (world_fault N k machine.now.machine.clock acts.now) WorldFault.Memory) }
+        ≡ unwrap_or (world_fault S.n k machine.now.machine.clock acts.now) WorldFault.Memory) }
     ensures cycles { IfOk result (λ cycles. cycles ≡ cycles_in acts.now) }
     ensures few { IsOk result → length acts.now ≤ 4096 }
     ensures clock { IsOk result → machine.now.machine.clock + cycles_in acts.now < 2 ^ 63 }
-    ensures within { IsOk result → k ≤ N - N / 2 }
+    ensures within { IsOk result → k ≤ S.n - S.n / 2 }
 {
     let cycles = match check_stretch(acts, machine.clock()) {
         Ok(cycles) => cycles,
@@ -120,17 +116,17 @@ fn copied(alloc: Global, acts: &[Act]) -> Result<Vec<Act>, NoMemory>
 }
 
 /// The blocks of a machine, each of which has gone by itself to its first round. The acts have so many petit cycles.
-fn first_blocks<const N: usize, const CAP: usize>(
+fn first_blocks<S: Sizes>(
     alloc: Global,
-    machine: &Machine<N, CAP>,
+    machine: &MachineOf<S>,
     acts: &[Act],
     k: u8,
     cycles: usize,
 ) -> Result<Vec<Block>, NoMemory>
-    requires within { k ≤ N - N / 2 }
+    requires within { k ≤ S.n - S.n / 2 }
     requires cycles { cycles ≡ cycles_in acts.now }
     requires clock { machine.now.machine.clock + cycles < 2 ^ 63 }
-    ensures value { IfOk result (λ blocks. AreBeginning N CAP k machine.now.machine acts.now (2 ^ k) blocks.items) }
+    ensures value { IfOk result (λ blocks. AreBeginning S.n S.cap k machine.now.machine acts.now (2 ^ k) blocks.items) }
 {
     // For the prover alone: a call brings in what holds of every machine.
     let _clock = machine.clock();

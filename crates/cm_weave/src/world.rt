@@ -18,7 +18,7 @@ ghost use Rattle.cm_weave.specs.Woven.{IsOnItsWay};
 use crate::first::{Refused, WorldFault, begin};
 use crate::kinds::{block_count, lane_moved};
 use crate::lane::{Lane, weave};
-use cm_array::Machine;
+use cm_array::{MachineOf, Sizes};
 use cm_exchange::{Stand, Step};
 use cm_model::Act;
 use cm_subcube::{Block, Round, join};
@@ -36,9 +36,9 @@ pub struct NotNow;
 /// Contracts see into how many blocks it was cut, the machine and the acts, the world of their exchange, and what each
 /// block has.
 #[derive(Debug, Drop)]
-pub struct World<const N: usize, const CAP: usize> {
+pub struct World<S: Sizes> {
     pub(crate) k: u8,
-    pub(crate) machine: Machine<N, CAP>,
+    pub(crate) machine: MachineOf<S>,
     pub(crate) acts: Vec<Act>,
     pub(crate) rounds: Vec<Round>,
     pub(crate) blocks: Vec<Block>,
@@ -47,7 +47,7 @@ pub struct World<const N: usize, const CAP: usize> {
     pub(crate) lanes: Vec<Lane>,
 }
 
-impl<const N: usize, const CAP: usize> Model for World<N, CAP> {
+impl<S: Sizes> Model for World<S> {
     ghost use Rattle.std.specs.Prelude.{map};
     ghost use Rattle.cm_weave.specs.Woven.{Woven, AreWoven, world_seen};
 
@@ -61,24 +61,24 @@ impl<const N: usize, const CAP: usize> Model for World<N, CAP> {
       parts = map (λ b. b.kept.part) world.blocks.items;
     } };
 
-    ghost invariant = { λ world. AreWoven N CAP world.k world.machine.machine world.acts.items world.rounds.items
+    ghost invariant = { λ world. AreWoven S.n S.cap world.k world.machine.machine world.acts.items world.rounds.items
         world.blocks.items world.stands.items world.lanes.items };
 }
 
-impl<const N: usize, const CAP: usize> World<N, CAP> {
+impl<S: Sizes> World<S> {
     /// Cuts a machine into 2^`k` blocks for a run, each of which goes by itself to its first round. Where there is no
     /// world the machine comes back.
     pub fn new(
         alloc: Global,
-        machine: Machine<N, CAP>,
+        machine: MachineOf<S>,
         acts: &[Act],
         k: u8,
-    ) -> Result<World<N, CAP>, Refused<N, CAP>>
-        ensures value { IfOk result (IsFirst N CAP k machine.entry.machine acts.now) }
-        ensures ok { IsOk result → world_fault N k machine.entry.machine.clock acts.now ≡ None }
+    ) -> Result<World<S>, Refused<S>>
+        ensures value { IfOk result (IsFirst S.n S.cap k machine.machine acts.now) }
+        ensures ok { IsOk result → world_fault S.n k machine.machine.clock acts.now ≡ None }
         ensures fault { IfErr result (λ back. back.fault
-            ≡ unwrap_or (world_fault N k machine.entry.machine.clock acts.now) WorldFault.Memory) }
-        ensures err { IfErr result (λ back. back.machine ≡ machine.entry) }
+            ≡ unwrap_or (world_fault S.n k machine.machine.clock acts.now) WorldFault.Memory) }
+        ensures err { IfErr result (λ back. back.machine ≡ machine) }
     {
         match begin(alloc, &machine, acts, k) {
             Ok(begun) => Ok(World {
@@ -97,17 +97,17 @@ impl<const N: usize, const CAP: usize> World<N, CAP> {
     /// Into 2^k blocks the machine was cut.
     pub fn k(&self) -> u8
         ensures value { result ≡ self.now.k }
-        ensures way { IsOnItsWay N CAP self.now }
+        ensures way { IsOnItsWay S.n S.cap self.now }
     {
         self.k
     }
 
     /// Takes a step, if it can be taken now.
     pub fn play(&mut self, step: Step) -> Result<(), NotNow>
-        ensures ok { OnOk result (next_world (exchange_of N CAP self.old.k self.old.machine self.old.acts)
+        ensures ok { OnOk result (next_world (exchange_of S.n S.cap self.old.k self.old.machine self.old.acts)
             self.old.world step ≡ Some self.new.world) }
         ensures refused { IsErr result ↔ (next_world
-            (exchange_of N CAP self.old.k self.old.machine self.old.acts) self.old.world step ≡ None) }
+            (exchange_of S.n S.cap self.old.k self.old.machine self.old.acts) self.old.world step ≡ None) }
         ensures blocks { self.new.k ≡ self.old.k }
         ensures machine { self.new.machine ≡ self.old.machine }
         ensures acts { self.new.acts ≡ self.old.acts }
@@ -123,11 +123,11 @@ impl<const N: usize, const CAP: usize> World<N, CAP> {
     /// The step of the lowest block that has one; a world without any is finished.
     pub fn next(&self) -> Option<Step>
         ensures value { result
-            ≡ next_step (exchange_of N CAP self.now.k self.now.machine self.now.acts) self.now.world }
+            ≡ next_step (exchange_of S.n S.cap self.now.k self.now.machine self.now.acts) self.now.world }
         ensures finished { IsNone result
-            ↔ IsFinished (exchange_of N CAP self.now.k self.now.machine self.now.acts) self.now.world }
+            ↔ IsFinished (exchange_of S.n S.cap self.now.k self.now.machine self.now.acts) self.now.world }
         ensures possible { IfSome result
-            (IsNext (exchange_of N CAP self.now.k self.now.machine self.now.acts) self.now.world) }
+            (IsNext (exchange_of S.n S.cap self.now.k self.now.machine self.now.acts) self.now.world) }
     {
         let count = block_count(self.k);
         for b in 0..count {
@@ -140,11 +140,11 @@ impl<const N: usize, const CAP: usize> World<N, CAP> {
     }
 
     /// The machine after the run, where every block is through; else the world as it is.
-    pub fn finish(self) -> Result<Machine<N, CAP>, World<N, CAP>>
-        ensures ok { IfOk result (λ done. done.machine ≡ run_of N CAP self.entry.machine self.entry.acts) }
+    pub fn finish(self) -> Result<MachineOf<S>, World<S>>
+        ensures ok { IfOk result (λ done. done.machine ≡ run_of S.n S.cap self.machine self.acts) }
         ensures finished { IsOk result
-            ↔ IsFinished (exchange_of N CAP self.entry.k self.entry.machine self.entry.acts) self.entry.world }
-        ensures err { IfErr result (λ back. back ≡ self.entry) }
+            ↔ IsFinished (exchange_of S.n S.cap self.k self.machine self.acts) self.world }
+        ensures err { IfErr result (λ back. back ≡ self) }
     {
         if !self.is_finished() {
             return Err(self);
@@ -163,7 +163,7 @@ impl<const N: usize, const CAP: usize> World<N, CAP> {
     /// Whether every block is through all rounds.
     fn is_finished(&self) -> bool
         ensures value { IsTrue result
-            ↔ IsFinished (exchange_of N CAP self.now.k self.now.machine self.now.acts) self.now.world }
+            ↔ IsFinished (exchange_of S.n S.cap self.now.k self.now.machine self.now.acts) self.now.world }
     {
         are_through(&self.stands, self.rounds.len())
     }
@@ -171,7 +171,7 @@ impl<const N: usize, const CAP: usize> World<N, CAP> {
     /// Whether a step can be taken now.
     fn can(&self, step: Step) -> bool
         ensures value { result ≡ is_possible
-            (exchange_of N CAP self.now.k self.now.machine self.now.acts) self.now.world step }
+            (exchange_of S.n S.cap self.now.k self.now.machine self.now.acts) self.now.world step }
     {
         let b = usize::from(step.block());
         if b >= self.stands.len() {
@@ -185,7 +185,7 @@ impl<const N: usize, const CAP: usize> World<N, CAP> {
         requires block { block_of step < 2 ^ self.now.k }
         requires stands { stand ≡ stand_of self.now.world (block_of step) }
         ensures value { result ≡ is_possible
-            (exchange_of N CAP self.now.k self.now.machine self.now.acts) self.now.world step }
+            (exchange_of S.n S.cap self.now.k self.now.machine self.now.acts) self.now.world step }
     {
         if stand.round >= self.rounds.len() {
             return false;
@@ -200,10 +200,10 @@ impl<const N: usize, const CAP: usize> World<N, CAP> {
     fn is_free(&self, step: Step, stand: Stand) -> bool
         requires block { block_of step < 2 ^ self.now.k }
         requires stands { stand ≡ stand_of self.now.world (block_of step) }
-        requires round { stand.round < round_count (exchange_of N CAP self.now.k self.now.machine self.now.acts) }
+        requires round { stand.round < round_count (exchange_of S.n S.cap self.now.k self.now.machine self.now.acts) }
         requires stage { stand.stage ≡ stage_of step }
         ensures value { result ≡ is_possible
-            (exchange_of N CAP self.now.k self.now.machine self.now.acts) self.now.world step }
+            (exchange_of S.n S.cap self.now.k self.now.machine self.now.acts) self.now.world step }
     {
         let kind = self.rounds[stand.round].kind;
         let at = lane_moved(self.machine.dims(), self.k, step, kind);
@@ -213,9 +213,9 @@ impl<const N: usize, const CAP: usize> World<N, CAP> {
     /// Takes a step that can be taken.
     fn take(&mut self, step: Step)
         requires can { is_possible
-            (exchange_of N CAP self.old.k self.old.machine self.old.acts) self.old.world step ≡ true }
+            (exchange_of S.n S.cap self.old.k self.old.machine self.old.acts) self.old.world step ≡ true }
         ensures value { self.new.world ≡ world_after
-            (exchange_of N CAP self.old.k self.old.machine self.old.acts) self.old.world step }
+            (exchange_of S.n S.cap self.old.k self.old.machine self.old.acts) self.old.world step }
         ensures blocks { self.new.k ≡ self.old.k }
         ensures machine { self.new.machine ≡ self.old.machine }
         ensures acts { self.new.acts ≡ self.old.acts }

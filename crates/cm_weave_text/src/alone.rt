@@ -14,7 +14,7 @@ ghost use Rattle.cm_weave_text.specs.Hearing.{exchange_in, TextAborts, HasSentFr
 use crate::fault::WeaveFault;
 use crate::outgoing::send;
 use crate::sessions::give_up;
-use cm_array::Machine;
+use cm_array::{MachineOf, Sizes};
 use cm_bits::Sink;
 use cm_exchange::Step;
 use cm_weave::World;
@@ -34,16 +34,16 @@ struct Played {
 /// Takes the next step until there is none, and writes each as a line; then how many they were, and that the world is
 /// finished. After a fault, of writing or for want of memory, a front of that text is written, and the world is given
 /// up.
-pub fn weave_self<const N: usize, const CAP: usize, O: Sink>(
+pub fn weave_self<S: Sizes, O: Sink>(
     alloc: Global,
-    world: World<N, CAP>,
+    world: World<S>,
     out: &mut O,
-) -> Result<Machine<N, CAP>, WeaveFault>
+) -> Result<MachineOf<S>, WeaveFault>
     requires writer { O.has_failed out.old ≡ false }
-    ensures machine { IfOk result (λ done. done.machine ≡ run_of N CAP world.entry.machine world.entry.acts) }
+    ensures machine { IfOk result (λ done. done.machine ≡ run_of S.n S.cap world.machine world.acts) }
     ensures ok { IsOk result → Appends (O.contents out.old) (O.contents out.new)
-        (own_text (exchange_in N CAP world.entry) world.entry.world) }
-    ensures err { IfErr result (IsWrittenInPart (own_text (exchange_in N CAP world.entry) world.entry.world)
+        (own_text (exchange_in S.n S.cap world) world.world) }
+    ensures err { IfErr result (IsWrittenInPart (own_text (exchange_in S.n S.cap world) world.world)
         (O.contents out.old) (O.contents out.new)) }
     ensures write { O.has_failed out.new ≡ is_weave_write result }
 {
@@ -62,17 +62,17 @@ pub fn weave_self<const N: usize, const CAP: usize, O: Sink>(
 }
 
 /// Takes the next step until there is none, and writes all that is told.
-fn tell_all<const N: usize, const CAP: usize, O: Sink>(
+fn tell_all<S: Sizes, O: Sink>(
     alloc: Global,
-    world: &mut World<N, CAP>,
+    world: &mut World<S>,
     out: &mut O,
 ) -> Result<(), WeaveFault>
     requires writer { O.has_failed out.old ≡ false }
     ensures run { IsOfRun world.old world.new }
-    ensures finished { OnOk result (IsFinished (exchange_in N CAP world.old) world.new.world) }
+    ensures finished { OnOk result (IsFinished (exchange_in S.n S.cap world.old) world.new.world) }
     ensures ok { OnOk result (Appends (O.contents out.old) (O.contents out.new)
-        (own_text (exchange_in N CAP world.old) world.old.world)) }
-    ensures err { IfErr result (IsWrittenInPart (own_text (exchange_in N CAP world.old) world.old.world)
+        (own_text (exchange_in S.n S.cap world.old) world.old.world)) }
+    ensures err { IfErr result (IsWrittenInPart (own_text (exchange_in S.n S.cap world.old) world.old.world)
         (O.contents out.old) (O.contents out.new)) }
     ensures write { O.has_failed out.new ≡ is_weave_write result }
 {
@@ -92,18 +92,18 @@ fn tell_all<const N: usize, const CAP: usize, O: Sink>(
 }
 
 /// Takes the next step until there is none; tells of each.
-fn play_on<const N: usize, const CAP: usize, O: Sink>(
-    world: &mut World<N, CAP>,
+fn play_on<S: Sizes, O: Sink>(
+    world: &mut World<S>,
     text: &mut Vec<u8>,
     out: &mut O,
 ) -> Result<Played, WeaveFault>
     requires writer { O.has_failed out.old ≡ false }
     requires none { text.old.items ≡ [] }
     ensures run { IsOfRun world.old world.new }
-    ensures ok { IfOk result (λ played. HasPlayed (exchange_in N CAP world.old) world.old.world world.new.world
+    ensures ok { IfOk result (λ played. HasPlayed (exchange_in S.n S.cap world.old) world.old.world world.new.world
         (O.contents out.old) (O.contents out.new) text.new.items played.steps played.sent) }
     ensures few { IfOk result (λ played. played.sent < 2 ^ 127) }
-    ensures err { IfErr result (IsWrittenInPart (own_text (exchange_in N CAP world.old) world.old.world)
+    ensures err { IfErr result (IsWrittenInPart (own_text (exchange_in S.n S.cap world.old) world.old.world)
         (O.contents out.old) (O.contents out.new)) }
     ensures write { O.has_failed out.new ≡ is_weave_write result }
 {
@@ -121,19 +121,19 @@ fn play_on<const N: usize, const CAP: usize, O: Sink>(
 }
 
 /// Takes a step and tells of it, behind so many bytes that went out; tells how many they are then.
-fn tell_step<const N: usize, const CAP: usize, O: Sink>(
-    world: &mut World<N, CAP>,
+fn tell_step<S: Sizes, O: Sink>(
+    world: &mut World<S>,
     step: Step,
     text: &mut Vec<u8>,
     sent: u128,
     out: &mut O,
 ) -> Result<u128, WeaveFault>
-    requires possible { is_possible (exchange_in N CAP world.old) world.old.world step ≡ true }
+    requires possible { is_possible (exchange_in S.n S.cap world.old) world.old.world step ≡ true }
     requires writer { O.has_failed out.old ≡ false }
     requires room { sent + 2 ^ 64 < 2 ^ 128 }
     ensures run { IsOfRun world.old world.new }
     ensures world { OnOk result (world.new.world
-        ≡ world_after (exchange_in N CAP world.old) world.old.world step) }
+        ≡ world_after (exchange_in S.n S.cap world.old) world.old.world step) }
     ensures ok { IfOk result (HasSentFront (text.old.items
         ++ step_line step) sent (O.contents out.old) (O.contents out.new)
         text.new.items) }

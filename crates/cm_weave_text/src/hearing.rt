@@ -7,6 +7,7 @@ ghost use Rattle.cm_weave_text.specs.Hearing.{exchange_in, processed, with_line_
 ghost use Rattle.cm_weave_text.specs.Session.{world_after_line};
 
 use crate::reader::read_step;
+use cm_array::Sizes;
 use cm_session::Refusal;
 use cm_weave::{NotNow, World};
 use memchr::memchr;
@@ -14,15 +15,15 @@ use std::alloc::AllocError;
 
 /// Plays the lines whose ends stand among these bytes, adds their answers to those so far, and keeps the bytes of the
 /// line that is open.
-pub fn hear<const N: usize, const CAP: usize>(
-    world: &mut World<N, CAP>,
+pub fn hear<S: Sizes>(
+    world: &mut World<S>,
     piece: &[u8],
     line: &mut Vec<u8>,
     answers: &mut Vec<u8>,
 ) -> Result<(), AllocError>
     ensures run { IsOfRun world.old world.new }
     ensures ok { OnOk result (record { world = world.new.world; line = line.new.items; answers = answers.new.items }
-        ≡ processed (exchange_in N CAP world.old)
+        ≡ processed (exchange_in S.n S.cap world.old)
         (record { world = world.old.world; line = line.old.items; answers = answers.old.items }) piece.now) }
 {
     let mut done = 0;
@@ -40,14 +41,14 @@ pub fn hear<const N: usize, const CAP: usize>(
 }
 
 /// The line that is open has ended.
-fn end_line<const N: usize, const CAP: usize>(
-    world: &mut World<N, CAP>,
+fn end_line<S: Sizes>(
+    world: &mut World<S>,
     line: &mut Vec<u8>,
     answers: &mut Vec<u8>,
 ) -> Result<(), AllocError>
     ensures run { IsOfRun world.old world.new }
     ensures ok { OnOk result (record { world = world.new.world; line = line.new.items; answers = answers.new.items }
-        ≡ with_line_ended (exchange_in N CAP world.old)
+        ≡ with_line_ended (exchange_in S.n S.cap world.old)
         (record { world = world.old.world; line = line.old.items; answers = answers.old.items })) }
 {
     let answer = answer_line(world, line);
@@ -58,13 +59,10 @@ fn end_line<const N: usize, const CAP: usize>(
 
 /// Plays a line; tells its answer.
 #[tactic(auto, unfolding(crate::specs::Session::world_after_line, cm_session::specs::Answer::line))]
-fn answer_line<const N: usize, const CAP: usize>(
-    world: &mut World<N, CAP>,
-    line: &[u8],
-) -> &'static [u8]
+fn answer_line<S: Sizes>(world: &mut World<S>, line: &[u8]) -> &'static [u8]
     ensures run { IsOfRun world.old world.new }
     ensures value { record { world = world.new.world; answer = result.now }
-        ≡ world_after_line (exchange_in N CAP world.old) world.old.world line.now }
+        ≡ world_after_line (exchange_in S.n S.cap world.old) world.old.world line.now }
 {
     match read_step(line, world.k()) {
         Ok(None) => b"",

@@ -12,7 +12,7 @@ ghost use Rattle.cm_weave_text.specs.Hearing.{IsOfRun};
 use crate::fault::WeaveFault;
 use crate::hearing::hear;
 use crate::outgoing::send;
-use cm_array::Machine;
+use cm_array::{MachineOf, Sizes};
 use cm_bits::{Sink, Source, write_all};
 use cm_weave::World;
 use std::alloc::Global;
@@ -28,23 +28,23 @@ const READ_AT_ONCE: usize = 4096;
 ///
 /// After a fault of reading, and after too much, the lines that ended before are answered. After a failed write, or for
 /// want of memory, a front of what would be told is written. With any fault the world is given up.
-pub fn weave_session<const N: usize, const CAP: usize, I: Source, O: Sink>(
+pub fn weave_session<S: Sizes, I: Source, O: Sink>(
     alloc: Global,
-    world: World<N, CAP>,
+    world: World<S>,
     steps: &mut I,
     out: &mut O,
-) -> Result<Machine<N, CAP>, WeaveFault>
+) -> Result<MachineOf<S>, WeaveFault>
     requires reader { I.has_failed steps.old ≡ false }
     requires writer { O.has_failed out.old ≡ false }
-    ensures machine { IfOk result (λ done. done.machine ≡ run_of N CAP world.entry.machine world.entry.acts) }
-    ensures finished { IsOk result → IfSome (I.left steps.old) (λ text. EndsFinished (exchange_in N CAP world.entry)
-        text world.entry.world (O.contents out.old) (O.contents out.new)) }
-    ensures err { IfErr result (λ fault. IfSome (I.left steps.old) (λ text. EndsBy (exchange_in N CAP world.entry)
-        text (I.left steps.new) world.entry.world (O.contents out.old) (O.contents out.new) fault)) }
+    ensures machine { IfOk result (λ done. done.machine ≡ run_of S.n S.cap world.machine world.acts) }
+    ensures finished { IsOk result → IfSome (I.left steps.old) (λ text. EndsFinished (exchange_in S.n S.cap world)
+        text world.world (O.contents out.old) (O.contents out.new)) }
+    ensures err { IfErr result (λ fault. IfSome (I.left steps.old) (λ text. EndsBy (exchange_in S.n S.cap world)
+        text (I.left steps.new) world.world (O.contents out.old) (O.contents out.new) fault)) }
     ensures heard { MatchResult result
-        (λ _. EndsFinishedForSome (exchange_in N CAP world.entry) (I.left steps.old) (I.left steps.new)
-        world.entry.world (O.contents out.old) (O.contents out.new))
-        (EndsByForSome (exchange_in N CAP world.entry) (I.left steps.old) (I.left steps.new) world.entry.world
+        (λ _. EndsFinishedForSome (exchange_in S.n S.cap world) (I.left steps.old) (I.left steps.new)
+        world.world (O.contents out.old) (O.contents out.new))
+        (EndsByForSome (exchange_in S.n S.cap world) (I.left steps.old) (I.left steps.new) world.world
         (O.contents out.old) (O.contents out.new)) }
     ensures within { ConsumesAtMost (STEPS_LIMIT + PIECE_LIMIT) (I.left steps.old) (I.left steps.new) }
     ensures read { (I.has_failed steps.new ≡ true) ↔ IsErrOf result WeaveFault.Read }
@@ -77,29 +77,29 @@ pub fn weave_session<const N: usize, const CAP: usize, I: Source, O: Sink>(
 }
 
 /// Frees a machine, or a world with one. It stands apart: at each call the code that frees all lists of a machine would
-/// stand once more, for each size of a machine.
+/// stand once more.
 #[inline(never)]
 pub fn give_up<T: Drop>(_machine: T) {}
 
 /// Answers all lines; tells how many bytes the answers have.
-fn hear_all<const N: usize, const CAP: usize, I: Source, O: Sink>(
+fn hear_all<S: Sizes, I: Source, O: Sink>(
     alloc: Global,
-    world: &mut World<N, CAP>,
+    world: &mut World<S>,
     steps: &mut I,
     out: &mut O,
 ) -> Result<u128, WeaveFault>
     requires reader { I.has_failed steps.old ≡ false }
     requires writer { O.has_failed out.old ≡ false }
     ensures run { IsOfRun world.old world.new }
-    ensures ok { IfOk result (λ sent. IfSome (I.left steps.old) (λ text. IsHeard (exchange_in N CAP world.old) text
+    ensures ok { IfOk result (λ sent. IfSome (I.left steps.old) (λ text. IsHeard (exchange_in S.n S.cap world.old) text
         world.old.world (O.contents out.old) world.new.world (O.contents out.new) sent)) }
     ensures few { IfOk result (λ sent. sent < 2 ^ 127) }
-    ensures err { IfErr result (λ fault. IfSome (I.left steps.old) (λ text. EndsBy (exchange_in N CAP world.old) text
-        (I.left steps.new) world.old.world (O.contents out.old) (O.contents out.new) fault)) }
+    ensures err { IfErr result (λ fault. IfSome (I.left steps.old) (λ text. EndsBy (exchange_in S.n S.cap world.old)
+        text (I.left steps.new) world.old.world (O.contents out.old) (O.contents out.new) fault)) }
     ensures heard { MatchResult result
-        (IsHeardForSome (exchange_in N CAP world.old) (I.left steps.old) (I.left steps.new) world.old.world
+        (IsHeardForSome (exchange_in S.n S.cap world.old) (I.left steps.old) (I.left steps.new) world.old.world
         (O.contents out.old) world.new.world (O.contents out.new))
-        (EndsByForSome (exchange_in N CAP world.old) (I.left steps.old) (I.left steps.new) world.old.world
+        (EndsByForSome (exchange_in S.n S.cap world.old) (I.left steps.old) (I.left steps.new) world.old.world
         (O.contents out.old) (O.contents out.new)) }
     ensures within { ConsumesAtMost (STEPS_LIMIT + PIECE_LIMIT) (I.left steps.old) (I.left steps.new) }
     ensures read { (I.has_failed steps.new ≡ true) ↔ IsErrOf result WeaveFault.Read }
@@ -139,8 +139,8 @@ fn hear_all<const N: usize, const CAP: usize, I: Source, O: Sink>(
 }
 
 /// Answers the lines whose ends stand among these bytes, behind so many bytes of answers; tells how many they are then.
-fn tell<const N: usize, const CAP: usize, O: Sink>(
-    world: &mut World<N, CAP>,
+fn tell<S: Sizes, O: Sink>(
+    world: &mut World<S>,
     piece: &[u8],
     line: &mut Vec<u8>,
     answers: &mut Vec<u8>,
@@ -150,10 +150,10 @@ fn tell<const N: usize, const CAP: usize, O: Sink>(
     requires writer { O.has_failed out.old ≡ false }
     requires room { sent + 2 ^ 64 < 2 ^ 128 }
     ensures run { IsOfRun world.old world.new }
-    ensures ok { IfOk result (HasHeard (exchange_in N CAP world.old) world.old.world world.new.world line.old.items
+    ensures ok { IfOk result (HasHeard (exchange_in S.n S.cap world.old) world.old.world world.new.world line.old.items
         line.new.items piece.now sent (O.contents out.old) (O.contents out.new)) }
     ensures few { IfOk result (λ now. now < sent + 2 ^ 64) }
-    ensures err { IfErr result (TextAborts (processed (exchange_in N CAP world.old)
+    ensures err { IfErr result (TextAborts (processed (exchange_in S.n S.cap world.old)
         (record { world = world.old.world; line = line.old.items; answers = [] }) piece.now).answers sent
         (O.contents out.old) (O.contents out.new)) }
     ensures write { O.has_failed out.new ≡ is_weave_write result }

@@ -15,9 +15,9 @@ ghost use Rattle.cm_workers.specs.Posts.{blank_post};
 ghost use Rattle.cm_workers.specs.Runs.{StandAt};
 
 use crate::post::Post;
-use crate::running::{Run, Sizes, run_blocks};
+use crate::running::{CutSizes, Run, run_blocks};
 use crate::turn::Crew;
-use cm_array::{Machine, RunFault, Runner, check_stretch};
+use cm_array::{MachineOf, RunFault, Runner, Sizes, check_stretch};
 use cm_bits::NoMemory;
 use cm_gates::{ForkFault, NoThread, OutOf, Passage, fault_of, share_of, told};
 use cm_model::Act;
@@ -71,7 +71,7 @@ impl<'a, R> Forked<'a, R> {
     }
 
     /// How it shares out a machine of so many dimensions.
-    fn sizes(&self, dims: u8) -> Sizes
+    fn sizes(&self, dims: u8) -> CutSizes
         requires dimension { dims ≤ 12 }
         ensures dims { result.dims ≡ dims }
         ensures blocks { result.k ≡ most_blocks dims self.now.k }
@@ -81,7 +81,7 @@ impl<'a, R> Forked<'a, R> {
         ensures few { result.workers ≤ 64 }
     {
         let share = share_of(self.k, self.workers, dims);
-        Sizes {
+        CutSizes {
             dims,
             k: share.k,
             workers: share.workers,
@@ -89,7 +89,7 @@ impl<'a, R> Forked<'a, R> {
     }
 }
 
-impl<'a, const N: usize, const CAP: usize, R: Threads + Wait> Runner<N, CAP> for Forked<'a, R> {
+impl<'a, S: Sizes, R: Threads + Wait> Runner<S> for Forked<'a, R> {
     ghost ready = { IsSync R.row };
 
     ghost threads_lacked = { λ runner. runner.threads_lacked };
@@ -98,18 +98,18 @@ impl<'a, const N: usize, const CAP: usize, R: Threads + Wait> Runner<N, CAP> for
     /// the logs of all petit cycles in the list. Then each worker is admitted, before any is started. A round takes
     /// memory to deal the blocks out and to take them back. Where memory or a thread is wanting the machine stays as
     /// it was.
-    fn go(&mut self, machine: &mut Machine<N, CAP>, acts: &[Act]) -> Result<(), RunFault>
+    fn go(&mut self, machine: &mut MachineOf<S>, acts: &[Act]) -> Result<(), RunFault>
         requires runner { IsSync R.row }
         ensures long { (result ≡ Err RunFault.Long) ↔ IsTrue (is_long acts.now) }
         ensures clock { (result ≡ Err RunFault.Clock)
             ↔ (IsFalse (is_long acts.now) × IsTrue (is_late machine.old.machine.clock acts.now)) }
         ensures empty { acts.now ≡ [] → IsOk result }
-        ensures ok { OnOk result (machine.new.machine ≡ run_of N CAP machine.old.machine acts.now) }
-        ensures account { OnOk result (SameLines (account N machine.new.machine)
-            (account N machine.old.machine ++ newly_injected N machine.old.machine machine.new.machine)) }
+        ensures ok { OnOk result (machine.new.machine ≡ run_of S.n S.cap machine.old.machine acts.now) }
+        ensures account { OnOk result (SameLines (account S.n machine.new.machine)
+            (account S.n machine.old.machine ++ newly_injected S.n machine.old.machine machine.new.machine)) }
         ensures threads { CountsLacks is_no_thread self.old.threads_lacked self.new.threads_lacked result }
         ensures admitted { IfOk result (λ _. acts.now ≢ [] → (gate : _) → self.old.passage ≡ Passage.Gated gate
-            → (w : ℕ) → w < most_workers N self.old.k self.old.workers → admits (gate.vtable, gate.value) w) }
+            → (w : ℕ) → w < most_workers S.n self.old.k self.old.workers → admits (gate.vtable, gate.value) w) }
         ensures err { OnErr result (machine.new.machine ≡ machine.old.machine) }
         ensures blocks { self.new.k ≡ self.old.k }
         ensures workers { self.new.workers ≡ self.old.workers }
@@ -130,22 +130,22 @@ impl<'a, const N: usize, const CAP: usize, R: Threads + Wait> Runner<N, CAP> for
 
 impl<'a, R: Threads + Wait> Forked<'a, R> {
     /// A machine goes through a run by its blocks, or stays as it was. The acts have so many petit cycles.
-    fn fork<const N: usize, const CAP: usize>(
+    fn fork<S: Sizes>(
         &self,
-        machine: &mut Machine<N, CAP>,
+        machine: &mut MachineOf<S>,
         acts: &[Act],
-        sizes: Sizes,
+        sizes: CutSizes,
         cycles: usize,
     ) -> Result<(), OutOf>
-        requires dimension { sizes.dims ≡ N }
-        requires within { sizes.k ≤ N - N / 2 }
+        requires dimension { sizes.dims ≡ S.n }
+        requires within { sizes.k ≤ S.n - S.n / 2 }
         requires some { 0 < sizes.workers }
         requires few { sizes.workers ≤ 64 }
         requires cycles { cycles ≡ cycles_in acts.now }
         requires clock { machine.old.machine.clock + cycles < 2 ^ 63 }
-        ensures ok { OnOk result (machine.new.machine ≡ run_of N CAP machine.old.machine acts.now) }
-        ensures account { OnOk result (SameLines (account N machine.new.machine)
-            (account N machine.old.machine ++ newly_injected N machine.old.machine machine.new.machine)) }
+        ensures ok { OnOk result (machine.new.machine ≡ run_of S.n S.cap machine.old.machine acts.now) }
+        ensures account { OnOk result (SameLines (account S.n machine.new.machine)
+            (account S.n machine.old.machine ++ newly_injected S.n machine.old.machine machine.new.machine)) }
         ensures admitted { IfOk result (λ _. (gate : _) → self.now.passage ≡ Passage.Gated gate
             → (w : ℕ) → w < sizes.workers → admits (gate.vtable, gate.value) w) }
         ensures err { OnErr result (machine.new.machine ≡ machine.old.machine) }
@@ -180,17 +180,17 @@ fn admit_all(passage: &Passage, workers: u16) -> Result<(), NoThread>
 }
 
 /// The blocks of a machine as they begin a run with so many petit cycles.
-fn cut_up<const N: usize, const CAP: usize>(
+fn cut_up<S: Sizes>(
     alloc: Global,
-    machine: &Machine<N, CAP>,
-    sizes: Sizes,
+    machine: &MachineOf<S>,
+    sizes: CutSizes,
     cycles: usize,
 ) -> Result<Crew, NoMemory>
-    requires dimension { sizes.dims ≡ N }
-    requires within { sizes.k ≤ N - N / 2 }
+    requires dimension { sizes.dims ≡ S.n }
+    requires within { sizes.k ≤ S.n - S.n / 2 }
     requires clock { machine.now.machine.clock + cycles < 2 ^ 63 }
     ensures value { IfOk result (λ all. (acts : List Act) → cycles_in acts ≡ cycles
-        → StandAt N sizes.k CAP machine.now.machine acts 0 all.blocks.items all.posts.items) }
+        → StandAt S.n sizes.k S.cap machine.now.machine acts 0 all.blocks.items all.posts.items) }
 {
     // For the prover alone: a call brings in what holds of every machine.
     let _clock = machine.clock();

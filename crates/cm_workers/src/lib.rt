@@ -10,5 +10,5 @@ mod turn;
 pub use cm_gates::{ForkFault, Gate, NoThread, OutOf, Passage, rounds_are_told_by_number};
 pub use forked::Forked;
 pub use post::Post;
-pub use running::{Run, Sizes, run_blocks};
+pub use running::{CutSizes, Run, run_blocks};
 pub use turn::Crew;

@@ -17,7 +17,7 @@ use std::thread::Threads;
 
 /// The sizes of a machine that is cut into blocks, and of those who run it.
 #[derive(Clone, Copy)]
-pub struct Sizes {
+pub struct CutSizes {
     /// Dimensions of the cube.
     pub dims: u8,
     /// Into 2^`k` blocks the machine is cut.
@@ -40,7 +40,7 @@ pub struct Run<'a> {
 pub fn run_blocks<R: Threads + Wait>(
     rt: &R,
     alloc: Global,
-    sizes: Sizes,
+    sizes: CutSizes,
     run: Run<'_>,
     all: Crew,
 ) -> Result<Crew, OutOf>
@@ -65,7 +65,7 @@ pub fn run_blocks<R: Threads + Wait>(
 fn to_round<R: Threads + Wait>(
     rt: &R,
     alloc: Global,
-    sizes: Sizes,
+    sizes: CutSizes,
     run: Run<'_>,
     number: usize,
     all: Crew,

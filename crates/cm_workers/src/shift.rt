@@ -13,7 +13,7 @@ ghost use Rattle.cm_workers.specs.Runs.{HaveBegun};
 ghost use Rattle.cm_workers.specs.Gates.{IsWorkersTurn};
 
 use crate::post::Post;
-use crate::running::{Run, Sizes};
+use crate::running::{CutSizes, Run};
 use crate::turn::Crew;
 use cm_bits::NoMemory;
 use cm_gates::{NoThread, OutOf, collect, deal};
@@ -239,7 +239,7 @@ fn turn_hands<R: Threads + Wait>(
 pub(crate) fn shift<R: Threads + Wait>(
     rt: &R,
     alloc: Global,
-    sizes: Sizes,
+    sizes: CutSizes,
     run: Run<'_>,
     number: usize,
     all: Crew,

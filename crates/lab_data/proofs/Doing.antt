@@ -3,7 +3,7 @@ use Rattle.std.proofs.Common.{◌≡◌, ◌≢◌, ℕ, List, Result, Ok, Err, 
 use Rattle.cm_image_format.specs.declared.fault.ImageFault.TheVariants as image
 use Rattle.cm_sizes.specs.declared.opening.OpenFault.{OpenFault}
 use Rattle.cm_sizes.specs.declared.opening.OpenFault.TheVariants as unopened
-use Rattle.cm_sizes.specs.Sizes.{SizedMachine}
+use Rattle.cm_array.specs.Sizes.{SizedMachine}
 use Rattle.cm_sizes.specs.Opening.{image_opened, IsUnopened}
 use Rattle.lab_data.specs.declared.lab.Task.{Task}
 use Rattle.lab_data.specs.declared.lab.LabFault.{LabFault}

@@ -20,7 +20,7 @@ use Rattle.lab_route.specs.Routes.{route_of}
 use Rattle.cm_image_format.specs.Whole.{text_of}
 use Rattle.cm_sizes.specs.declared.opening.OpenFault.{OpenFault}
 use Rattle.cm_sizes.specs.declared.opening.OpenFault.TheVariants as unopened
-use Rattle.cm_sizes.specs.Sizes.{SizedMachine}
+use Rattle.cm_array.specs.Sizes.{SizedMachine}
 use Rattle.cm_sizes.specs.Opening.{image_opened}
 use Rattle.lab_figures.specs.declared.numbers.NumbersFault.{NumbersFault}
 use Rattle.lab_data.specs.declared.lab.Task.{Task}

@@ -6,21 +6,20 @@ ghost use Rattle.lab_figures.specs.Looks.{look_bytes};
 ghost use Rattle.lab_figures.specs.PictureReading.{picture_in};
 ghost use Rattle.lab_data.specs.Data.{processors};
 ghost use Rattle.lab_data.specs.declared.lab.Task.TheVariants as task;
-ghost use Rattle.cm_sizes.specs.Sizes.{sized, sized_of_room};
 ghost use Rattle.lab_data.specs.Lab.{at_room, study_made, route_made, work_of, work_on, lab_refusal, done_with};
 ghost use Rattle.lab_data.specs.Lab.{IsNoPicture};
 
 use crate::data::{flags, get, put};
 use crate::order::{Order, columns, processors, rows};
 use crate::pictures::{ShowFault, Shown, bits_of, show};
-use cm_array::Machine;
+use cm_array::{AnyMachine, MachineOf, Sizes};
 use cm_asm::assemble;
 use cm_bits::{Field, FieldFault, FlagNo, NoMemory};
 use cm_image_dump::dump;
 use cm_image_format::ImageFault;
 use cm_language::{AsmFault, AsmKind};
 use cm_model::Tag;
-use cm_sizes::{AnyDims, AnyMachine, OpenFault, on_dims, on_room, open_image};
+use cm_sizes::{OpenFault, open_image};
 use lab_figures::{
     Look, NumbersFault, Picture, PictureFault, read_numbers, read_picture, write_look,
     write_numbers,
@@ -29,6 +28,7 @@ use lab_machine::{LabMachine, RoomFault};
 use lab_route::{Excerpt, RouteFault, route};
 use lab_study::{StudyFault, Table, Unwatched, Watch, study};
 use std::alloc::Global;
+use std::marker::Brand;
 use thiserror::Error;
 
 /// What is asked of a machine.
@@ -124,54 +124,42 @@ fn work_on<W: Watch>(
     given: &[u8],
     watch: &mut W,
 ) -> Result<Vec<u8>, LabFault>
-    ensures value { IfOk result (λ text. work_on task given.now (sized machine) ≡ Ok text.items) }
+    ensures value { IfOk result (λ text. work_on task given.now machine ≡ Ok text.items) }
     ensures refused { IfErr result (λ fault. fault ≢ LabFault.Memory
-        → work_on task given.now (sized machine) ≡ Err fault) }
+        → work_on task given.now machine ≡ Err fault) }
 {
-    on_room!(machine, machine => work_of_room(alloc, machine, task, given, watch))
-}
-
-/// The same, on a machine of this room.
-fn work_of_room<const CAP: usize, W: Watch>(
-    alloc: Global,
-    machine: AnyDims<CAP>,
-    task: Task,
-    given: &[u8],
-    watch: &mut W,
-) -> Result<Vec<u8>, LabFault>
-    ensures value { IfOk result (λ text. work_on task given.now (sized_of_room machine.entry) ≡ Ok text.items) }
-    ensures refused { IfErr result (λ fault. fault ≢ LabFault.Memory
-        → work_on task given.now (sized_of_room machine.entry) ≡ Err fault) }
-{
-    on_dims!(machine, machine => work_sized(alloc, machine, task, given, watch))
+    work_sized::<Brand, W>(alloc, machine, task, given, watch)
 }
 
 /// The same, on a machine of these sizes.
-fn work_sized<const N: usize, const CAP: usize, W: Watch>(
+fn work_sized<S: Sizes, W: Watch>(
     alloc: Global,
-    mut machine: Machine<N, CAP>,
+    machine: AnyMachine,
     task: Task,
     given: &[u8],
     watch: &mut W,
 ) -> Result<Vec<u8>, LabFault>
-    ensures value { IfOk result (λ text. work_of N CAP task given.now machine.entry.machine ≡ Ok text.items) }
+    requires n { machine.n ≡ S.n }
+    requires cap { machine.cap ≡ S.cap }
+    ensures value { IfOk result (λ text. work_on task given.now machine ≡ Ok text.items) }
     ensures refused { IfErr result (λ fault. fault ≢ LabFault.Memory
-        → work_of N CAP task given.now machine.entry.machine ≡ Err fault) }
+        → work_on task given.now machine ≡ Err fault) }
 {
+    let mut machine = machine.sized::<S>();
     work(alloc, &mut machine, task, given, watch)
 }
 
 /// Does with a machine what is asked.
-fn work<const N: usize, const CAP: usize, W: Watch>(
+fn work<S: Sizes, W: Watch>(
     alloc: Global,
-    machine: &mut Machine<N, CAP>,
+    machine: &mut MachineOf<S>,
     task: Task,
     given: &[u8],
     watch: &mut W,
 ) -> Result<Vec<u8>, LabFault>
-    ensures value { IfOk result (λ text. work_of N CAP task given.now machine.old.machine ≡ Ok text.items) }
+    ensures value { IfOk result (λ text. work_of S.n S.cap task given.now machine.old.machine ≡ Ok text.items) }
     ensures refused { IfErr result (λ fault. fault ≢ LabFault.Memory
-        → work_of N CAP task given.now machine.old.machine ≡ Err fault) }
+        → work_of S.n S.cap task given.now machine.old.machine ≡ Err fault) }
 {
     match task {
         Task::Get(order, field) => told(alloc, machine, order, field),
@@ -203,65 +191,62 @@ fn of_open(fault: OpenFault) -> LabFault
 }
 
 /// The text of the numbers that the processors of a machine have in a field.
-fn told<const N: usize, const CAP: usize>(
+fn told<S: Sizes>(
     alloc: Global,
-    machine: &Machine<N, CAP>,
+    machine: &MachineOf<S>,
     order: Order,
     field: Field,
 ) -> Result<Vec<u8>, LabFault>
     ensures value { IfOk result
-        (λ text. work_of N CAP (task.Get order field) [] machine.now.machine ≡ Ok text.items) }
+        (λ text. work_of S.n S.cap (task.Get order field) [] machine.now.machine ≡ Ok text.items) }
     ensures memory { IfErr result (λ fault. fault ≡ LabFault.Memory) }
 {
-    // For the prover alone: a call brings in what holds of every machine.
-    let _clock = machine.clock();
+    let dims = machine.dims();
     let Ok(numbers) = get(alloc, machine, order, field) else {
         return Err(LabFault::Memory);
     };
-    match write_numbers(alloc, &numbers, order.width::<N>()) {
+    match write_numbers(alloc, &numbers, order.width::<S>(dims)) {
         Ok(text) => Ok(text),
         Err(_) => Err(LabFault::Memory),
     }
 }
 
 /// The text of the flags that the processors of a machine have.
-fn flagged<const N: usize, const CAP: usize>(
+fn flagged<S: Sizes>(
     alloc: Global,
-    machine: &Machine<N, CAP>,
+    machine: &MachineOf<S>,
     order: Order,
     number: FlagNo,
 ) -> Result<Vec<u8>, LabFault>
     ensures value { IfOk result
-        (λ text. work_of N CAP (task.Flags order number) [] machine.now.machine ≡ Ok text.items) }
+        (λ text. work_of S.n S.cap (task.Flags order number) [] machine.now.machine ≡ Ok text.items) }
     ensures memory { IfErr result (λ fault. fault ≡ LabFault.Memory) }
 {
-    // For the prover alone: a call brings in what holds of every machine.
-    let _clock = machine.clock();
+    let dims = machine.dims();
     let Ok(flags) = flags(alloc, machine, order, number) else {
         return Err(LabFault::Memory);
     };
-    match write_numbers(alloc, &flags, order.width::<N>()) {
+    match write_numbers(alloc, &flags, order.width::<S>(dims)) {
         Ok(text) => Ok(text),
         Err(_) => Err(LabFault::Memory),
     }
 }
 
 /// The image of a machine into which the numbers of a text were put.
-fn filled<const N: usize, const CAP: usize>(
+fn filled<S: Sizes>(
     alloc: Global,
-    machine: &mut Machine<N, CAP>,
+    machine: &mut MachineOf<S>,
     order: Order,
     field: Field,
     given: &[u8],
 ) -> Result<Vec<u8>, LabFault>
     ensures value { IfOk result
-        (λ text. work_of N CAP (task.Put order field) given.now machine.old.machine ≡ Ok text.items) }
+        (λ text. work_of S.n S.cap (task.Put order field) given.now machine.old.machine ≡ Ok text.items) }
     ensures refused { IfErr result (λ fault. fault ≢ LabFault.Memory
-        → work_of N CAP (task.Put order field) given.now machine.old.machine ≡ Err fault) }
+        → work_of S.n S.cap (task.Put order field) given.now machine.old.machine ≡ Err fault) }
 {
-    // For the prover alone: a call brings in what holds of every machine.
-    let _clock = machine.clock();
-    let numbers = match read_numbers(alloc, given, field.len(), processors::<N>()) {
+    let dims = machine.dims();
+    let numbers = match read_numbers(alloc, given, field.len(), processors::<S>(dims)) {
         Ok(numbers) => numbers,
         Err(NumbersFault::Memory) => return Err(LabFault::Memory),
         Err(fault) => return Err(LabFault::Numbers(fault)),
@@ -274,16 +259,16 @@ fn filled<const N: usize, const CAP: usize>(
 }
 
 /// The picture of a machine.
-fn pictured<const N: usize, const CAP: usize>(
+fn pictured<S: Sizes>(
     alloc: Global,
-    machine: &Machine<N, CAP>,
+    machine: &MachineOf<S>,
     shown: Shown,
     look: Look,
 ) -> Result<Vec<u8>, LabFault>
     ensures value { IfOk result
-        (λ text. work_of N CAP (task.Show shown look) [] machine.now.machine ≡ Ok text.items) }
+        (λ text. work_of S.n S.cap (task.Show shown look) [] machine.now.machine ≡ Ok text.items) }
     ensures refused { IfErr result (λ fault. fault ≢ LabFault.Memory
-        → work_of N CAP (task.Show shown look) [] machine.now.machine ≡ Err fault) }
+        → work_of S.n S.cap (task.Show shown look) [] machine.now.machine ≡ Err fault) }
 {
     match show(alloc, machine, shown) {
         Ok(picture) => drawn(alloc, picture, look),
@@ -304,20 +289,19 @@ fn drawn(alloc: Global, picture: Picture, look: Look) -> Result<Vec<u8>, LabFaul
 }
 
 /// The image of a machine into which the dots of a picture were put.
-fn painted<const N: usize, const CAP: usize>(
+fn painted<S: Sizes>(
     alloc: Global,
-    machine: &mut Machine<N, CAP>,
+    machine: &mut MachineOf<S>,
     at: u16,
     given: &[u8],
 ) -> Result<Vec<u8>, LabFault>
     ensures value { IfOk result
-        (λ text. work_of N CAP (task.Paint at) given.now machine.old.machine ≡ Ok text.items) }
+        (λ text. work_of S.n S.cap (task.Paint at) given.now machine.old.machine ≡ Ok text.items) }
     ensures refused { IfErr result (λ fault. fault ≢ LabFault.Memory
-        → work_of N CAP (task.Paint at) given.now machine.old.machine ≡ Err fault) }
+        → work_of S.n S.cap (task.Paint at) given.now machine.old.machine ≡ Err fault) }
 {
-    // For the prover alone: a call brings in what holds of every machine.
-    let _clock = machine.clock();
-    let picture = match read_grid::<N>(alloc, given) {
+    let dims = machine.dims();
+    let picture = match read_grid::<S>(alloc, dims, given) {
         Ok(picture) => picture,
         Err(fault) => return Err(fault),
     };
@@ -336,14 +320,15 @@ fn painted<const N: usize, const CAP: usize>(
 }
 
 /// The picture of a text, which is to have a dot for each processor.
-fn read_grid<const N: usize>(alloc: Global, given: &[u8]) -> Result<Picture, LabFault>
-    requires dimension { N ≤ 12 }
-    ensures value { IfOk result (λ picture. picture_in (columns N) (rows N) given.now ≡ Ok picture) }
-    ensures count { IfOk result (λ picture. length picture.dots ≡ processors N) }
+fn read_grid<S: Sizes>(alloc: Global, n: u8, given: &[u8]) -> Result<Picture, LabFault>
+    requires n { n ≡ S.n }
+    requires dimension { S.n ≤ 12 }
+    ensures value { IfOk result (λ picture. picture_in (columns S.n) (rows S.n) given.now ≡ Ok picture) }
+    ensures count { IfOk result (λ picture. length picture.dots ≡ processors S.n) }
     ensures refused { IfErr result (λ fault. fault ≢ LabFault.Memory
-        → IsNoPicture (picture_in (columns N) (rows N) given.now) fault) }
+        → IsNoPicture (picture_in (columns S.n) (rows S.n) given.now) fault) }
 {
-    match read_picture(alloc, given, columns::<N>() as u16, rows::<N>() as u16) {
+    match read_picture(alloc, given, columns::<S>(n) as u16, rows::<S>(n) as u16) {
         Ok(picture) => Ok(picture),
         Err(PictureFault::Memory) => Err(LabFault::Memory),
         Err(fault) => Err(LabFault::Picture(fault)),
@@ -400,16 +385,16 @@ fn routed<W: Watch>(
 }
 
 /// The machine of a study: with the room that is given, or else its own.
-fn study_machine<const N: usize, const CAP: usize>(
+fn study_machine<S: Sizes>(
     alloc: Global,
-    machine: &Machine<N, CAP>,
+    machine: &MachineOf<S>,
     room: Option<u16>,
 ) -> Result<LabMachine, LabFault>
     ensures value { IfOk result (λ lab. (made : ℕ → ℕ → Result (List ℕ) LabFault)
-        → at_room N CAP room machine.now.machine made ≡ made lab.n lab.cap) }
+        → at_room S.n S.cap room machine.now.machine made ≡ made lab.n lab.cap) }
     ensures machine { IfOk result (λ lab. lab.machine ≡ machine.now.machine) }
     ensures refused { IfErr result (λ fault. fault ≢ LabFault.Memory → (made : ℕ → ℕ → Result (List ℕ) LabFault)
-        → at_room N CAP room machine.now.machine made ≡ Err fault) }
+        → at_room S.n S.cap room machine.now.machine made ≡ Err fault) }
 {
     let Some(room) = room else {
         return match LabMachine::own(alloc, machine) {

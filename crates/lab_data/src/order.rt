@@ -6,6 +6,7 @@ ghost use Rattle.cm_model.specs.Place.{rows, columns, chip_columns, row_of, colu
 ghost use Rattle.lab_data.specs.Data.{processors, place_in, index_in, width_in};
 ghost use Rattle.lab_data.specs.Pictures.{chip_rows};
 
+use cm_array::Sizes;
 use cm_bits::{Place, Proc};
 
 /// In which order the processors come.
@@ -19,11 +20,12 @@ pub enum Order {
 
 impl Order {
     /// The place of the processor that stands at an index.
-    pub(crate) fn place_in<const N: usize>(self, index: usize) -> Place
-        requires dimension { N ≤ 12 }
-        requires index { index < processors N }
-        ensures value { result ≡ place_in N self index }
-        ensures there { IsPlace N result }
+    pub(crate) fn place_in<S: Sizes>(self, n: u8, index: usize) -> Place
+        requires n { n ≡ S.n }
+        requires dimension { S.n ≤ 12 }
+        requires index { index < processors S.n }
+        ensures value { result ≡ place_in S.n self index }
+        ensures there { IsPlace S.n result }
     {
         match self {
             Order::Chips => Place {
@@ -31,25 +33,26 @@ impl Order {
                 proc: Proc::new((index % 16) as u8).unwrap(),
             },
             Order::Rows => {
-                let columns = columns::<N>();
-                place_at::<N>(index / columns, index % columns)
+                let columns = columns::<S>(n);
+                place_at::<S>(n, index / columns, index % columns)
             }
         }
     }
 
     /// The index at which the processor of a place stands.
-    pub(crate) fn index_in<const N: usize>(self, place: Place) -> usize
-        requires dimension { N ≤ 12 }
-        requires chip { place.chip < 2 ^ N }
-        ensures value { result ≡ index_in N self place }
-        ensures within { result < processors N }
+    pub(crate) fn index_in<S: Sizes>(self, n: u8, place: Place) -> usize
+        requires n { n ≡ S.n }
+        requires dimension { S.n ≤ 12 }
+        requires chip { place.chip < 2 ^ S.n }
+        ensures value { result ≡ index_in S.n self place }
+        ensures within { result < processors S.n }
     {
         let chip = usize::from(place.chip);
         let proc = usize::from(place.proc.get());
         match self {
             Order::Chips => chip * 16 + proc,
             Order::Rows => {
-                let chip_columns = chip_columns::<N>();
+                let chip_columns = chip_columns::<S>(n);
                 let row = 4 * (chip / chip_columns) + proc / 4;
                 let column = 4 * (chip % chip_columns) + proc % 4;
                 row * (4 * chip_columns) + column
@@ -58,74 +61,81 @@ impl Order {
     }
 
     /// How many numbers stand in a line: those of a chip, or of a row of the grid.
-    pub(crate) fn width<const N: usize>(self) -> usize
-        requires dimension { N ≤ 12 }
-        ensures value { result ≡ width_in N self }
+    pub(crate) fn width<S: Sizes>(self, n: u8) -> usize
+        requires n { n ≡ S.n }
+        requires dimension { S.n ≤ 12 }
+        ensures value { result ≡ width_in S.n self }
         ensures some { 0 < result }
     {
         match self {
             Order::Chips => 16,
-            Order::Rows => columns::<N>(),
+            Order::Rows => columns::<S>(n),
         }
     }
 }
 
 /// How many processors a machine has.
-pub(crate) fn processors<const N: usize>() -> usize
-    requires dimension { N ≤ 12 }
-    ensures value { result ≡ processors N }
+pub(crate) fn processors<S: Sizes>(n: u8) -> usize
+    requires n { n ≡ S.n }
+    requires dimension { S.n ≤ 12 }
+    ensures value { result ≡ processors S.n }
     ensures within { result ≤ 65536 }
 {
-    16 << N
+    16 << n
 }
 
 /// How many columns its grid has.
-pub(crate) fn columns<const N: usize>() -> usize
-    requires dimension { N ≤ 12 }
-    ensures value { result ≡ columns N }
+pub(crate) fn columns<S: Sizes>(n: u8) -> usize
+    requires n { n ≡ S.n }
+    requires dimension { S.n ≤ 12 }
+    ensures value { result ≡ columns S.n }
     ensures some { 0 < result }
     ensures within { result ≤ 256 }
 {
-    4 * chip_columns::<N>()
+    4 * chip_columns::<S>(n)
 }
 
 /// How many rows its grid has.
-pub(crate) fn rows<const N: usize>() -> usize
-    requires dimension { N ≤ 12 }
-    ensures value { result ≡ rows N }
+pub(crate) fn rows<S: Sizes>(n: u8) -> usize
+    requires n { n ≡ S.n }
+    requires dimension { S.n ≤ 12 }
+    ensures value { result ≡ rows S.n }
     ensures within { result ≤ 256 }
 {
-    4 * chip_rows::<N>()
+    4 * chip_rows::<S>(n)
 }
 
 /// How many chips stand in a row of chips.
-pub(crate) fn chip_columns<const N: usize>() -> usize
-    requires dimension { N ≤ 12 }
-    ensures value { result ≡ chip_columns N }
+pub(crate) fn chip_columns<S: Sizes>(n: u8) -> usize
+    requires n { n ≡ S.n }
+    requires dimension { S.n ≤ 12 }
+    ensures value { result ≡ chip_columns S.n }
     ensures some { 0 < result }
     ensures within { result ≤ 64 }
 {
-    1 << (N / 2)
+    1 << (n / 2)
 }
 
 /// How many rows of chips there are.
-pub(crate) fn chip_rows<const N: usize>() -> usize
-    requires dimension { N ≤ 12 }
-    ensures value { result ≡ chip_rows N }
+pub(crate) fn chip_rows<S: Sizes>(n: u8) -> usize
+    requires n { n ≡ S.n }
+    requires dimension { S.n ≤ 12 }
+    ensures value { result ≡ chip_rows S.n }
     ensures within { result ≤ 64 }
 {
-    1 << (N - N / 2)
+    1 << (n - n / 2)
 }
 
 /// The place in a row and a column.
-fn place_at<const N: usize>(row: usize, column: usize) -> Place
-    requires dimension { N ≤ 12 }
-    requires row { row < rows N }
-    requires column { column < columns N }
-    ensures value { result ≡ place_at N row column }
-    ensures there { IsPlace N result }
+fn place_at<S: Sizes>(n: u8, row: usize, column: usize) -> Place
+    requires n { n ≡ S.n }
+    requires dimension { S.n ≤ 12 }
+    requires row { row < rows S.n }
+    requires column { column < columns S.n }
+    ensures value { result ≡ place_at S.n row column }
+    ensures there { IsPlace S.n result }
 {
-    let chip = row / 4 * chip_columns::<N>() + column / 4;
+    let chip = row / 4 * chip_columns::<S>(n) + column / 4;
     let proc = 4 * (row % 4) + column % 4;
     Place {
         chip: chip as u16,

@@ -7,8 +7,8 @@ ghost use Rattle.lab_data.specs.Pictures.{chip_rows, is_narrow, greatest_number,
 ghost use Rattle.lab_data.specs.Pictures.{depth_of_greatest, machine_picture};
 
 use crate::data::{flags, get};
-use crate::order::{Order, chip_columns, chip_rows, columns, processors, rows};
-use cm_array::Machine;
+use crate::order::{Order, chip_columns, chip_rows, columns, rows};
+use cm_array::{MachineOf, Sizes};
 use cm_bits::{Field, FlagNo, NoMemory};
 use lab_figures::Picture;
 use std::alloc::Global;
@@ -46,48 +46,48 @@ impl From<NoMemory> for ShowFault {
 }
 
 /// The picture of a machine.
-pub fn show<const N: usize, const CAP: usize>(
+pub fn show<S: Sizes>(
     alloc: Global,
-    machine: &Machine<N, CAP>,
+    machine: &MachineOf<S>,
     shown: Shown,
 ) -> Result<Picture, ShowFault>
-    ensures value { IfOk result (λ picture. picture ≡ machine_picture N CAP shown machine.now.machine) }
+    ensures value { IfOk result (λ picture. picture ≡ machine_picture S.n S.cap shown machine.now.machine) }
     ensures narrow { OnOk result (is_narrow shown ≡ true) }
     ensures some { IfOk result (λ picture. 0 < picture.width) }
     ensures wide { IfErr result (λ fault. fault ≢ ShowFault.Memory
         → (fault ≡ ShowFault.Wide) × (is_narrow shown ≡ false)) }
 {
-    // For the prover alone: a call brings in what holds of every machine.
-    let _clock = machine.clock();
+    let dims = machine.dims();
     match shown {
         Shown::Flag(number) => {
             let dots = flags(alloc, machine, Order::Rows, number)?;
-            Ok(of_grid::<N>(1, dots))
+            Ok(of_grid::<S>(dims, 1, dots))
         }
         Shown::Number(field) => {
             if field.len() > 16 {
                 return Err(ShowFault::Wide);
             }
             let dots = get(alloc, machine, Order::Rows, field)?;
-            Ok(of_grid::<N>(greatest_of(field.len()), dots))
+            Ok(of_grid::<S>(dims, greatest_of(field.len()), dots))
         }
         Shown::Buffers => {
             let dots = buffered(alloc, machine)?;
-            let width = chip_columns::<N>() as u16;
-            let height = chip_rows::<N>() as u16;
-            Ok(Picture::new(width, height, CAP as u16, dots))
+            let width = chip_columns::<S>(dims) as u16;
+            let height = chip_rows::<S>(dims) as u16;
+            Ok(Picture::new(width, height, u16::from(machine.room()), dots))
         }
     }
 }
 
 /// A picture of the grid with these dots.
-fn of_grid<const N: usize>(greatest: u16, dots: Vec<u64>) -> Picture
-    requires dimension { N ≤ 12 }
-    requires dots { length dots.items ≡ processors N }
-    ensures value { result ≡ grid_picture N greatest dots.items }
+fn of_grid<S: Sizes>(n: u8, greatest: u16, dots: Vec<u64>) -> Picture
+    requires n { n ≡ S.n }
+    requires dimension { S.n ≤ 12 }
+    requires dots { length dots.items ≡ processors S.n }
+    ensures value { result ≡ grid_picture S.n greatest dots.items }
     ensures some { 0 < result.width }
 {
-    Picture::new(columns::<N>() as u16, rows::<N>() as u16, greatest, dots)
+    Picture::new(columns::<S>(n) as u16, rows::<S>(n) as u16, greatest, dots)
 }
 
 /// The greatest number of so many bits.
@@ -99,15 +99,12 @@ fn greatest_of(len: u16) -> u16
 }
 
 /// How many messages stand at each chip, by number.
-fn buffered<const N: usize, const CAP: usize>(
-    alloc: Global,
-    machine: &Machine<N, CAP>,
-) -> Result<Vec<u64>, NoMemory>
-    requires dimension { N ≤ 12 }
-    ensures value { IfOk result (λ dots. dots.items ≡ buffered N machine.now.machine) }
-    ensures count { IfOk result (λ dots. length dots.items ≡ chip_rows N * chip_columns N) }
+fn buffered<S: Sizes>(alloc: Global, machine: &MachineOf<S>) -> Result<Vec<u64>, NoMemory>
+    requires dimension { S.n ≤ 12 }
+    ensures value { IfOk result (λ dots. dots.items ≡ buffered S.n machine.now.machine) }
+    ensures count { IfOk result (λ dots. length dots.items ≡ chip_rows S.n * chip_columns S.n) }
 {
-    let chips = (processors::<N>() / 16) as u16;
+    let chips = machine.chip_count();
     let mut dots = Vec::with_capacity(alloc, usize::from(chips))?;
     for chip in 0..chips {
         let Ok(()) = dots.push(machine.buffer(chip).len() as u64) else {

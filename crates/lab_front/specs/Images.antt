@@ -7,7 +7,7 @@ use Rattle.cm_session.specs.declared.fault.SessionFault.{SessionFault}
 use Rattle.cm_session.specs.Ends.{is_write}
 use Rattle.cm_sizes.specs.declared.opening.OpenFault.{OpenFault}
 use Rattle.cm_sizes.specs.declared.opening.OpenFault.TheVariants as unopened
-use Rattle.cm_sizes.specs.Sizes.{SizedMachine}
+use Rattle.cm_array.specs.Sizes.{SizedMachine}
 use Rattle.cm_sizes.specs.Opening.{image_opened, IsUnopened}
 use Rattle.lab_front.specs.declared.images.FrontFault.{FrontFault}
 use Rattle.lab_front.specs.declared.images.FrontFault.TheVariants.{Image, Room, Ended, Memory}

@@ -17,7 +17,7 @@ use crate::for_all::{Asked, is_for_all, read_asked};
 use crate::questions::{is_of_program, own_number, read_question};
 use crate::reading::read_line;
 use crate::telling::{push_buffers, push_field, push_flags, push_image, push_standing};
-use cm_array::{Machine, RunFault, Runner};
+use cm_array::{MachineOf, RunFault, Runner, Sizes};
 use cm_asm::Reader;
 use cm_bits::NoMemory;
 use cm_debug::{Debugger, OutOf, push_bit, push_number, push_word};
@@ -57,19 +57,19 @@ impl FrontEnd {
 
     /// Does what a line says or asks, and makes its answer. After an `Err` the machine is as it was, and the front end
     /// is not used again.
-    pub fn tell<const N: usize, const CAP: usize, R: Runner<N, CAP>>(
+    pub fn tell<S: Sizes, R: Runner<S>>(
         &mut self,
         alloc: Global,
-        machine: &mut Machine<N, CAP>,
+        machine: &mut MachineOf<S>,
         runner: &mut R,
         line: &[u8],
         text: &mut Vec<u8>,
     ) -> Result<(), OutOf>
         requires runner { R.ready }
         ensures answer { OnOk result (text.new.items
-            ≡ (front_after_line N CAP (front_of machine.old.machine self.old) line.now).answer) }
+            ≡ (front_after_line S.n S.cap (front_of machine.old.machine self.old) line.now).answer) }
         ensures front { OnOk result (front_of machine.new.machine self.new
-            ≡ (front_after_line N CAP (front_of machine.old.machine self.old) line.now).front) }
+            ≡ (front_after_line S.n S.cap (front_of machine.old.machine self.old) line.now).front) }
         ensures err { OnErr result (machine.new.machine ≡ machine.old.machine) }
         ensures thread { CountsLacks is_thread (R.threads_lacked runner.old) (R.threads_lacked runner.new) result }
     {
@@ -84,20 +84,20 @@ impl FrontEnd {
     }
 
     /// A line of the program: its acts are run.
-    fn say<const N: usize, const CAP: usize, R: Runner<N, CAP>>(
+    fn say<S: Sizes, R: Runner<S>>(
         &mut self,
         alloc: Global,
-        machine: &mut Machine<N, CAP>,
+        machine: &mut MachineOf<S>,
         runner: &mut R,
         line: &[u8],
         text: &mut Vec<u8>,
     ) -> Result<(), OutOf>
         requires runner { R.ready }
         requires none { text.old.items ≡ [] }
-        ensures answer { OnOk result (text.new.items ≡ (said N CAP (front_of machine.old.machine self.old)
+        ensures answer { OnOk result (text.new.items ≡ (said S.n S.cap (front_of machine.old.machine self.old)
             (read_more self.old (words_of line.now))).answer) }
         ensures front { OnOk result (front_of machine.new.machine self.new
-            ≡ (said N CAP (front_of machine.old.machine self.old) (read_more self.old (words_of line.now))).front) }
+            ≡ (said S.n S.cap (front_of machine.old.machine self.old) (read_more self.old (words_of line.now))).front) }
         ensures err { OnErr result (machine.new.machine ≡ machine.old.machine) }
         ensures thread { CountsLacks is_thread (R.threads_lacked runner.old) (R.threads_lacked runner.new) result }
     {
@@ -113,8 +113,8 @@ impl FrontEnd {
 }
 
 /// Runs the acts of a line, and tells that, or why they are not run.
-fn run_at_once<const N: usize, const CAP: usize, R: Runner<N, CAP>>(
-    machine: &mut Machine<N, CAP>,
+fn run_at_once<S: Sizes, R: Runner<S>>(
+    machine: &mut MachineOf<S>,
     runner: &mut R,
     acts: &[Act],
     text: &mut Vec<u8>,
@@ -122,7 +122,7 @@ fn run_at_once<const N: usize, const CAP: usize, R: Runner<N, CAP>>(
     requires runner { R.ready }
     requires none { text.old.items ≡ [] }
     ensures answer { OnOk result (text.new.items ≡ acts_line machine.old.machine acts.now) }
-    ensures machine { OnOk result (machine.new.machine ≡ after_accepted_acts N CAP machine.old.machine acts.now) }
+    ensures machine { OnOk result (machine.new.machine ≡ after_accepted_acts S.n S.cap machine.old.machine acts.now) }
     ensures err { OnErr result (machine.new.machine ≡ machine.old.machine) }
     ensures thread { CountsLacks is_thread (R.threads_lacked runner.old) (R.threads_lacked runner.new) result }
 {
@@ -137,9 +137,9 @@ fn run_at_once<const N: usize, const CAP: usize, R: Runner<N, CAP>>(
 }
 
 /// What acts answer that are run.
-fn push_done<const N: usize, const CAP: usize>(
+fn push_done<S: Sizes>(
     text: &mut Vec<u8>,
-    machine: &Machine<N, CAP>,
+    machine: &MachineOf<S>,
     acts: &[Act],
 ) -> Result<(), AllocError>
     requires none { text.old.items ≡ [] }
@@ -162,22 +162,21 @@ fn refuse(text: &mut Vec<u8>, number: u64) -> Result<(), OutOf>
 }
 
 /// A line for all processors.
-fn do_for_all<const N: usize, const CAP: usize>(
+fn do_for_all<S: Sizes>(
     alloc: Global,
-    machine: &mut Machine<N, CAP>,
+    machine: &mut MachineOf<S>,
     line: &[u8],
     text: &mut Vec<u8>,
 ) -> Result<(), OutOf>
     requires none { text.old.items ≡ [] }
-    ensures done { OnOk result ((read : Reading) → for_all N CAP (front_of machine.old.machine read)
-        (asked_of N (words_of line.now)) ≡ front_answered_with (front_of machine.new.machine read) text.new.items) }
+    ensures done { OnOk result ((read : Reading) → for_all S.n S.cap (front_of machine.old.machine read)
+        (asked_of S.n (words_of line.now)) ≡ front_answered_with (front_of machine.new.machine read) text.new.items) }
     ensures err { OnErr result (machine.new.machine ≡ machine.old.machine) }
     ensures memory { IfErr result (λ want. is_thread want ≡ false) }
 {
-    // a machine that is looked at has at most 12 dimensions
-    machine.clock();
+    let dimensions = usize::from(machine.dims());
     let mut numbers = Vec::new(alloc);
-    let asked = match read_asked(line, N, &mut numbers) {
+    let asked = match read_asked(line, dimensions, &mut numbers) {
         Ok(asked) => asked,
         Err(kind) => {
             let Some(number) = own_number(kind) else {
@@ -193,19 +192,19 @@ fn do_for_all<const N: usize, const CAP: usize>(
 }
 
 /// Does what is asked of all processors, and tells it. After an `Err` the machine is as it was.
-fn obey<const N: usize, const CAP: usize>(
+fn obey<S: Sizes>(
     alloc: Global,
-    machine: &mut Machine<N, CAP>,
+    machine: &mut MachineOf<S>,
     asked: Asked,
     numbers: &[u64],
     text: &mut Vec<u8>,
 ) -> Result<(), NoMemory>
-    requires numbers { AreFor N asked numbers.now }
+    requires numbers { AreFor S.n asked numbers.now }
     requires none { text.old.items ≡ [] }
     ensures answer { OnOk result (text.new.items
-        ≡ (for_all_obeyed N CAP machine.old.machine asked numbers.now).answer) }
+        ≡ (for_all_obeyed S.n S.cap machine.old.machine asked numbers.now).answer) }
     ensures machine { OnOk result (machine.new.machine
-        ≡ (for_all_obeyed N CAP machine.old.machine asked numbers.now).machine) }
+        ≡ (for_all_obeyed S.n S.cap machine.old.machine asked numbers.now).machine) }
     ensures err { OnErr result (machine.new.machine ≡ machine.old.machine) }
 {
     match asked {
@@ -232,9 +231,9 @@ fn obey<const N: usize, const CAP: usize>(
 }
 
 /// A line that asks: it is answered as in a session without acts.
-fn ask<const N: usize, const CAP: usize, R: Runner<N, CAP>>(
+fn ask<S: Sizes, R: Runner<S>>(
     alloc: Global,
-    machine: &mut Machine<N, CAP>,
+    machine: &mut MachineOf<S>,
     runner: &mut R,
     line: &[u8],
     text: &mut Vec<u8>,
@@ -242,16 +241,19 @@ fn ask<const N: usize, const CAP: usize, R: Runner<N, CAP>>(
     requires runner { R.ready }
     requires none { text.old.items ≡ [] }
     ensures answer { OnOk result (text.new.items
-        ≡ (answered_to N CAP machine.old.machine (question_of N (words_of line.now))).answer) }
+        ≡ (answered_to S.n S.cap machine.old.machine (question_of S.n (words_of line.now))).answer) }
     ensures machine { OnOk result (machine.new.machine
-        ≡ (answered_to N CAP machine.old.machine (question_of N (words_of line.now))).session.machine) }
+        ≡ (answered_to S.n S.cap machine.old.machine (question_of S.n (words_of line.now))).session.machine) }
     ensures err { OnErr result (machine.new.machine ≡ machine.old.machine) }
     ensures thread { CountsLacks is_thread (R.threads_lacked runner.old) (R.threads_lacked runner.new) result }
 {
-    machine.clock();
+    // For the prover alone: a call brings in what holds of every machine.
+    let _clock = machine.clock();
+    let dimensions = usize::from(machine.dims());
     let acts: &[Act] = &[];
     let mut debugger = Debugger::new(alloc, acts)?;
-    match debugger.answer(machine, runner, read_question(line, N), text) {
+    let asked = read_question(line, dimensions);
+    match debugger.answer(machine, runner, asked, text) {
         Ok(()) => Ok(()),
         Err(want) => Err(want),
     }

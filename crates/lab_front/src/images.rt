@@ -1,17 +1,17 @@
 //! A front end over the machine of an image.
 
 ghost use Rattle.std.specs.Prelude.{◌≡◌, ◌↔◌, true, false, IfErr, IfOk, IsErrOf};
-ghost use Rattle.cm_sizes.specs.Sizes.{sized, sized_of_room};
 ghost use Rattle.lab_front.specs.Images.{EndsImage, FailsImage, HasEnded, HasFailed, is_front_write};
 
 use crate::talk::front;
-use cm_array::{Machine, Plain};
+use cm_array::{AnyMachine, MachineOf, Plain, Sizes};
 use cm_bits::{Sink, Source};
 use cm_image_dump::dump;
 use cm_image_format::ImageFault;
 use cm_session::SessionFault;
-use cm_sizes::{AnyDims, AnyMachine, OpenFault, on_dims, on_room, open_image};
+use cm_sizes::{OpenFault, open_image};
 use std::alloc::Global;
+use std::marker::Brand;
 use thiserror::Error;
 
 /// Why a front end did not begin, or ended before its lines did.
@@ -77,69 +77,52 @@ fn front_any<I: Source, O: Sink>(
 ) -> Result<Vec<u8>, FrontFault>
     requires reader { I.has_failed commands.old ≡ false }
     requires writer { O.has_failed out.old ≡ false }
-    ensures ok { IfOk result (λ text. HasEnded (sized machine) (I.left commands.old) (I.left commands.new)
+    ensures ok { IfOk result (λ text. HasEnded machine (I.left commands.old) (I.left commands.new)
         (O.contents out.old) (O.contents out.new) text.items) }
-    ensures err { IfErr result (HasFailed (sized machine) (I.left commands.old) (I.left commands.new)
+    ensures err { IfErr result (HasFailed machine (I.left commands.old) (I.left commands.new)
         (O.contents out.old) (O.contents out.new)) }
     ensures read { (I.has_failed commands.new ≡ true) ↔ IsErrOf result (FrontFault.Ended SessionFault.Read) }
     ensures write { O.has_failed out.new ≡ is_front_write result }
     ensures no_thread { ¬ IsErrOf result (FrontFault.Ended SessionFault.NoThread) }
 {
-    on_room!(machine, machine => front_of_room(alloc, machine, commands, out))
-}
-
-/// The same, with a machine of this room.
-fn front_of_room<const CAP: usize, I: Source, O: Sink>(
-    alloc: Global,
-    machine: AnyDims<CAP>,
-    commands: &mut I,
-    out: &mut O,
-) -> Result<Vec<u8>, FrontFault>
-    requires reader { I.has_failed commands.old ≡ false }
-    requires writer { O.has_failed out.old ≡ false }
-    ensures ok { IfOk result (λ text. HasEnded (sized_of_room machine.entry) (I.left commands.old) (I.left commands.new)
-        (O.contents out.old) (O.contents out.new) text.items) }
-    ensures err { IfErr result (HasFailed (sized_of_room machine.entry) (I.left commands.old) (I.left commands.new)
-        (O.contents out.old) (O.contents out.new)) }
-    ensures read { (I.has_failed commands.new ≡ true) ↔ IsErrOf result (FrontFault.Ended SessionFault.Read) }
-    ensures write { O.has_failed out.new ≡ is_front_write result }
-    ensures no_thread { ¬ IsErrOf result (FrontFault.Ended SessionFault.NoThread) }
-{
-    on_dims!(machine, machine => front_sized(alloc, machine, commands, out))
+    front_sized::<Brand, I, O>(alloc, machine, commands, out)
 }
 
 /// The same, on a machine of these sizes.
-fn front_sized<const N: usize, const CAP: usize, I: Source, O: Sink>(
+fn front_sized<S: Sizes, I: Source, O: Sink>(
     alloc: Global,
-    mut machine: Machine<N, CAP>,
+    machine: AnyMachine,
     commands: &mut I,
     out: &mut O,
 ) -> Result<Vec<u8>, FrontFault>
+    requires n { machine.n ≡ S.n }
+    requires cap { machine.cap ≡ S.cap }
     requires reader { I.has_failed commands.old ≡ false }
     requires writer { O.has_failed out.old ≡ false }
-    ensures ok { IfOk result (λ text. HasEnded (record { n = N; cap = CAP; machine = machine.entry.machine })
-        (I.left commands.old) (I.left commands.new) (O.contents out.old) (O.contents out.new) text.items) }
-    ensures err { IfErr result (HasFailed (record { n = N; cap = CAP; machine = machine.entry.machine })
-        (I.left commands.old) (I.left commands.new) (O.contents out.old) (O.contents out.new)) }
     ensures read { (I.has_failed commands.new ≡ true) ↔ IsErrOf result (FrontFault.Ended SessionFault.Read) }
+    ensures ok { IfOk result (λ text. HasEnded machine (I.left commands.old) (I.left commands.new)
+        (O.contents out.old) (O.contents out.new) text.items) }
+    ensures err { IfErr result (HasFailed machine (I.left commands.old) (I.left commands.new)
+        (O.contents out.old) (O.contents out.new)) }
     ensures write { O.has_failed out.new ≡ is_front_write result }
     ensures no_thread { ¬ IsErrOf result (FrontFault.Ended SessionFault.NoThread) }
 {
+    let mut machine = machine.sized::<S>();
     front_on(alloc, &mut machine, commands, out)
 }
 
 /// The same, on one that is lent to it.
-fn front_on<const N: usize, const CAP: usize, I: Source, O: Sink>(
+fn front_on<S: Sizes, I: Source, O: Sink>(
     alloc: Global,
-    machine: &mut Machine<N, CAP>,
+    machine: &mut MachineOf<S>,
     commands: &mut I,
     out: &mut O,
 ) -> Result<Vec<u8>, FrontFault>
     requires reader { I.has_failed commands.old ≡ false }
     requires writer { O.has_failed out.old ≡ false }
-    ensures ok { IfOk result (λ text. HasEnded (record { n = N; cap = CAP; machine = machine.old.machine })
+    ensures ok { IfOk result (λ text. HasEnded (record { n = S.n; cap = S.cap; machine = machine.old.machine })
         (I.left commands.old) (I.left commands.new) (O.contents out.old) (O.contents out.new) text.items) }
-    ensures err { IfErr result (HasFailed (record { n = N; cap = CAP; machine = machine.old.machine })
+    ensures err { IfErr result (HasFailed (record { n = S.n; cap = S.cap; machine = machine.old.machine })
         (I.left commands.old) (I.left commands.new) (O.contents out.old) (O.contents out.new)) }
     ensures read { (I.has_failed commands.new ≡ true) ↔ IsErrOf result (FrontFault.Ended SessionFault.Read) }
     ensures write { O.has_failed out.new ≡ is_front_write result }

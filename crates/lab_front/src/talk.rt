@@ -12,7 +12,7 @@ ghost use Rattle.lab_front.specs.Hearing.{LineAborts};
 
 use crate::front_end::FrontEnd;
 use crate::hearing::{LIMIT, hear, line_len};
-use cm_array::{Machine, Runner};
+use cm_array::{MachineOf, Runner, Sizes};
 use cm_bits::{Sink, Source};
 use cm_debug::{BufferedOutput, OutOf};
 use cm_session::SessionFault;
@@ -27,9 +27,9 @@ const ALL: u64 = 1 << 63;
 /// After a fault of reading, at a line that is too long and after 2^63 bytes in all, the lines that ended before are
 /// done and answered. After a failed write, or for want of memory or of a thread, a front of the answers is written,
 /// and the machine is that after a front of the lines.
-pub fn front<const N: usize, const CAP: usize, R: Runner<N, CAP>, I: Source, O: Sink>(
+pub fn front<S: Sizes, R: Runner<S>, I: Source, O: Sink>(
     alloc: Global,
-    machine: &mut Machine<N, CAP>,
+    machine: &mut MachineOf<S>,
     commands: &mut I,
     out: &mut O,
     runner: &mut R,
@@ -37,7 +37,7 @@ pub fn front<const N: usize, const CAP: usize, R: Runner<N, CAP>, I: Source, O: 
     requires runner { R.ready }
     requires reader { I.has_failed commands.old ≡ false }
     requires writer { O.has_failed out.old ≡ false }
-    ensures ends { Ends N CAP (I.left commands.old) (I.left commands.new) machine.old.machine (O.contents out.old)
+    ensures ends { Ends S.n S.cap (I.left commands.old) (I.left commands.new) machine.old.machine (O.contents out.old)
         machine.new.machine (O.contents out.new) result }
     ensures end { OnOk result (IsAtEnd (I.left commands.new)) }
     ensures read { (I.has_failed commands.new ≡ true) ↔ IsErrOf result SessionFault.Read }
@@ -120,10 +120,10 @@ fn is_too_much(bytes: usize, taken: u64) -> bool
 }
 
 /// Does a line, and its answer is gathered.
-fn tell_line<const N: usize, const CAP: usize, R: Runner<N, CAP>, O: Sink>(
+fn tell_line<S: Sizes, R: Runner<S>, O: Sink>(
     alloc: Global,
     front: &mut FrontEnd,
-    machine: &mut Machine<N, CAP>,
+    machine: &mut MachineOf<S>,
     runner: &mut R,
     line: &[u8],
     answers: &mut BufferedOutput,
@@ -133,14 +133,14 @@ fn tell_line<const N: usize, const CAP: usize, R: Runner<N, CAP>, O: Sink>(
     requires writer { O.has_failed out.old ≡ false }
     requires room { answered_bytes answers.old + 2 ^ 64 < 2 ^ 128 }
     ensures front { OnOk result (front_of machine.new.machine front.new
-        ≡ (front_after_line N CAP (front_of machine.old.machine front.old) line.now).front) }
+        ≡ (front_after_line S.n S.cap (front_of machine.old.machine front.old) line.now).front) }
     ensures written { OnOk result (Appends (with_gathered (O.contents out.old) answers.old)
         (with_gathered (O.contents out.new) answers.new)
-        (front_after_line N CAP (front_of machine.old.machine front.old) line.now).answer) }
+        (front_after_line S.n S.cap (front_of machine.old.machine front.old) line.now).answer) }
     ensures count { OnOk result (answered_bytes answers.new ≡ answered_bytes answers.old
-        + length (front_after_line N CAP (front_of machine.old.machine front.old) line.now).answer) }
+        + length (front_after_line S.n S.cap (front_of machine.old.machine front.old) line.now).answer) }
     ensures few { OnOk result (answered_bytes answers.new ≤ answered_bytes answers.old + 2 ^ 64) }
-    ensures err { IfErr result (LineAborts N CAP (front_of machine.old.machine front.old) line.now answers.old.sent
+    ensures err { IfErr result (LineAborts S.n S.cap (front_of machine.old.machine front.old) line.now answers.old.sent
         answers.old.bytes.items (O.contents out.old) machine.new.machine (O.contents out.new)) }
     ensures failed { O.has_failed out.new ≡ is_write result }
     ensures threads { CountsFrontLacks (R.threads_lacked runner.old) (R.threads_lacked runner.new) result }

@@ -13,7 +13,7 @@ ghost use Rattle.lab_front.specs.Telling.{numbers_lines, standing_count, asking,
 ghost use Rattle.lab_front.specs.Telling.{hex_text};
 ghost use Rattle.lab_front.specs.Telling.{image_lines};
 
-use cm_array::Machine;
+use cm_array::{MachineOf, Sizes};
 use cm_bits::{Field, FlagNo, NoMemory, PROCESSORS, Plane};
 use cm_debug::push_number;
 use cm_image_dump::dump;
@@ -25,57 +25,53 @@ use std::alloc::Global;
 const HEX_BYTES: usize = 32;
 
 /// The number that each processor has in a field.
-pub fn push_field<const N: usize, const CAP: usize>(
+pub fn push_field<S: Sizes>(
     alloc: Global,
     text: &mut Vec<u8>,
-    machine: &Machine<N, CAP>,
+    machine: &MachineOf<S>,
     field: Field,
 ) -> Result<(), NoMemory>
     ensures ok { OnOk result (text.new.items ≡ text.old.items
-        ++ numbers_lines (2 ^ N) 16 (numbers_of N Chips field.at field.len machine.now.machine.chips)) }
+        ++ numbers_lines (2 ^ S.n) 16 (numbers_of S.n Chips field.at field.len machine.now.machine.chips)) }
 {
-    // For the prover alone: a call brings in what holds of every machine.
-    let _dims = machine.dims();
     let numbers = get(alloc, machine, Order::Chips, field)?;
     push_numbers(
         alloc,
         text,
         &numbers,
-        chip_count::<N>(),
+        usize::from(machine.chip_count()),
         usize::from(PROCESSORS),
     )
 }
 
 /// A flag of each processor.
-pub fn push_flags<const N: usize, const CAP: usize>(
+pub fn push_flags<S: Sizes>(
     alloc: Global,
     text: &mut Vec<u8>,
-    machine: &Machine<N, CAP>,
+    machine: &MachineOf<S>,
     number: FlagNo,
 ) -> Result<(), NoMemory>
     ensures ok { OnOk result (text.new.items ≡ text.old.items
-        ++ numbers_lines (2 ^ N) 16 (flags_of N Chips number machine.now.machine.chips)) }
+        ++ numbers_lines (2 ^ S.n) 16 (flags_of S.n Chips number machine.now.machine.chips)) }
 {
-    // For the prover alone: a call brings in what holds of every machine.
-    let _dims = machine.dims();
     let numbers = flags(alloc, machine, Order::Chips, number)?;
     push_numbers(
         alloc,
         text,
         &numbers,
-        chip_count::<N>(),
+        usize::from(machine.chip_count()),
         usize::from(PROCESSORS),
     )
 }
 
 /// How many messages stand at each chip.
-pub fn push_buffers<const N: usize, const CAP: usize>(
+pub fn push_buffers<S: Sizes>(
     alloc: Global,
     text: &mut Vec<u8>,
-    machine: &Machine<N, CAP>,
+    machine: &MachineOf<S>,
 ) -> Result<(), NoMemory>
     ensures ok { OnOk result (text.new.items ≡ text.old.items
-        ++ numbers_lines (chip_rows N) (chip_columns N) (buffered N machine.now.machine)) }
+        ++ numbers_lines (chip_rows S.n) (chip_columns S.n) (buffered S.n machine.now.machine)) }
 {
     let Ok(picture) = show(alloc, machine, Shown::Buffers) else {
         return Err(NoMemory);
@@ -104,11 +100,8 @@ fn push_numbers(
 
 /// How many messages stand in all routers, and how many processors ask to send.
 #[tactic(auto, unfolding(cm_session::specs::Answer::line))]
-pub fn push_standing<const N: usize, const CAP: usize>(
-    text: &mut Vec<u8>,
-    machine: &Machine<N, CAP>,
-) -> Result<(), NoMemory>
-    ensures ok { OnOk result (text.new.items ≡ text.old.items ++ standing_counts_line N machine.now.machine) }
+pub fn push_standing<S: Sizes>(text: &mut Vec<u8>, machine: &MachineOf<S>) -> Result<(), NoMemory>
+    ensures ok { OnOk result (text.new.items ≡ text.old.items ++ standing_counts_line S.n machine.now.machine) }
 {
     push_words(text, b"standing ")?;
     lab_digits::push_number(text, standing(machine), b' ')?;
@@ -116,28 +109,22 @@ pub fn push_standing<const N: usize, const CAP: usize>(
 }
 
 /// How many messages stand in all routers.
-fn standing<const N: usize, const CAP: usize>(machine: &Machine<N, CAP>) -> u128
-    ensures value { result ≡ standing_count N machine.now.machine }
+fn standing<S: Sizes>(machine: &MachineOf<S>) -> u128
+    ensures value { result ≡ standing_count S.n machine.now.machine }
 {
-    // For the prover alone: a call brings in what holds of every machine.
-    let _dims = machine.dims();
-    let chips = chip_count::<N>() as u16;
     let mut total = 0;
-    for chip in 0..chips {
+    for chip in 0..machine.chip_count() {
         total += machine.buffer(chip).len() as u128;
     }
     total
 }
 
 /// How many processors ask to send.
-fn asking<const N: usize, const CAP: usize>(machine: &Machine<N, CAP>) -> u64
-    ensures value { result ≡ asking N machine.now.machine }
+fn asking<S: Sizes>(machine: &MachineOf<S>) -> u64
+    ensures value { result ≡ asking S.n machine.now.machine }
 {
-    // For the prover alone: a call brings in what holds of every machine.
-    let _dims = machine.dims();
-    let chips = chip_count::<N>() as u16;
     let mut total = 0;
-    for chip in 0..chips {
+    for chip in 0..machine.chip_count() {
         total += ones(machine.chip(chip).flag_plane(FlagNo::SEND));
     }
     total
@@ -169,22 +156,13 @@ fn bit_number(bit: bool) -> u64
     if bit { 1 } else { 0 }
 }
 
-/// How many chips a cube has.
-fn chip_count<const N: usize>() -> usize
-    requires dimension { N ≤ 12 }
-    ensures value { result ≡ 2 ^ N }
-    ensures within { result ≤ 4096 }
-{
-    1 << N
-}
-
 /// The image of a machine, in hexadecimal digits.
-pub fn push_image<const N: usize, const CAP: usize>(
+pub fn push_image<S: Sizes>(
     alloc: Global,
     text: &mut Vec<u8>,
-    machine: &Machine<N, CAP>,
+    machine: &MachineOf<S>,
 ) -> Result<(), NoMemory>
-    ensures ok { OnOk result (text.new.items ≡ text.old.items ++ image_lines (text_of N CAP machine.now.machine)) }
+    ensures ok { OnOk result (text.new.items ≡ text.old.items ++ image_lines (text_of S.n S.cap machine.now.machine)) }
 {
     let image = dump(alloc, machine)?;
     push_bytes(text, &image)

@@ -4,46 +4,34 @@ ghost use Rattle.std.specs.Prelude.{◌≡◌, ◌+◌, ◌<◌, ◌≤◌, ◌+
 ghost use Rattle.cm_model.specs.Array.{nth_or_nil};
 ghost use Rattle.cm_petit.specs.Routers.{events_of};
 
-use cm_array::{Log, Machine};
+use cm_array::{Log, MachineOf, Sizes};
 use cm_bits::NoMemory;
 use cm_element::Run;
 use cm_message::{Event, Message};
 use cm_router_engine::RouterEngine;
 use std::alloc::Global;
 
-/// How many chips a cube has.
-fn chip_count<const N: usize>() -> u16
-    requires dimension { N ≤ 12 }
-    ensures value { result ≡ 2 ^ N }
-    ensures within { result ≤ 4096 }
-{
-    1 << N
-}
-
-pub(crate) fn copied_run<const N: usize, const CAP: usize>(
-    alloc: Global,
-    machine: &Machine<N, CAP>,
-) -> Result<Run, NoMemory>
+pub(crate) fn copied_run<S: Sizes>(alloc: Global, machine: &MachineOf<S>) -> Result<Run, NoMemory>
     ensures value { IfOk result (λ run. run ≡ machine.now.machine.chips) }
 {
     // For the prover alone: a call brings in what holds of every machine.
     let _clock = machine.clock();
-    let chips = chip_count::<N>();
+    let chips = machine.chip_count();
     let mut run = Run::blank(alloc, chips)?;
     machine.copy_chips(0, chips, &mut run);
     Ok(run)
 }
 
-pub(crate) fn copied_engine<const N: usize, const CAP: usize>(
+pub(crate) fn copied_engine<S: Sizes>(
     alloc: Global,
-    machine: &Machine<N, CAP>,
+    machine: &MachineOf<S>,
 ) -> Result<RouterEngine, NoMemory>
     ensures value { IfOk result (λ engine. engine.buffers ≡ machine.now.machine.buffers) }
     ensures gathered { IfOk result (λ engine. IsTrue engine.gathered) }
 {
     // For the prover alone: a call brings in what holds of every machine.
     let _clock = machine.clock();
-    let chips = chip_count::<N>();
+    let chips = machine.chip_count();
     let mut engine = RouterEngine::new(alloc, usize::from(chips))?;
     for chip in 0..chips {
         arrive_all(&mut engine, usize::from(chip), messages_of(machine, chip));
@@ -53,8 +41,8 @@ pub(crate) fn copied_engine<const N: usize, const CAP: usize>(
 }
 
 /// The messages that stand at a chip: at most fifteen.
-fn messages_of<const N: usize, const CAP: usize>(machine: &Machine<N, CAP>, chip: u16) -> &[Message]
-    requires chip { chip < 2 ^ N }
+fn messages_of<S: Sizes>(machine: &MachineOf<S>, chip: u16) -> &[Message]
+    requires chip { chip < 2 ^ S.n }
     ensures value { result.now ≡ nth_or_nil machine.now.machine.buffers chip }
     ensures few { length result.now ≤ 15 }
 {
@@ -75,16 +63,16 @@ fn arrive_all(engine: &mut RouterEngine, chip: usize, messages: &[Message])
     }
 }
 
-pub(crate) fn copied_logs<const N: usize, const CAP: usize>(
+pub(crate) fn copied_logs<S: Sizes>(
     alloc: Global,
-    machine: &Machine<N, CAP>,
+    machine: &MachineOf<S>,
 ) -> Result<Vec<Vec<Event>>, NoMemory>
     ensures value { IfOk result (λ logs. events_of logs.items ≡ machine.now.machine.logs) }
 {
     // For the prover alone: a call brings in what holds of every machine.
     let _clock = machine.clock();
     let mut logs = Vec::new(alloc);
-    for chip in 0..chip_count::<N>() {
+    for chip in 0..machine.chip_count() {
         let log = copied_log(alloc, &machine.log(chip))?;
         let Ok(()) = logs.push(log) else {
             return Err(NoMemory);

@@ -13,7 +13,7 @@ ghost use Rattle.cm_model.specs.Buffers.{machine_after_injection, machine_after_
 
 use crate::copying::{copied_engine, copied_logs, copied_run};
 use crate::log_room::make_room;
-use cm_array::{LAST_CLOCK, MOST_ROOM, Machine, step};
+use cm_array::{LAST_CLOCK, MOST_ROOM, MachineOf, Sizes, step};
 use cm_bits::{NoMemory, Plane};
 use cm_element::{ChipView, Run};
 use cm_message::{Event, Message, Rule};
@@ -75,25 +75,22 @@ impl Model for LabMachine {
 
 impl LabMachine {
     /// A machine as it is.
-    pub fn own<const N: usize, const CAP: usize>(
-        alloc: Global,
-        machine: &Machine<N, CAP>,
-    ) -> Result<LabMachine, NoMemory>
-        ensures value { IfOk result (λ lab. lab ≡ record { n = N; cap = CAP; machine = machine.now.machine }) }
+    pub fn own<S: Sizes>(alloc: Global, machine: &MachineOf<S>) -> Result<LabMachine, NoMemory>
+        ensures value { IfOk result (λ lab. lab ≡ record { n = S.n; cap = S.cap; machine = machine.now.machine }) }
     {
         // For the prover alone: a call brings in what holds of every machine.
         let (_dims, _clock) = (machine.dims(), machine.clock());
         let engine = copied_engine(alloc, machine)?;
-        LabMachine::around(alloc, machine, CAP as u8, engine)
+        LabMachine::around(alloc, machine, machine.room(), engine)
     }
 
     /// The same, with room for so many messages in each router.
-    pub fn with_room<const N: usize, const CAP: usize>(
+    pub fn with_room<S: Sizes>(
         alloc: Global,
-        machine: &Machine<N, CAP>,
+        machine: &MachineOf<S>,
         room: u16,
     ) -> Result<LabMachine, RoomFault>
-        ensures value { IfOk result (λ lab. lab ≡ record { n = N; cap = room; machine = machine.now.machine }) }
+        ensures value { IfOk result (λ lab. lab ≡ record { n = S.n; cap = room; machine = machine.now.machine }) }
         ensures fits { IfOk result (λ lab. room_fault room machine.now.machine.buffers ≡ None) }
         ensures refused { IfErr result (λ fault. fault ≢ RoomFault.Memory
             → room_fault room machine.now.machine.buffers ≡ Some fault) }
@@ -111,9 +108,9 @@ impl LabMachine {
     }
 
     /// The same around its messages, which fit into this room.
-    fn around<const N: usize, const CAP: usize>(
+    fn around<S: Sizes>(
         alloc: Global,
-        machine: &Machine<N, CAP>,
+        machine: &MachineOf<S>,
         room: u8,
         engine: RouterEngine,
     ) -> Result<LabMachine, NoMemory>
@@ -122,7 +119,7 @@ impl LabMachine {
         requires messages { engine.buffers ≡ machine.now.machine.buffers }
         requires gathered { IsTrue engine.gathered }
         requires within { All (λ ms. length ms ≤ room) engine.buffers }
-        ensures value { IfOk result (λ lab. lab ≡ record { n = N; cap = room; machine = machine.now.machine }) }
+        ensures value { IfOk result (λ lab. lab ≡ record { n = S.n; cap = room; machine = machine.now.machine }) }
     {
         let dims = machine.dims();
         let clock = machine.clock();

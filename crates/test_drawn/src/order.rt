@@ -2,7 +2,7 @@
 
 ghost use Rattle.std.specs.Prelude.{None, false};
 
-use cm_array::{Machine, Plain, RunFault, Runner};
+use cm_array::{Fixed, Machine, Plain, RunFault, Runner};
 use cm_asm::{Program, assemble};
 use cm_bits::{Failed, Sink, Source};
 use cm_debug::session;
@@ -76,7 +76,7 @@ impl<'a> Sink for Counting<'a> {
 #[derive(Clone, Copy)]
 struct Cautious;
 
-impl<const N: usize, const CAP: usize> Runner<N, CAP> for Cautious {
+impl<const N: usize, const CAP: usize> Runner<Fixed<N, CAP>> for Cautious {
     ghost ready = { Unit {0} };
 
     ghost threads_lacked = { λ _. 0 };
@@ -125,7 +125,7 @@ static CAUTIOUS: [(&[Part], usize); 1] = [(
 )];
 
 /// Whether a session ends well. No contract tells more.
-fn ends_well<R: Runner<0, 7>>(
+fn ends_well<R: Runner<Fixed<0, 7>>>(
     alloc: Global,
     machine: &mut Machine<0, 7>,
     program: &Program,
@@ -139,7 +139,7 @@ fn ends_well<R: Runner<0, 7>>(
 }
 
 /// Whether what these parts are answered comes in time, with this program on this machine.
-fn comes_in_time<R: Runner<0, 7>>(
+fn comes_in_time<R: Runner<Fixed<0, 7>>>(
     alloc: Global,
     machine: &mut Machine<0, 7>,
     program: &Program,
@@ -162,7 +162,7 @@ fn comes_in_time<R: Runner<0, 7>>(
 }
 
 /// And in so many calls.
-fn is_in_order<R: Runner<0, 7>>(
+fn is_in_order<R: Runner<Fixed<0, 7>>>(
     alloc: Global,
     machine: &mut Machine<0, 7>,
     parts: &'static [Part],
@@ -182,7 +182,7 @@ fn is_in_order<R: Runner<0, 7>>(
 }
 
 /// The same on a blank machine.
-fn is_in_order_on_a_blank<R: Runner<0, 7>>(
+fn is_in_order_on_a_blank<R: Runner<Fixed<0, 7>>>(
     alloc: Global,
     parts: &'static [Part],
     calls: usize,

@@ -4,7 +4,7 @@ ghost use Rattle.std.specs.Prelude.{◌≡◌, ◌<◌, ◌≤◌, ◌^◌, IfSo
 
 use crate::building::ask;
 use crate::running::run_beside_plain;
-use cm_array::{Builder, Machine, Runner};
+use cm_array::{Builder, Fixed, Machine, Runner};
 use cm_bits::{Edge, Proc};
 use cm_message::{Message, Tag};
 use cm_model::{Act, Found, Rule};
@@ -229,7 +229,7 @@ pub static OF_TWO_CHIPS_WITH_ROOM_FOR_SEVEN: [Route; 4] = [
 ];
 
 /// The first of these that a runner does not go through as it says, and as the plain one does.
-pub fn first_wrong<const N: usize, const CAP: usize, X: Runner<N, CAP>>(
+pub fn first_wrong<const N: usize, const CAP: usize, X: Runner<Fixed<N, CAP>>>(
     runner: &mut X,
     alloc: Global,
     routes: &[Route],
@@ -250,7 +250,7 @@ pub fn first_wrong<const N: usize, const CAP: usize, X: Runner<N, CAP>>(
 }
 
 impl Route {
-    fn is_so<const N: usize, const CAP: usize, X: Runner<N, CAP>>(
+    fn is_so<const N: usize, const CAP: usize, X: Runner<Fixed<N, CAP>>>(
         &self,
         runner: &mut X,
         alloc: Global,
@@ -369,7 +369,7 @@ fn put<const N: usize, const CAP: usize>(
 }
 
 /// Whether a petit cycle goes as the plain runner's, and the messages are then where they should be.
-fn goes_on<const N: usize, const CAP: usize, X: Runner<N, CAP>>(
+fn goes_on<const N: usize, const CAP: usize, X: Runner<Fixed<N, CAP>>>(
     runner: &mut X,
     alloc: Global,
     machine: &mut Machine<N, CAP>,

@@ -4,13 +4,13 @@ ghost use Rattle.std.specs.Prelude.{◌≡◌, ◌^◌};
 
 use crate::four_messages::{four_messages_each, has_one_of_four};
 use crate::looking::are_same;
-use cm_array::{Machine, Plain, RunFault, Runner};
+use cm_array::{Fixed, Machine, Plain, RunFault, Runner};
 use cm_model::Act;
 use std::alloc::Global;
 
 /// With what fault a runner refuses the acts, and whether it leaves the machine as the plain one does, or else as it
 /// was. None where memory is wanting beside it.
-pub fn run_beside_plain<const N: usize, const CAP: usize, X: Runner<N, CAP>>(
+pub fn run_beside_plain<const N: usize, const CAP: usize, X: Runner<Fixed<N, CAP>>>(
     runner: &mut X,
     alloc: Global,
     machine: &mut Machine<N, CAP>,
@@ -26,7 +26,7 @@ pub fn run_beside_plain<const N: usize, const CAP: usize, X: Runner<N, CAP>>(
 
 /// The same, beside a machine of the same state. Events are dealt out before many chips are compared, where memory is
 /// not wanting.
-fn run_both<const N: usize, const CAP: usize, X: Runner<N, CAP>>(
+fn run_both<const N: usize, const CAP: usize, X: Runner<Fixed<N, CAP>>>(
     runner: &mut X,
     alloc: Global,
     machine: &mut Machine<N, CAP>,
@@ -48,7 +48,7 @@ fn run_both<const N: usize, const CAP: usize, X: Runner<N, CAP>>(
 /// Whether a runner takes a blank machine of sixteen chips through the program of four messages of each; or else leaves
 /// it as it was, want of memory or of a thread being told, and takes it through when it is asked again. None where
 /// memory is wanting beside it.
-pub fn sends_or_stays<X: Runner<4, 7>>(runner: &mut X, alloc: Global) -> Option<bool>
+pub fn sends_or_stays<X: Runner<Fixed<4, 7>>>(runner: &mut X, alloc: Global) -> Option<bool>
     requires runner { X.ready }
 {
     let acts = four_messages_each(alloc).ok()?;
@@ -57,7 +57,7 @@ pub fn sends_or_stays<X: Runner<4, 7>>(runner: &mut X, alloc: Global) -> Option<
 }
 
 /// The same of a machine that is blank, and the acts of this program.
-fn goes_or_stays<X: Runner<4, 7>>(
+fn goes_or_stays<X: Runner<Fixed<4, 7>>>(
     runner: &mut X,
     alloc: Global,
     machine: &mut Machine<4, 7>,

@@ -4,7 +4,7 @@ ghost use Rattle.std.specs.Prelude.{◌≡◌, ◌<◌, ◌≤◌, ◌^◌, ◌�
 ghost use Rattle.cm_model.specs.Machine.{run_of};
 ghost use Rattle.cm_array.specs.Acts.{is_late, is_long};
 
-use cm_array::{Machine, MachineFault, Plain, RunFault, Runner};
+use cm_array::{Fixed, Machine, MachineFault, Plain, RunFault, Runner};
 use cm_bits::{Dir, FlagNo, Plane};
 use cm_model::{Act, Nano};
 use cm_wire::chip_or;
@@ -186,7 +186,7 @@ fn plays_on<const N: usize>(
 }
 
 /// What a caller knows of any runner.
-pub(crate) fn go_by<const N: usize, R: Runner<N, 7>>(
+pub(crate) fn go_by<const N: usize, R: Runner<Fixed<N, 7>>>(
     runner: &mut R,
     machine: &mut Machine<N, 7>,
     acts: &[Act],

@@ -7,7 +7,7 @@ ghost use Rattle.cm_gates.specs.Gates.{ComesBy};
 
 use crate::rows::sent_on;
 use crate::runners::Kind;
-use cm_array::{Machine, RunFault, Runner};
+use cm_array::{Fixed, Machine, RunFault, Runner};
 use cm_bits::{Dir, FlagNo};
 use cm_model::Act;
 use cm_resident::Resident;
@@ -83,7 +83,7 @@ pub(crate) fn no_calls(alloc: Global) -> Option<Arc<Calls, Global>> {
 pub(crate) type Listed = ((Option<RunFault>, bool), (u64, u64));
 
 /// What a list of acts tells of a machine of so many chips.
-pub(crate) fn listed<const N: usize, X: Runner<N, 7>>(
+pub(crate) fn listed<const N: usize, X: Runner<Fixed<N, 7>>>(
     runner: &mut X,
     alloc: Global,
     machine: &mut Machine<N, 7>,
@@ -99,7 +99,7 @@ pub(crate) fn listed<const N: usize, X: Runner<N, 7>>(
 }
 
 /// What a petit cycle, the program of messages and an instruction over the grid tell, one after the other.
-fn lists<X: Runner<4, 7>>(
+fn lists<X: Runner<Fixed<4, 7>>>(
     runner: &mut X,
     alloc: Global,
     machine: &mut Machine<4, 7>,

@@ -3,7 +3,7 @@
 ghost use Rattle.std.specs.Thread.{IsSync};
 
 use crate::gates::{Calls, Listed, NOBODY, gate_of, listed, no_calls};
-use cm_array::{Machine, RunFault, Runner, check_stretch};
+use cm_array::{Fixed, Machine, RunFault, Runner, check_stretch};
 use cm_model::Act;
 use cm_resident::{Resident, team};
 use cm_workers::Forked;
@@ -33,7 +33,7 @@ fn has_team(alloc: Global) -> Option<bool> {
 
 /// What two workers tell of the program of messages, which has 128 rounds, and where they refuse it, of the same once
 /// more.
-fn told_by<X: Runner<4, 7>>(
+fn told_by<X: Runner<Fixed<4, 7>>>(
     runner: &mut X,
     alloc: Global,
     machine: &mut Machine<4, 7>,

@@ -2,7 +2,7 @@
 
 ghost use Rattle.std.specs.Thread.{IsSync};
 
-use cm_array::{Machine, RunFault, Runner};
+use cm_array::{Fixed, Machine, RunFault, Runner};
 use cm_bits::{Dir, FlagNo};
 use cm_model::{Act, Nano};
 use cm_resident::Resident;
@@ -43,7 +43,7 @@ fn busy_list(alloc: Global) -> Result<Vec<Act>, AllocError> {
 type Thrice = [(Option<RunFault>, bool); 3];
 
 /// How a runner goes through the acts three times.
-fn thrice<X: Runner<10, 7>>(
+fn thrice<X: Runner<Fixed<10, 7>>>(
     runner: &mut X,
     alloc: Global,
     machine: &mut Machine<10, 7>,
@@ -59,7 +59,7 @@ fn thrice<X: Runner<10, 7>>(
 }
 
 /// The same from a blank machine on.
-fn thrice_from_blank<X: Runner<10, 7>>(
+fn thrice_from_blank<X: Runner<Fixed<10, 7>>>(
     runner: &mut X,
     alloc: Global,
     acts: &[Act],

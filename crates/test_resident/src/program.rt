@@ -2,9 +2,9 @@
 
 ghost use Rattle.std.specs.Prelude.{◌≡◌, false};
 ghost use Rattle.std.specs.Thread.{IsSync};
-ghost use Rattle.cm_sizes.specs.Sizes.{sized};
 
 use crate::meeting::{Cut, FOUR, Meeting, Notes, Waits, no_notes};
+use cm_array::AnyMachine;
 use cm_asm::{Program, assemble};
 use cm_bits::doubles::{Bytes, Room};
 use cm_bits::{Sink, Source};
@@ -12,7 +12,7 @@ use cm_cli::Several;
 use cm_image_dump::dump;
 use cm_model::Rule;
 use cm_run::{Alone, SessionRunner, Sharing};
-use cm_sizes::{AnyMachine, on_room, open_image};
+use cm_sizes::{image_of, open_image};
 use cm_tools::fresh;
 use cm_workers::Passage;
 use std::alloc::Global;
@@ -120,26 +120,22 @@ impl Image {
     }
 }
 
-/// Lets a machine go, in a function of its own: its proof goes through each size.
-fn let_go(machine: AnyMachine) {
-    on_room!(machine, machine => drop(machine));
-}
-
 /// The image of what a session by this runner leaves of a machine.
 fn image_by<S: SessionRunner, I: Source, O: Sink>(
     alloc: Global,
     runner: S,
-    machine: &mut AnyMachine,
+    machine: AnyMachine,
     program: &Program,
     commands: &mut I,
     answers: &mut O,
 ) -> Option<Vec<u8>>
-    requires can { S.can_run runner (sized machine.old) }
+    requires can { S.can_run runner machine }
     requires reader { I.has_failed commands.old ≡ false }
     requires writer { O.has_failed answers.old ≡ false }
 {
-    runner.go(alloc, machine, program, commands, answers).ok()?;
-    machine.image(alloc).ok()
+    let (left, ended) = runner.go(alloc, machine, program, commands, answers);
+    ended.ok()?;
+    image_of(alloc, left).ok()
 }
 
 /// The image that one worker leaves, who answers the commands.
@@ -153,10 +149,8 @@ fn kept_alone<I: Source, O: Sink>(
     requires writer { O.has_failed answers.old ≡ false }
 {
     let program = assemble(alloc, row.text).ok()?;
-    let mut machine = row.image.opened(alloc)?;
-    let kept = image_by(alloc, Alone, &mut machine, &program, commands, answers);
-    let_go(machine);
-    kept
+    let machine = row.image.opened(alloc)?;
+    image_by(alloc, Alone, machine, &program, commands, answers)
 }
 
 /// What one worker leaves.
@@ -188,7 +182,7 @@ fn image_by_all<R: Threads + Wait + Sync, I: Source, O: Sink>(
     alloc: Global,
     row: &Shared,
     passage: Passage,
-    machine: &mut AnyMachine,
+    machine: AnyMachine,
     commands: &mut I,
     answers: &mut O,
 ) -> Option<Vec<u8>>
@@ -219,10 +213,8 @@ fn kept_shared<R: Threads + Wait + Sync, I: Source, O: Sink>(
     requires reader { I.has_failed commands.old ≡ false }
     requires writer { O.has_failed answers.old ≡ false }
 {
-    let mut machine = row.image.opened(alloc)?;
-    let kept = image_by_all(rt, alloc, row, passage, &mut machine, commands, answers);
-    let_go(machine);
-    kept
+    let machine = row.image.opened(alloc)?;
+    image_by_all(rt, alloc, row, passage, machine, commands, answers)
 }
 
 /// What several leave, who wait for one another.

@@ -6,7 +6,7 @@ ghost use Rattle.cm_bits.specs.Doubles.{room_has_failed};
 use crate::images::{tell_image, tell_refused};
 use crate::playing::{Trial, first_trial, tell};
 use crate::scene::Scene;
-use cm_array::Machine;
+use cm_array::{Fixed, Machine};
 use cm_bits::doubles::Room;
 use cm_model::Act;
 use cm_system::ProgramFault;
@@ -26,7 +26,7 @@ pub(crate) enum Steps {
 /// A world of which no contract tells anything.
 #[derive(Drop)]
 struct Exchange<const N: usize, const CAP: usize> {
-    world: World<N, CAP>,
+    world: World<Fixed<N, CAP>>,
 }
 
 /// Tells what comes of the exchange of the blocks of a machine, and the image that is left if it is asked for.

@@ -4,7 +4,7 @@ ghost use Rattle.std.specs.Prelude.{◌≡◌, false};
 ghost use Rattle.cm_bits.specs.Doubles.{room_has_failed};
 
 use crate::machines::kept;
-use cm_array::{Machine, Plain, Runner};
+use cm_array::{Fixed, Machine, Plain, Runner};
 use cm_bits::FlagNo;
 use cm_bits::doubles::{Bytes, Room};
 use cm_model::Act;
@@ -54,7 +54,7 @@ fn is_made_or_comes_back(alloc: Global) -> Option<bool> {
     }
 }
 
-fn comes_back(alloc: Global, refused: Refused<4, 7>, machine: &Machine<4, 7>) -> bool {
+fn comes_back(alloc: Global, refused: Refused<Fixed<4, 7>>, machine: &Machine<4, 7>) -> bool {
     refused.fault == WorldFault::Memory
         && are_same(alloc, &refused.machine, machine, 16)
         && World::new(alloc, refused.machine, &[Act::Cycle], 1).is_ok()
@@ -70,7 +70,7 @@ static TOLD_ANSWERS: &[u8] = b"? 34\nok\n? 34\nok\n? 34\nok\nok\nok\nok\nok\nok\
 static OWN_ANSWERS: &[u8] =
     b"grip 0\nfile 0\ngrip 1\nfile 1\ndraw 0\nclear 0\ndraw 1\nclear 1\nsteps 8\nfinished\n";
 
-fn two_blocks(alloc: Global) -> Option<World<1, 1>> {
+fn two_blocks(alloc: Global) -> Option<World<Fixed<1, 1>>> {
     let machine = Machine::<1, 1>::blank(alloc).ok()?;
     World::new(alloc, machine, &[Act::Cycle], 1).ok()
 }

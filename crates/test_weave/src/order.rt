@@ -2,7 +2,7 @@
 
 ghost use Rattle.std.specs.Prelude.{None, false};
 
-use cm_array::Machine;
+use cm_array::{Fixed, Machine};
 use cm_bits::{Failed, Sink, Source};
 use cm_model::Act;
 use cm_weave::World;
@@ -108,7 +108,7 @@ static ORDERS: [(&[Part], usize, bool); 4] = [
 ];
 
 /// Two chips in a petit cycle, a block each.
-fn two_blocks(alloc: Global) -> Option<World<1, 1>> {
+fn two_blocks(alloc: Global) -> Option<World<Fixed<1, 1>>> {
     let machine = Machine::<1, 1>::blank(alloc).ok()?;
     World::new(alloc, machine, &[Act::Cycle], 1).ok()
 }

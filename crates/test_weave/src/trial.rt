@@ -2,7 +2,7 @@
 
 ghost use Rattle.std.specs.Prelude.{◌≡◌, ◌^◌};
 
-use cm_array::Machine;
+use cm_array::{Fixed, Machine};
 use cm_exchange::Step;
 use cm_model::Act;
 use cm_weave::World;
@@ -13,7 +13,7 @@ use test_generators::are_same;
 /// A world, and once it is finished the machine that is left.
 #[derive(Drop)]
 pub(crate) struct Trial<const N: usize, const CAP: usize> {
-    worlds: Vec<World<N, CAP>>,
+    worlds: Vec<World<Fixed<N, CAP>>>,
     left: Vec<Machine<N, CAP>>,
 }
 
@@ -81,7 +81,7 @@ fn cut<const N: usize, const CAP: usize>(
     machine: &Machine<N, CAP>,
     acts: &[Act],
     k: u8,
-) -> Option<World<N, CAP>> {
+) -> Option<World<Fixed<N, CAP>>> {
     let copy = machine.copy(alloc).ok()?;
     World::new(alloc, copy, acts, k).ok()
 }

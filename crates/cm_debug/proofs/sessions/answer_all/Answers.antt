@@ -6,13 +6,13 @@ use Rattle.cm_debug.proofs.sessions.answer_all.Goals as goal
 
 pub returns-in_default-clause-ended : goal.returns-in_default-clause-ended
 returns-in_default-clause-ended g c =
-    ended_first g.row.N g.row.CAP (setting c.args.acts.now c.args.machine.now.machine
+    ended_first g.S.Sizes.n g.S.Sizes.cap (setting c.args.acts.now c.args.machine.now.machine
     (g.O.Sink.contents c.args.out.now) (g.R.Runner.threads_lacked c.args.runner.now)) (g.I.Source.left c.args.commands.now)
 
 pub hear_all-requires : goal.hear_all-requires
 hear_all-requires g c =
     let new = c.in-Ok.ensures in
-    let first = told_first g.row.N g.row.CAP (setting c.in-Ok.console.debugger.acts.now c.args.machine.now.machine
+    let first = told_first g.S.Sizes.n g.S.Sizes.cap (setting c.in-Ok.console.debugger.acts.now c.args.machine.now.machine
     (g.O.Sink.contents c.args.out.now) (g.R.Runner.threads_lacked c.args.runner.now))
     (talk c.args.machine.now.machine c.in-Ok.console (g.O.Sink.contents c.args.out.now)
     (g.R.Runner.threads_lacked c.args.runner.now)) refl
@@ -22,7 +22,14 @@ hear_all-requires g c =
       breaks = (new.breaks ∙ ap (λ (k : ℕ). replicate k false) (ap length (sym new.acts))) i;
       report = new.trace i;
     }) new.line refl new.none new.sent refl in
-    (omega arith, (c.requires.runner, (c.requires.reader, (c.requires.writer, (first, (new.none, new.sent))))))
+    record {
+      runner = c.requires.runner;
+      reader = c.requires.reader;
+      writer = c.requires.writer;
+      first = first;
+      none = new.none;
+      sent = new.sent;
+    }
 
 pub returns-in-Err-clause-ended : goal.returns-in-Err-clause-ended
 returns-in-Err-clause-ended g c = of_acts _ c.in-Ok.ensures.acts c.in-Err.ensures.takes

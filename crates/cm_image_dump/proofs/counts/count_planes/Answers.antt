@@ -27,7 +27,7 @@ returns g c =
     let counts : List ℕ = c.args.counts.now in
     let row : List ℕ = c.plane_row.result.now in
     let number_is : c.unwrap-address.result ≡ c.args.at = rw c.unwrap-address.ensures at c.new.ensures.value in
-    let planes : (k : ℕ) → k < 2 ^ g.row.N → get_or row k 0 ≡ memory_plane_of (chip_at chips k) c.args.at =
+    let planes : (k : ℕ) → k < 2 ^ g.S.Sizes.n → get_or row k 0 ≡ memory_plane_of (chip_at chips k) c.args.at =
     λ k h. plane_number-is (get_or row k 0) (λ p. memory_bit (processor_at (chip_at chips k) p) c.unwrap-address.result)
     (c.count_row.ensures.words k) (c.plane_row.ensures.value k h)
     ∙ ap (λ (n : ℕ). plane_number (λ p. memory_bit (processor_at (chip_at chips k) p) n)) number_is in

@@ -10,7 +10,7 @@ returns-then-not-is_in_use g c =
     let chips = c.args.machine.now.machine.chips in
     let number_is : c.unwrap.result ≡ c.args.at = rw c.unwrap.ensures at c.new.ensures.value in
     record {
-      ok = in_use_past (2 ^ g.row.N) c.args.at chips c.args.used.now.items c.requires.in_use
+      ok = in_use_past (2 ^ g.S.Sizes.n) c.args.at chips c.args.used.now.items c.requires.in_use
           (λ k h. no_plane (chip_at chips k) c.unwrap.result c.args.at (c.if-not-is_in_use.ensures.blank refl k h)
           number_is);
     }
@@ -19,6 +19,6 @@ pub returns : goal.returns
 returns g c =
     let chips = c.args.machine.now.machine.chips in
     record {
-      ok = subst (λ (used : List ℕ). AreInUse (2 ^ g.row.N) chips (c.args.at + 1) used) (sym c.in-Ok.ensures.items)
-          (in_use_more (2 ^ g.row.N) c.args.at chips c.args.used.now.items c.requires.in_use);
+      ok = subst (λ (used : List ℕ). AreInUse (2 ^ g.S.Sizes.n) chips (c.args.at + 1) used) (sym c.in-Ok.ensures.items)
+          (in_use_more (2 ^ g.S.Sizes.n) c.args.at chips c.args.used.now.items c.requires.in_use);
     }

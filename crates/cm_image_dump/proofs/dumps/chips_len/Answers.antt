@@ -14,15 +14,15 @@ loop-c-init g c = record {
 
 pub chip_len-len-requires : goal.chip_len-len-requires
 chip_len-len-requires g c =
-    let below : c.loop-c.c < 2 ^ g.row.N = omega (arith, c.chip_count-count.ensures.value) in
-    let room : length (nth_or_nil c.args.machine.now.machine.buffers c.loop-c.c) ≤ g.row.CAP =
+    let below : c.loop-c.c < 2 ^ g.S.Sizes.n = omega (arith, c.chip_count-count.ensures.value) in
+    let room : length (nth_or_nil c.args.machine.now.machine.buffers c.loop-c.c) ≤ g.S.Sizes.cap =
     c.buffer.ensures.whole.room c.loop-c.c below in
     record { few = rw c.buffer.ensures.value (omega (arith, room)) }
 
 pub loop-c-preserved : goal.loop-c-preserved
 loop-c-preserved g c =
     let chip = chip_at c.args.machine.now.machine.chips c.loop-c.c in
-    let below : c.loop-c.c < 2 ^ g.row.N = omega (arith, c.chip_count-count.ensures.value) in
+    let below : c.loop-c.c < 2 ^ g.S.Sizes.n = omega (arith, c.chip_count-count.ensures.value) in
     record {
       within = omega (arith, c.chip_len-len.ensures.within);
       is = omega (
@@ -37,7 +37,7 @@ loop-c-preserved g c =
 
 pub returns : goal.returns
 returns g c =
-    let all : c.loop-c.c ≡ 2 ^ g.row.N = omega (arith, c.chip_count-count.ensures.value) in
+    let all : c.loop-c.c ≡ 2 ^ g.S.Sizes.n = omega (arith, c.chip_count-count.ensures.value) in
     record {
       value = c.loop-c.invariant.is ∙ ap (λ k. length (chips_text c.args.machine.now.machine 0 k)) all;
       within = omega (arith, c.chip_count-count.ensures.few, c.loop-c.invariant.within);

@@ -12,14 +12,17 @@ use Rattle.cm_image_dump.proofs.dumps.push_front.Goals as goal
 pub push_head-requires : goal.push_head-requires
 push_head-requires g c =
     let sizes = c.clock-cycles.ensures.sizes in
-    record { dimension = sizes.dimension; room = sizes.most_room }
+    record {
+      dimension = omega (arith, sizes.dimension, c.from-n.ensures, c.dims.ensures.value);
+      room = omega (arith, sizes.most_room, c.from-cap.ensures, c.room.ensures.value);
+    }
 
 pub push_cuts-requires : goal.push_cuts-requires
 push_cuts-requires g c =
     let same : c.edges-cuts.result.now ≡ c.args.machine.now.machine.routing.cuts =
     c.edges-cuts.ensures.value ∙ ap (λ (r : Routing). r.cuts) c.routing-routing.ensures.value in
     record {
-      few = few_routed g.row.N c.args.machine.now.machine.routing c.edges-cuts.result.now
+      few = few_routed g.S.Sizes.n c.args.machine.now.machine.routing c.edges-cuts.result.now
           c.clock-cycles.ensures.sizes.dimension c.cuts_are_few.ensures c.clock-cycles.ensures.whole.routing same;
     }
 
@@ -34,13 +37,15 @@ returns-clause-ok g c =
     let version : c.version_of-version.result ≡ version_of routing =
     version_told routing c.routing-routing.result.now.rule c.edges-cuts.result.now c.version_of-version.result
     c.version_of-version.ensures.value rule same in
-    let head : List ℕ = head_text (head_of g.row.N g.row.CAP routing) in
+    let n : c.from-n.result ≡ g.S.Sizes.n = c.from-n.ensures ∙ c.dims.ensures.value in
+    let cap : c.from-cap.result ≡ g.S.Sizes.cap = c.from-cap.ensures ∙ c.room.ensures.value in
+    let head : List ℕ = head_text (head_of g.S.Sizes.n g.S.Sizes.cap routing) in
     let first : c.push_head.new.text.items ≡ text ++ head =
     c.in_ok-push_head.ensures.ok
     ∙ (λ i. text ++ head_text (record {
       version = version i;
-      dimension = g.row.N;
-      room = g.row.CAP;
+      dimension = n i;
+      room = cap i;
       rule = rule_number (rule i);
     })) in
     let second : c.push_u64.new.text.items ≡ text ++ (head ++ number_bytes w64 c.args.machine.now.machine.clock) =
@@ -60,7 +65,7 @@ returns-clause-grows g c =
     let same : c.edges-cuts.result.now ≡ c.args.machine.now.machine.routing.cuts =
     c.edges-cuts.ensures.value ∙ ap (λ (r : Routing). r.cuts) c.routing-routing.ensures.value in
     let few : length c.edges-cuts.result.now ≤ 24576 =
-    few_listed g.row.N c.args.machine.now.machine.routing c.edges-cuts.result.now
+    few_listed g.S.Sizes.n c.args.machine.now.machine.routing c.edges-cuts.result.now
     c.clock-cycles.ensures.sizes.dimension c.cuts_are_few.ensures c.clock-cycles.ensures.whole.routing same in
     omega (
       arith,
@@ -79,7 +84,7 @@ returns-in_err-push_cuts-clause-full g c =
     let same : c.edges-cuts.result.now ≡ c.args.machine.now.machine.routing.cuts =
     c.edges-cuts.ensures.value ∙ ap (λ (r : Routing). r.cuts) c.routing-routing.ensures.value in
     let few : length c.edges-cuts.result.now ≤ 24576 =
-    few_listed g.row.N c.args.machine.now.machine.routing c.edges-cuts.result.now
+    few_listed g.S.Sizes.n c.args.machine.now.machine.routing c.edges-cuts.result.now
     c.clock-cycles.ensures.sizes.dimension c.cuts_are_few.ensures c.clock-cycles.ensures.whole.routing same in
     on_any c.from_residual-in_err-push_cuts.result
     (omega (

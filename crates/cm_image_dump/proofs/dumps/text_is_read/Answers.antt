@@ -4,7 +4,7 @@ use Rattle.cm_image_dump.proofs.dumps.text_is_read.Goals as goal
 pub returns : goal.returns
 returns g c =
     let sizes = c.clock.ensures.sizes in
-    c.texts_leave_out_logs.ensures g.row.N g.row.CAP c.args.machine.now.machine
+    c.texts_leave_out_logs.ensures g.S.Sizes.n g.S.Sizes.cap c.args.machine.now.machine
     (record {
       dimension = sizes.dimension;
       some_room = sizes.some_room;

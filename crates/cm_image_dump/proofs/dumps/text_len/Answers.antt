@@ -10,7 +10,7 @@ cuts_len-requires g c =
     let same : c.edges-cuts.result.now ≡ c.args.machine.now.machine.routing.cuts =
     c.edges-cuts.ensures.value ∙ ap (λ (r : Routing). r.cuts) c.routing-routing.ensures.value in
     record {
-      few = few_routed g.row.N c.args.machine.now.machine.routing c.edges-cuts.result.now c.sizes.ensures.dimension
+      few = few_routed g.S.Sizes.n c.args.machine.now.machine.routing c.edges-cuts.result.now c.sizes.ensures.dimension
           c.cuts_are_few.ensures c.routing-routing.ensures.whole.routing same;
     }
 
@@ -33,6 +33,6 @@ returns g c =
         c.cuts_len.ensures.value,
         wires,
         c.chips_len.ensures.value,
-        length-text_of g.row.N g.row.CAP c.args.machine.now.machine,
+        length-text_of g.S.Sizes.n g.S.Sizes.cap c.args.machine.now.machine,
       );
     }

@@ -5,7 +5,7 @@ use Rattle.std.specs.Int.{bit_at}
 use Rattle.cm_image_fields.proofs.cuts.take_cut.Goals as goal
 
 pub returns-clause-wire : goal.returns-clause-wire
-returns-clause-wire c = record {
+returns-clause-wire g c = record {
   wire = record {
     dim = omega arith;
     chip = omega (arith, c.in_ok-chip.ensures.below);

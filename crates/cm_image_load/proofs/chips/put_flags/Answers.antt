@@ -5,7 +5,7 @@ use Rattle.cm_image_load.proofs.chips.put_flags.Goals as goal
 use Rattle.cm_image_load.proofs.chips.put_flags.Goals.{then-f-ne8, else-f-ne8}
 
 pub loop-f-init : goal.loop-f-init
-loop-f-init g c = flags_none g.row.N c.args.chip c.args.builder.now c.args.flags.now c.requires.chip c.requires.blank
+loop-f-init g c = flags_none g.S.Sizes.n c.args.chip c.args.builder.now c.args.flags.now c.requires.chip c.requires.blank
 
 pub loop-f-preserved : goal.loop-f-preserved
 loop-f-preserved g c =

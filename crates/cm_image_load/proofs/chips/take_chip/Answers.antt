@@ -17,43 +17,43 @@ use Rattle.cm_image_load.proofs.chips.take_chip.Goals as goal
 
 pub returns-in-Some-clause-ok : goal.returns-in-Some-clause-ok
 returns-in-Some-clause-ok g c =
-    let below : c.args.chip < 2 ^ g.row.N = omega (arith, c.requires.chip, c.requires.cube) in
+    let below : c.args.chip < 2 ^ g.S.Sizes.n = omega (arith, c.requires.chip, c.requires.cube) in
     let before : Machine = with_waiting c.args.chip c.args.builder.now c.args.waiting.now in
     let after : Machine = c.put.new.builder in
     let none : before ≡ with_waiting (c.args.chip + 1) after c.put.new.self =
     sym c.put.ensures.value
     ∙ (sym (nothing_waits (c.args.chip + 1) after)
     ∙ ap (λ (waiting : Chips). with_waiting (c.args.chip + 1) after waiting) (sym c.put.ensures.none)) in
-    blank_chip_read g.row.N g.row.CAP c.args.clock c.args.chip before c.args.bytes.now c.in-Some.rest.now below
+    blank_chip_read g.S.Sizes.n g.S.Sizes.cap c.args.clock c.args.chip before c.args.bytes.now c.in-Some.rest.now below
     c.requires.blank c.in-Some.ensures.value
     ∙ ap (λ (m : Machine). Ok (m, c.in-Some.rest.now)) none
 
 pub returns-in_err-flags-clause-refused : goal.returns-in_err-flags-clause-refused
 returns-in_err-flags-clause-refused g c =
     let p = err_from_is_err_and c.from_residual.result c.from_residual.ensures.1 in
-    rw (p.1, p.2) (flags_wrong g.row.N g.row.CAP c.args.clock c.args.bytes.now _ c.in_err-flags.ensures.value)
+    rw (p.1, p.2) (flags_wrong g.S.Sizes.n g.S.Sizes.cap c.args.clock c.args.bytes.now _ c.in_err-flags.ensures.value)
 
 pub returns-then-push-clause-ok : goal.returns-then-push-clause-ok
 returns-then-push-clause-ok g c =
     let flags : flags_part c.args.bytes.now ≡ Ok (c.in_ok-flags.flags, c.in_ok-flags.rest.now) =
     cc (c.in_ok-flags.ensures.value) in
-    let below : c.args.chip < 2 ^ g.row.N = omega (arith, c.requires.chip, c.requires.cube) in
+    let below : c.args.chip < 2 ^ g.S.Sizes.n = omega (arith, c.requires.chip, c.requires.cube) in
     let after : List ℕ = c.in_ok-flags.rest.now in
     let builder : Machine = c.make_room.new.builder in
     let whole : Machine = c.take_messages.new.builder in
     with_value c.take_messages.result _ _
     (λ rest messages.
     subst
-    (λ (m : Machine). made (with_chip_image c.args.chip m) (chip_part g.row.N g.row.CAP c.args.clock) c.args.bytes.now
+    (λ (m : Machine). made (with_chip_image c.args.chip m) (chip_part g.S.Sizes.n g.S.Sizes.cap c.args.clock) c.args.bytes.now
     ≡ Ok (with_waiting (c.args.chip + 1) whole c.push.new.self, rest.now))
     c.make_room.ensures.value
-    (full_read g.row.N g.row.CAP c.args.clock c.args.chip builder whole c.make_room.new.self c.push.new.self
+    (full_read g.S.Sizes.n g.S.Sizes.cap c.args.clock c.args.chip builder whole c.make_room.new.self c.push.new.self
     c.args.bytes.now after (drop 16386 after) rest.now c.in_ok-flags.flags
     below c.make_room.ensures.waiting
-    (subst (λ (m : Machine). IsBlankFrom g.row.N c.args.chip m) (sym c.make_room.ensures.value) c.requires.blank)
+    (subst (λ (m : Machine). IsBlankFrom g.S.Sizes.n c.args.chip m) (sym c.make_room.ensures.value) c.requires.blank)
     flags (c.push.ensures.full c.if-push.true)
     (subst (λ (xs : List ℕ). made (λ ms. fold (with_message c.args.chip) builder ms)
-    (messages_part g.row.N g.row.CAP c.args.clock) xs ≡ Ok (whole, rest.now)) (take_rest after 16386) messages)))
+    (messages_part g.S.Sizes.n g.S.Sizes.cap c.args.clock) xs ≡ Ok (whole, rest.now)) (take_rest after 16386) messages)))
     c.take_messages.ensures.ok
 
 pub returns-then-push-clause-refused : goal.returns-then-push-clause-refused
@@ -62,10 +62,10 @@ returns-then-push-clause-refused g c =
     cc (c.in_ok-flags.ensures.value) in
     let after : List ℕ = c.in_ok-flags.rest.now in
     with_fault c.take_messages.result _ _
-    (λ fault wrong. full_wrong g.row.N g.row.CAP c.args.clock
+    (λ fault wrong. full_wrong g.S.Sizes.n g.S.Sizes.cap c.args.clock
     (λ listed. c.make_room.new.self ++ chip_of (planes_of listed) c.in_ok-flags.flags ∷ []) c.push.new.self
     c.args.bytes.now after (drop 16386 after) c.in_ok-flags.flags fault flags (c.push.ensures.full c.if-push.true)
-    (subst (λ (xs : List ℕ). messages_part g.row.N g.row.CAP c.args.clock xs ≡ Err fault) (take_rest after 16386)
+    (subst (λ (xs : List ℕ). messages_part g.S.Sizes.n g.S.Sizes.cap c.args.clock xs ≡ Err fault) (take_rest after 16386)
     wrong))
     c.take_messages.ensures.refused
 
@@ -85,7 +85,7 @@ returns-clause-ok g c =
     with_value c.take_listed_chip.result _ _
     (λ rest told.
     subst
-    (λ (m : Machine). made (with_chip_image c.args.chip m) (chip_part g.row.N g.row.CAP c.args.clock) c.args.bytes.now
+    (λ (m : Machine). made (with_chip_image c.args.chip m) (chip_part g.S.Sizes.n g.S.Sizes.cap c.args.clock) c.args.bytes.now
     ≡ Ok (whole, rest.now)) before (told c.args.bytes.now flags)
     ∙ ap (λ (m : Machine). Ok (m, rest.now)) none)
     c.take_listed_chip.ensures.ok

@@ -18,7 +18,7 @@ returns-in_err-rest-clause-refused g c =
     let p = err_from_is_err_and c.from_residual.result c.from_residual.ensures.1 in
     rw (p.1, p.2)
     (sym c.loop-chip.invariant.same
-    ∙ chips_wrong g.row.N g.row.CAP c.args.clock c.loop-chip.chip
+    ∙ chips_wrong g.S.Sizes.n g.S.Sizes.cap c.args.clock c.loop-chip.chip
     (with_waiting c.loop-chip.chip c.loop-chip.builder c.loop-chip.waiting) c.loop-chip.rest.now _
     (omega (arith, c.chip_count-chips.ensures.value)) c.in_err-rest.ensures.refused)
 
@@ -27,14 +27,14 @@ loop-chip-preserved g c =
     let before : Machine = with_waiting c.loop-chip.chip c.loop-chip.builder c.loop-chip.waiting in
     let after : Machine = with_waiting (c.loop-chip.chip + 1) c.take_chip.new.builder c.take_chip.new.waiting in
     let told =
-    blank_on g.row.N g.row.CAP c.args.clock c.loop-chip.chip before after
+    blank_on g.S.Sizes.n g.S.Sizes.cap c.args.clock c.loop-chip.chip before after
     c.loop-chip.rest.now c.in_ok-rest.rest.now c.in_ok-rest.ensures.ok c.loop-chip.invariant.blank
     c.loop-chip.invariant.clock in
     record {
       waiting = c.in_ok-rest.ensures.waiting;
       blank = told.0;
       clock = told.1;
-      same = chips_on g.row.N g.row.CAP c.args.clock c.loop-chip.chip before after c.loop-chip.rest.now
+      same = chips_on g.S.Sizes.n g.S.Sizes.cap c.args.clock c.loop-chip.chip before after c.loop-chip.rest.now
           c.in_ok-rest.rest.now _ (omega (arith, c.chip_count-chips.ensures.value)) c.loop-chip.invariant.same
           c.in_ok-rest.ensures.ok;
     }
@@ -45,8 +45,8 @@ returns-clause-ok g c =
     omega (arith, c.loop-chip-test.false, c.chip_count-chips.ensures.value, c.requires.first) in
     let all : with_waiting c.loop-chip.chip c.loop-chip.builder c.loop-chip.waiting ≡ c.put.new.builder =
     (λ i. with_waiting (end i) c.loop-chip.builder c.loop-chip.waiting) ∙ sym c.put.ensures.value in
-    let last : c.loop-chip.chip ≡ 2 ^ g.row.N = end ∙ c.chip_count-chips.ensures.value in
+    let last : c.loop-chip.chip ≡ 2 ^ g.S.Sizes.n = end ∙ c.chip_count-chips.ensures.value in
     sym c.loop-chip.invariant.same
-    ∙ (chips_done g.row.N g.row.CAP c.args.clock c.loop-chip.chip
+    ∙ (chips_done g.S.Sizes.n g.S.Sizes.cap c.args.clock c.loop-chip.chip
     (with_waiting c.loop-chip.chip c.loop-chip.builder c.loop-chip.waiting) c.loop-chip.rest.now (omega (arith, last))
     ∙ (λ i. Ok ((all i, last i), c.loop-chip.rest.now)))

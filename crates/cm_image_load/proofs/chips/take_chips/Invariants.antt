@@ -7,8 +7,8 @@ use Rattle.cm_image_load.proofs.chips.take_chips.Given as goal
 abbrev pub invariant-loop-chip : goal.invariant-loop-chip
 invariant-loop-chip g l = record {
   waiting : length l.waiting ≤ l.chip;
-  blank : IsBlankFrom g.row.N l.chip (with_waiting l.chip l.builder l.waiting);
+  blank : IsBlankFrom g.S.Sizes.n l.chip (with_waiting l.chip l.builder l.waiting);
   clock : l.builder.clock ≡ l.clock;
-  same : chips_onto g.row.N g.row.CAP l.clock l.chip (with_waiting l.chip l.builder l.waiting) l.rest
-      ≡ chips_onto g.row.N g.row.CAP l.clock l.first (with_waiting l.first l.initial.builder l.initial.waiting) l.initial.rest;
+  same : chips_onto g.S.Sizes.n g.S.Sizes.cap l.clock l.chip (with_waiting l.chip l.builder l.waiting) l.rest
+      ≡ chips_onto g.S.Sizes.n g.S.Sizes.cap l.clock l.first (with_waiting l.first l.initial.builder l.initial.waiting) l.initial.rest;
 }

@@ -16,30 +16,30 @@ pub returns-clause-full : goal.returns-clause-full
 returns-clause-full g c =
     let flags : flags_part c.args.bytes.now ≡ Ok (c.in-Ok.read.0, c.in-Ok.read.1.now) =
     cc (c.in-Ok.ensures.value) in
-    let below : c.args.chip < 2 ^ g.row.N = omega (arith, c.requires.chip, c.requires.cube) in
+    let below : c.args.chip < 2 ^ g.S.Sizes.n = omega (arith, c.requires.chip, c.requires.cube) in
     let after : List ℕ = c.in-Ok.read.1.now in
     let builder : Machine = c.make_room.new.builder in
     let whole : Machine = c.take_messages.new.builder in
     let rest : List ℕ = c.in-Ok-take_messages.after.now in
     let before : Machine = with_waiting c.args.chip c.args.builder.now c.args.waiting.now in
-    let is : made (with_chip_image c.args.chip before) (chip_part g.row.N g.row.CAP c.args.clock) c.args.bytes.now
+    let is : made (with_chip_image c.args.chip before) (chip_part g.S.Sizes.n g.S.Sizes.cap c.args.clock) c.args.bytes.now
     ≡ Ok (with_waiting (c.args.chip + 1) whole c.push.new.self, rest) =
     subst
-    (λ (m : Machine). made (with_chip_image c.args.chip m) (chip_part g.row.N g.row.CAP c.args.clock) c.args.bytes.now
+    (λ (m : Machine). made (with_chip_image c.args.chip m) (chip_part g.S.Sizes.n g.S.Sizes.cap c.args.clock) c.args.bytes.now
     ≡ Ok (with_waiting (c.args.chip + 1) whole c.push.new.self, rest))
     c.make_room.ensures.value
-    (full_read g.row.N g.row.CAP c.args.clock c.args.chip builder whole c.make_room.new.self c.push.new.self
+    (full_read g.S.Sizes.n g.S.Sizes.cap c.args.clock c.args.chip builder whole c.make_room.new.self c.push.new.self
     c.args.bytes.now after (drop 16386 after) rest c.in-Ok.read.0
     below c.make_room.ensures.waiting
-    (subst (λ (m : Machine). IsBlankFrom g.row.N c.args.chip m) (sym c.make_room.ensures.value) c.requires.blank)
+    (subst (λ (m : Machine). IsBlankFrom g.S.Sizes.n c.args.chip m) (sym c.make_room.ensures.value) c.requires.blank)
     flags (c.push.ensures.full c.if-not-push.false)
     (subst (λ (xs : List ℕ). made (λ ms. fold (with_message c.args.chip) builder ms)
-    (messages_part g.row.N g.row.CAP c.args.clock) xs ≡ Ok (whole, rest)) (take_rest after 16386)
+    (messages_part g.S.Sizes.n g.S.Sizes.cap c.args.clock) xs ≡ Ok (whole, rest)) (take_rest after 16386)
     c.in-Ok-take_messages.ensures.ok)) in
-    let last = last_bytes (made (with_chip_image c.args.chip before) (chip_part g.row.N g.row.CAP c.args.clock))
+    let last = last_bytes (made (with_chip_image c.args.chip before) (chip_part g.S.Sizes.n g.S.Sizes.cap c.args.clock))
     c.args.bytes.now rest (with_waiting (c.args.chip + 1) whole c.push.new.self)
-    (goes_on-made (with_chip_image c.args.chip before) (chip_part g.row.N g.row.CAP c.args.clock)
-    (chip_goes_on g.row.N g.row.CAP c.args.clock)) is in
+    (goes_on-made (with_chip_image c.args.chip before) (chip_part g.S.Sizes.n g.S.Sizes.cap c.args.clock)
+    (chip_goes_on g.S.Sizes.n g.S.Sizes.cap c.args.clock)) is in
     record {
       within = last.0;
       is = is ∙ ap (λ (xs : List ℕ). Ok (with_waiting (c.args.chip + 1) whole c.push.new.self, xs)) last.1;

@@ -18,7 +18,7 @@ loop-chip-init g c =
       waiting = rw c.requires.none (omega arith);
       clock = c.requires.clock;
       working = c.requires.working;
-      taken = taken_first g.row.N g.row.CAP c.args.clock c.args.builder.now
+      taken = taken_first g.S.Sizes.n g.S.Sizes.cap c.args.clock c.args.builder.now
           (with_waiting 0 c.args.builder.now c.args.waiting.now) c.args.window.now (g.I.Source.left c.args.source.now)
           c.args.most none c.requires.blank;
     }
@@ -38,14 +38,14 @@ returns-in_default-clause-value g c =
     let less : ℕ = c.loop-chip.left - c.in_ok-left.field-0 in
     let before : Machine = with_waiting c.loop-chip.chip c.loop-chip.builder c.loop-chip.waiting in
     let now =
-    subst (λ (w : List ℕ). AreTakenIn g.row.N g.row.CAP c.args.clock c.loop-chip.chip c.args.builder.now before
+    subst (λ (w : List ℕ). AreTakenIn g.S.Sizes.n g.S.Sizes.cap c.args.clock c.loop-chip.chip c.args.builder.now before
     c.args.window.now w (g.I.Source.left c.args.source.now) (g.I.Source.left c.fill.new.source) c.args.most less)
     (sym came.1)
-    (taken_more g.row.N g.row.CAP c.args.clock c.loop-chip.chip c.args.builder.now before c.args.window.now
+    (taken_more g.S.Sizes.n g.S.Sizes.cap c.args.clock c.loop-chip.chip c.args.builder.now before c.args.window.now
     c.loop-chip.window came.0 (g.I.Source.left c.args.source.now) (g.I.Source.left c.loop-chip.source)
     (g.I.Source.left c.fill.new.source) c.args.most c.loop-chip.left less c.loop-chip.invariant.taken came.2
     (omega (arith, came.3, came.4))) in
-    subst (λ (m : Machine). AreTakenIn g.row.N g.row.CAP c.args.clock c.loop-chip.chip c.args.builder.now m
+    subst (λ (m : Machine). AreTakenIn g.S.Sizes.n g.S.Sizes.cap c.args.clock c.loop-chip.chip c.args.builder.now m
     c.args.window.now c.fill.new.self (g.I.Source.left c.args.source.now) (g.I.Source.left c.fill.new.source)
     c.args.most less)
     (sym (c.in_default.ensures.other (search rules))) now
@@ -57,29 +57,29 @@ loop-chip-preserved g c =
     let before : Machine = with_waiting c.loop-chip.chip c.loop-chip.builder c.loop-chip.waiting in
     let after : Machine =
     with_waiting (c.loop-chip.chip + 1) c.take_full_chip-taken.new.builder c.take_full_chip-taken.new.waiting in
-    let below : c.loop-chip.chip < 2 ^ g.row.N = omega (arith, c.chip_count-chips.ensures.value) in
+    let below : c.loop-chip.chip < 2 ^ g.S.Sizes.n = omega (arith, c.chip_count-chips.ensures.value) in
     let now =
-    subst (λ (w : List ℕ). AreTakenIn g.row.N g.row.CAP c.args.clock c.loop-chip.chip c.args.builder.now before
+    subst (λ (w : List ℕ). AreTakenIn g.S.Sizes.n g.S.Sizes.cap c.args.clock c.loop-chip.chip c.args.builder.now before
     c.args.window.now w (g.I.Source.left c.args.source.now) (g.I.Source.left c.fill.new.source) c.args.most less)
     (sym came.1)
-    (taken_more g.row.N g.row.CAP c.args.clock c.loop-chip.chip c.args.builder.now before c.args.window.now
+    (taken_more g.S.Sizes.n g.S.Sizes.cap c.args.clock c.loop-chip.chip c.args.builder.now before c.args.window.now
     c.loop-chip.window came.0 (g.I.Source.left c.args.source.now) (g.I.Source.left c.loop-chip.source)
     (g.I.Source.left c.fill.new.source) c.args.most c.loop-chip.left less c.loop-chip.invariant.taken came.2
     (omega (arith, came.3, came.4))) in
     let full =
-    subst (λ (w : List ℕ). IsTakenIn g.row.N g.row.CAP c.args.clock c.loop-chip.chip before after c.in-Some.rest w)
+    subst (λ (w : List ℕ). IsTakenIn g.S.Sizes.n g.S.Sizes.cap c.args.clock c.loop-chip.chip before after c.in-Some.rest w)
     c.rest.ensures.value c.in-Some.ensures.full in
     record {
       waiting = c.in-Some.ensures.waiting;
-      clock = (blank_on g.row.N g.row.CAP c.args.clock c.loop-chip.chip before after c.fill.new.self
+      clock = (blank_on g.S.Sizes.n g.S.Sizes.cap c.args.clock c.loop-chip.chip before after c.fill.new.self
           (drop (length c.fill.new.self - c.in-Some.rest) c.fill.new.self) full.is now.blank
           c.loop-chip.invariant.clock).1;
       working = search rules;
-      taken = subst (λ (w : List ℕ). AreTakenIn g.row.N g.row.CAP c.args.clock (c.loop-chip.chip + 1)
+      taken = subst (λ (w : List ℕ). AreTakenIn g.S.Sizes.n g.S.Sizes.cap c.args.clock (c.loop-chip.chip + 1)
           c.args.builder.now after c.args.window.now w (g.I.Source.left c.args.source.now)
           (g.I.Source.left c.fill.new.source) c.args.most less)
           (sym c.keep.ensures.value)
-          (taken_on g.row.N g.row.CAP c.args.clock c.loop-chip.chip c.in-Some.rest c.args.builder.now before after
+          (taken_on g.S.Sizes.n g.S.Sizes.cap c.args.clock c.loop-chip.chip c.in-Some.rest c.args.builder.now before after
           c.args.window.now c.fill.new.self (g.I.Source.left c.args.source.now) (g.I.Source.left c.fill.new.source)
           c.args.most less below c.loop-chip.invariant.clock now full);
     }

@@ -9,6 +9,6 @@ invariant-loop-chip g l = record {
   waiting : length l.waiting ≤ l.chip;
   clock : l.builder.clock ≡ l.clock;
   working : g.I.Source.has_failed l.source ≡ false;
-  taken : AreTakenIn g.row.N g.row.CAP l.clock l.chip l.initial.builder (with_waiting l.chip l.builder l.waiting)
+  taken : AreTakenIn g.S.Sizes.n g.S.Sizes.cap l.clock l.chip l.initial.builder (with_waiting l.chip l.builder l.waiting)
       l.initial.window l.window (g.I.Source.left l.initial.source) (g.I.Source.left l.source) l.most l.left;
 }

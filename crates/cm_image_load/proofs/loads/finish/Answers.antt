@@ -20,59 +20,59 @@ some_left k some none = let wrong : ◌≡◌ {A = Bool} false true = some ∙ e
 pub returns-in_err-rest-clause-refused : goal.returns-in_err-rest-clause-refused
 returns-in_err-rest-clause-refused g c =
     let p = err_from_is_err_and c.from_residual.result c.from_residual.ensures.1 in
-    let header : Head × ℕ = header_of g.row.N g.row.CAP c.args.header in
+    let header : Head × ℕ = header_of g.S.Sizes.n g.S.Sizes.cap c.args.header in
     rw (p.1, p.2)
-    (λ m whole to. left_wrong g.row.N g.row.CAP header c.args.first _ c.args.bytes.now whole _ to
+    (λ m whole to. left_wrong g.S.Sizes.n g.S.Sizes.cap header c.args.first _ c.args.bytes.now whole _ to
     c.in_err-rest.ensures.refused)
 
 pub returns-in_err-rest-clause-otherwise : goal.returns-in_err-rest-clause-otherwise
 returns-in_err-rest-clause-otherwise g c = λ whole to none.
-    let header : Head × ℕ = header_of g.row.N g.row.CAP c.args.header in
-    not_both _ _ (faulty g.row.N g.row.CAP whole _
-    (left_wrong g.row.N g.row.CAP header c.args.first _ c.args.bytes.now whole _ to c.in_err-rest.ensures.refused)) none
+    let header : Head × ℕ = header_of g.S.Sizes.n g.S.Sizes.cap c.args.header in
+    not_both _ _ (faulty g.S.Sizes.n g.S.Sizes.cap whole _
+    (left_wrong g.S.Sizes.n g.S.Sizes.cap header c.args.first _ c.args.bytes.now whole _ to c.in_err-rest.ensures.refused)) none
 
 pub returns-in_err-machine-clause-refused : goal.returns-in_err-machine-clause-refused
 returns-in_err-machine-clause-refused g c =
     let p = err_from_is_err_and c.from_residual-in_err-machine.result c.from_residual-in_err-machine.ensures.1 in
-    let header : Head × ℕ = header_of g.row.N g.row.CAP c.args.header in
+    let header : Head × ℕ = header_of g.S.Sizes.n g.S.Sizes.cap c.args.header in
     rw (p.1, p.2)
     (λ m whole to. let told = c.in_err-machine.ensures.twice m in
-    left_twice g.row.N g.row.CAP header c.args.first _ _ _ c.args.bytes.now c.in_ok-rest.rest.now whole to
+    left_twice g.S.Sizes.n g.S.Sizes.cap header c.args.first _ _ _ c.args.bytes.now c.in_ok-rest.rest.now whole to
     c.in_ok-rest.ensures.ok told.1
     ∙ ap (λ (fault : ImageFault). Err fault) (sym told.0))
 
 pub returns-in_err-machine-clause-otherwise : goal.returns-in_err-machine-clause-otherwise
 returns-in_err-machine-clause-otherwise g c = λ whole to none.
     let p = err_from_is_err_and c.from_residual-in_err-machine.result c.from_residual-in_err-machine.ensures.1 in
-    let header : Head × ℕ = header_of g.row.N g.row.CAP c.args.header in
+    let header : Head × ℕ = header_of g.S.Sizes.n g.S.Sizes.cap c.args.header in
     let once : has_tag_twice (standing_messages c.take_chips.new.builder) ≡ false =
     not_true (has_tag_twice (standing_messages c.take_chips.new.builder))
     (λ two. not_both _ _
-    (faulty g.row.N g.row.CAP whole _
-    (left_twice g.row.N g.row.CAP header c.args.first _ _ _ c.args.bytes.now c.in_ok-rest.rest.now whole to
+    (faulty g.S.Sizes.n g.S.Sizes.cap whole _
+    (left_twice g.S.Sizes.n g.S.Sizes.cap header c.args.first _ _ _ c.args.bytes.now c.in_ok-rest.rest.now whole to
     c.in_ok-rest.ensures.ok two)) none) in
     rw (p.1, p.2) (c.in_err-machine.ensures.otherwise once)
 
 pub returns-then-not-is_empty-clause-refused : goal.returns-then-not-is_empty-clause-refused
 returns-then-not-is_empty-clause-refused g c = λ m whole to.
-    let header : Head × ℕ = header_of g.row.N g.row.CAP c.args.header in
-    left_extra g.row.N g.row.CAP header c.args.first _ _ _ c.args.bytes.now c.in_ok-rest.rest.now whole to
+    let header : Head × ℕ = header_of g.S.Sizes.n g.S.Sizes.cap c.args.header in
+    left_extra g.S.Sizes.n g.S.Sizes.cap header c.args.first _ _ _ c.args.bytes.now c.in_ok-rest.rest.now whole to
     c.in_ok-rest.ensures.ok
     (c.in_ok-machine.ensures.once refl) (some_left (length c.in_ok-rest.rest.now) c.if-not-is_empty.ensures)
 
 pub returns-then-not-is_empty-clause-otherwise : goal.returns-then-not-is_empty-clause-otherwise
 returns-then-not-is_empty-clause-otherwise g c = λ whole to none.
-    let header : Head × ℕ = header_of g.row.N g.row.CAP c.args.header in
+    let header : Head × ℕ = header_of g.S.Sizes.n g.S.Sizes.cap c.args.header in
     not_both _ _
-    (faulty g.row.N g.row.CAP whole _
-    (left_extra g.row.N g.row.CAP header c.args.first _ _ _ c.args.bytes.now c.in_ok-rest.rest.now whole to
+    (faulty g.S.Sizes.n g.S.Sizes.cap whole _
+    (left_extra g.S.Sizes.n g.S.Sizes.cap header c.args.first _ _ _ c.args.bytes.now c.in_ok-rest.rest.now whole to
     c.in_ok-rest.ensures.ok
     (c.in_ok-machine.ensures.once refl) (some_left (length c.in_ok-rest.rest.now) c.if-not-is_empty.ensures))) none
 
 pub returns-clause-value : goal.returns-clause-value
 returns-clause-value g c = λ whole to.
-    let header : Head × ℕ = header_of g.row.N g.row.CAP c.args.header in
-    left_loaded g.row.N g.row.CAP header c.args.first _ _ _ c.args.bytes.now c.in_ok-rest.rest.now whole to
+    let header : Head × ℕ = header_of g.S.Sizes.n g.S.Sizes.cap c.args.header in
+    left_loaded g.S.Sizes.n g.S.Sizes.cap header c.args.first _ _ _ c.args.bytes.now c.in_ok-rest.rest.now whole to
     c.in_ok-rest.ensures.ok
     (c.in_ok-machine.ensures.once refl) (eqb-true (length c.in_ok-rest.rest.now) 0 (sym c.if-not-is_empty.ensures))
     ∙ ap (λ (m : Machine). Ok m) (sym c.in_ok-machine.ensures.value)

@@ -14,7 +14,7 @@ returns-in_err-bytes-clause-refused g c =
 pub returns-in-Ok-clause-value : goal.returns-in-Ok-clause-value
 returns-in-Ok-clause-value g c =
     rest_so c.args.most (g.I.Source.left c.args.source.now) (g.I.Source.left c.take_rest.new.source) _ _
-    (λ more is. ap (λ (xs : List ℕ). read_image g.row.N g.row.CAP xs) (sym (c.deref.ensures.value ∙ is))
+    (λ more is. ap (λ (xs : List ℕ). read_image g.S.Sizes.n g.S.Sizes.cap xs) (sym (c.deref.ensures.value ∙ is))
     ∙ c.in-Ok.ensures.value)
     c.in_ok-bytes.ensures.value
 
@@ -23,7 +23,7 @@ returns-clause-refused g c = (
   gives_at_most c.args.most (g.I.Source.left c.args.source.now) (g.I.Source.left c.take_rest.new.source) _
       c.in_ok-bytes.ensures.value,
   λ other. rest_so c.args.most (g.I.Source.left c.args.source.now) (g.I.Source.left c.take_rest.new.source) _ _
-      (λ more is. ap (λ (xs : List ℕ). read_image g.row.N g.row.CAP xs) (sym (c.deref.ensures.value ∙ is))
-      ∙ is_fault (read_image g.row.N g.row.CAP c.deref.result.now) c.in-Err.fault (c.in-Err.ensures.refused other))
+      (λ more is. ap (λ (xs : List ℕ). read_image g.S.Sizes.n g.S.Sizes.cap xs) (sym (c.deref.ensures.value ∙ is))
+      ∙ is_fault (read_image g.S.Sizes.n g.S.Sizes.cap c.deref.result.now) c.in-Err.fault (c.in-Err.ensures.refused other))
       c.in_ok-bytes.ensures.value,
 )

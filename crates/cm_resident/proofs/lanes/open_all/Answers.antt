@@ -6,7 +6,14 @@ use Rattle.cm_resident.proofs.lanes.open_all.Goals as goal
 
 pub loop-place-preserved : goal.loop-place-preserved
 loop-place-preserved g c =
-    let run : Run = record { n = g.row.N; k = c.args.k; room = g.row.CAP; machine = c.args.machine.now.machine; acts = c.args.acts.now } in
+    let run : Run =
+    record {
+      n = g.S.Sizes.n;
+      k = c.args.k;
+      room = g.S.Sizes.cap;
+      machine = c.args.machine.now.machine;
+      acts = c.args.acts.now;
+    } in
     let inv = c.loop-place.invariant in record {
       first_room = search rules;
       second_room = search rules;

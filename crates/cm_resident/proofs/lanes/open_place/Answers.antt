@@ -11,7 +11,14 @@ use Rattle.cm_resident.proofs.lanes.open_place.Goals as goal
 
 pub returns-clause-gets : goal.returns-clause-gets
 returns-clause-gets g c =
-    let run : Run = record { n = g.row.N; k = c.args.k; room = g.row.CAP; machine = c.args.machine.now.machine; acts = c.args.acts.now } in
+    let run : Run =
+    record {
+      n = g.S.Sizes.n;
+      k = c.args.k;
+      room = g.S.Sizes.cap;
+      machine = c.args.machine.now.machine;
+      acts = c.args.acts.now;
+    } in
     let n : c.dims-dims.result ≡ run.n = c.dims-dims.ensures.value in
     let kind : c.kind_at-kind.result ≡ kind_of_index run.n run.k c.args.place =
     c.kind_at-kind.ensures.value ∙ ap (λ (d : ℕ). kind_of_index d run.k c.args.place) n in

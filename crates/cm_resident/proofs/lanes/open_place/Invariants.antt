@@ -6,7 +6,7 @@ use Rattle.cm_resident.proofs.lanes.open_place.Given as goal
 
 abbrev pub invariant-loop-block : goal.invariant-loop-block
 invariant-loop-block g l =
-    let run : Run = record { n = g.row.N; k = l.k; room = g.row.CAP; machine = l.machine.machine; acts = l.acts } in
+    let run : Run = record { n = g.S.Sizes.n; k = l.k; room = g.S.Sizes.cap; machine = l.machine.machine; acts = l.acts } in
     record {
       first_room : l.count ≤ vec_capacity l.froms;
       second_room : l.count ≤ vec_capacity l.tos;

@@ -1,4 +1,4 @@
-use Rattle.std.proofs.Common.{rules, ◌≡◌, ℕ, ◌<◌, ◌∙◌, refl, subst, sym, arith, lit<}
+use Rattle.std.proofs.Common.{rules, ◌≡◌, ℕ, ◌<◌, ◌∙◌, refl, subst, sym, arith}
 use Rattle.cm_gates.specs.Dealing.{AreDealt}
 use Rattle.cm_turns.specs.declared.worker.Worker.{Worker}
 use Rattle.cm_turns.specs.Lanes.{Run}
@@ -11,27 +11,21 @@ use Rattle.cm_resident.proofs.Opening.{few_rounds, in_time}
 use Rattle.cm_resident.proofs.teams.team_in.Goals as goal
 
 pub worker_parts-requires : goal.worker_parts-requires
-worker_parts-requires g c = (
-  lit< tt,
-  (
-    c.requires.list.within,
-    (
-      few_rounds g.row.N c.args.list.now.k c.args.list.now.acts.now c.requires.list.dimension c.requires.list.within c.requires.list.long,
-      (
-        c.requires.list.cycles,
-        in_time c.args.machine.now.machine.clock _ c.args.list.now.acts.now c.requires.clock c.requires.list.cycles,
-      ),
-    ),
-  ),
-)
+worker_parts-requires g c = record {
+  within = c.requires.list.within;
+  few = few_rounds g.S.Sizes.n c.args.list.now.k c.args.list.now.acts.now c.requires.list.dimension
+      c.requires.list.within c.requires.list.long;
+  cycles = c.requires.list.cycles;
+  clock = in_time c.args.machine.now.machine.clock _ c.args.list.now.acts.now c.requires.clock c.requires.list.cycles;
+}
 
 pub loop-w-init : goal.loop-w-init
 loop-w-init g c =
     let run : Run =
     record {
-      n = g.row.N;
+      n = g.S.Sizes.n;
       k = c.args.list.now.k;
-      room = g.row.CAP;
+      room = g.S.Sizes.cap;
       machine = c.args.machine.now.machine;
       acts = c.args.list.now.acts.now;
     } in
@@ -50,9 +44,9 @@ pub loop-w-preserved : goal.loop-w-preserved
 loop-w-preserved g c =
     let run : Run =
     record {
-      n = g.row.N;
+      n = g.S.Sizes.n;
       k = c.args.list.now.k;
-      room = g.row.CAP;
+      room = g.S.Sizes.cap;
       machine = c.args.machine.now.machine;
       acts = c.args.list.now.acts.now;
     } in

@@ -7,7 +7,7 @@ use Rattle.cm_resident.proofs.teams.team_in.Given as goal
 
 abbrev pub invariant-loop-w : goal.invariant-loop-w
 invariant-loop-w g l =
-    let run : Run = record { n = g.row.N; k = l.list.k; room = g.row.CAP; machine = l.machine.machine; acts = l.list.acts.now } in
+    let run : Run = record { n = g.S.Sizes.n; k = l.list.k; room = g.S.Sizes.cap; machine = l.machine.machine; acts = l.list.acts.now } in
     record {
       room : l.list.workers ≤ vec_capacity l.team;
       left : AreFrom (λ w hand. HasWorkerParts run l.list.workers w hand.items) l.w l.list.workers l.hands.items;

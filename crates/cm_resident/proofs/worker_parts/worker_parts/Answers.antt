@@ -10,7 +10,14 @@ use Rattle.cm_resident.proofs.worker_parts.worker_parts.Goals as goal
 
 pub loop-b-init : goal.loop-b-init
 loop-b-init g c =
-    let run : Run = record { n = g.row.N; k = c.args.k; room = g.row.CAP; machine = c.args.machine.now.machine; acts = c.args.acts.now } in
+    let run : Run =
+    record {
+      n = g.S.Sizes.n;
+      k = c.args.k;
+      room = g.S.Sizes.cap;
+      machine = c.args.machine.now.machine;
+      acts = c.args.acts.now;
+    } in
     record {
       room = search rules;
       blocks_left = c.in_ok-blocks.ensures.value c.args.acts.now (sym c.requires.cycles);
@@ -22,7 +29,14 @@ loop-b-init g c =
 
 pub loop-b-preserved : goal.loop-b-preserved
 loop-b-preserved g c =
-    let run : Run = record { n = g.row.N; k = c.args.k; room = g.row.CAP; machine = c.args.machine.now.machine; acts = c.args.acts.now } in
+    let run : Run =
+    record {
+      n = g.S.Sizes.n;
+      k = c.args.k;
+      room = g.S.Sizes.cap;
+      machine = c.args.machine.now.machine;
+      acts = c.args.acts.now;
+    } in
     let inv = c.loop-b.invariant in let b = c.loop-b._b in let each = ends_each run.k in
     let cut = c.in_ok-blocks.ensures.value c.args.acts.now (sym c.requires.cycles) in
     let count : c.len-count.result ≡ length c.in_ok-blocks.blocks.items = search rules in

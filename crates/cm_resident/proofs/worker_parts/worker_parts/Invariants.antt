@@ -7,7 +7,7 @@ use Rattle.cm_resident.proofs.worker_parts.worker_parts.Given as goal
 
 abbrev pub invariant-loop-b : goal.invariant-loop-b
 invariant-loop-b g l =
-    let run : Run = record { n = g.row.N; k = l.k; room = g.row.CAP; machine = l.machine.machine; acts = l.acts } in
+    let run : Run = record { n = g.S.Sizes.n; k = l.k; room = g.S.Sizes.cap; machine = l.machine.machine; acts = l.acts } in
     record {
       room : l.count ≤ vec_capacity l.worker_parts;
       blocks_left : AreFrom (IsRunBlock run) l._b (2 ^ l.k) l.blocks.items;

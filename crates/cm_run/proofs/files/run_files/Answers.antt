@@ -1,11 +1,10 @@
 use Rattle.std.proofs.Common.{refl, inl, inr}
-use Rattle.cm_sizes.specs.Sizes.{sized}
 use Rattle.cm_system.proofs.Leading.{did_so, did_both}
 use Rattle.cm_run.proofs.files.run_files.Goals as goal
 
 pub run_any-requires : goal.run_any-requires
 run_any-requires g c = record {
-  can = c.requires.can (sized c.in-Ok.begun.taken.machine) c.in-Ok.ensures.value.so.shared;
+  can = c.requires.can c.in-Ok.begun.taken.machine c.in-Ok.ensures.value.so.shared;
   reader = c.requires.reader;
   writer = c.requires.writer;
 }
@@ -16,7 +15,7 @@ returns-in-Ok g c = record {
     first = trace;
     second = more;
     did = refl;
-    start = sized c.in-Ok.begun.taken.machine;
+    start = c.in-Ok.begun.taken.machine;
     program = c.in-Ok.begun.taken.program;
     part = c.in-Ok.begun.part;
     begins = begins;

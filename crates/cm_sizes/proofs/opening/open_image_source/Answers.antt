@@ -1,6 +1,5 @@
 use Rattle.std.proofs.Common.{◌≡◌, ◌-◌, ℕ, List, Ok, Err, take, arith}
 use Rattle.std.proofs.lemmas.List.{length-take-le}
-use Rattle.cm_sizes.specs.Sizes.{sized}
 use Rattle.cm_sizes.specs.Opening.{image_opened}
 use Rattle.cm_sizes.specs.ImageSources.{IMAGE_LIMIT}
 use Rattle.cm_sizes.proofs.Sourcing.{opens_all, refuses_all, unread}
@@ -12,7 +11,7 @@ returns-in-Ok-clause-value g c =
     let long = length-take-le c.in-Ok.count c.read.new.buf c.in-Ok.ensures.bound.0 in
     opens_all IMAGE_LIMIT (IMAGE_LIMIT - c.in-Ok.count) (g.I.Source.left c.args.source.now)
     (g.I.Source.left c.read.new.self) (g.I.Source.left c.open_behind.new.source) front
-    (λ machine image. image_opened image ≡ Ok (sized machine)) c.open_behind.result
+    (λ machine image. image_opened image ≡ Ok machine) c.open_behind.result
     (omega (arith, long, c.read.auto.buf, c.in-Ok.ensures.bound.0)) c.in-Ok.ensures.bytes.0
     c.open_behind.ensures.value
 

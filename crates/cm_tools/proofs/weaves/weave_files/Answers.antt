@@ -1,5 +1,4 @@
 use Rattle.std.proofs.Common.{refl, inl, inr}
-use Rattle.cm_sizes.specs.Sizes.{sized}
 use Rattle.cm_system.proofs.Leading.{did_so, did_both}
 use Rattle.cm_system.proofs.Taking.{taken_of, refused_of}
 use Rattle.cm_tools.proofs.weaves.weave_files.Goals as goal
@@ -20,7 +19,7 @@ returns-in-Ok g c = record {
     first = trace;
     second = more;
     did = refl;
-    start = sized c.in-Ok.taken.machine;
+    start = c.in-Ok.taken.machine;
     program = c.in-Ok.taken.program;
     both = taken_of c.as_str.ensures.value c.as_str-2.ensures.value both;
     then = weaves;

@@ -29,7 +29,7 @@ returns-in-Ok-step_world g c = record {
       ended = Ok tt;
       ends = c.in-Ok-step_world.ensures.ends;
       write = c.in-Ok-step_world.ensures.write;
-      kept = subst (λ (m : Machine). KeepsImage g.row.N g.row.CAP m (is_some c.in-Ok.ends.part) left.kept)
+      kept = subst (λ (m : Machine). KeepsImage g.S.Sizes.n g.S.Sizes.cap m (is_some c.in-Ok.ends.part) left.kept)
           c.in-Ok-step_world.ensures.machine left.is;
     };
     closes = left.closes;

@@ -8,7 +8,7 @@ use Rattle.cm_weave.proofs.first.begin.Goals as goal
 pub returns-clause-value : goal.returns-clause-value
 returns-clause-value g c =
     let k = c.args.k in
-    is_begun g.row.N g.row.CAP k c.args.machine.now.machine c.args.acts.now
+    is_begun g.S.Sizes.n g.S.Sizes.cap k c.args.machine.now.machine c.args.acts.now
     (record {
       acts = c.in_ok-copied.field-0;
       rounds = c.in_ok-rounds.field-0;

@@ -14,17 +14,17 @@ loop-step-init g c =
     record {
       run = own_run c.args.world.now;
       writing = c.requires.writer;
-      playing = plays_first (exchange_in g.row.N g.row.CAP c.args.world.now) c.args.world.now.world _
+      playing = plays_first (exchange_in g.S.Sizes.n g.S.Sizes.cap c.args.world.now) c.args.world.now.world _
           c.args.text.now.items way.reached.steps way.reached.is c.requires.none
-          (few_in_run g.row.N g.row.CAP c.args.world.now way);
+          (few_in_run g.S.Sizes.n g.S.Sizes.cap c.args.world.now way);
     }
 
 pub returns-in-Err-clause-err : goal.returns-in-Err-clause-err
 returns-in-Err-clause-err g c =
     let inv = c.loop-step.invariant in
-    let same = exchange_kept g.row.N g.row.CAP c.args.world.now c.loop-step.world inv.run in
-    plays_cut (exchange_in g.row.N g.row.CAP c.args.world.now)
-    (run_is g.row.N g.row.CAP c.args.world.now c.k.ensures.way) c.args.world.now.world c.loop-step.world.world _ _
+    let same = exchange_kept g.S.Sizes.n g.S.Sizes.cap c.args.world.now c.loop-step.world inv.run in
+    plays_cut (exchange_in g.S.Sizes.n g.S.Sizes.cap c.args.world.now)
+    (run_is g.S.Sizes.n g.S.Sizes.cap c.args.world.now c.k.ensures.way) c.args.world.now.world c.loop-step.world.world _ _
     c.loop-step.text.items c.loop-step.steps c.loop-step.sent inv.playing c.in-Some.step
     (λ finished. true≢false (c.in-Some.ensures.finished.1
     (subst (λ (e : Exchange). IsFinished e c.loop-step.world.world) (sym same) finished)))
@@ -34,10 +34,10 @@ returns-in-Err-clause-err g c =
 pub loop-step-smaller : goal.loop-step-smaller
 loop-step-smaller g c =
     let inv = c.loop-step.invariant in
-    let same = exchange_kept g.row.N g.row.CAP c.args.world.now c.loop-step.world inv.run in
-    let less : c.loop-step.steps < step_count (exchange_in g.row.N g.row.CAP c.args.world.now) =
-    few_steps (exchange_in g.row.N g.row.CAP c.args.world.now)
-    (run_is g.row.N g.row.CAP c.args.world.now c.k.ensures.way) c.args.world.now.world c.loop-step.world.world _ _
+    let same = exchange_kept g.S.Sizes.n g.S.Sizes.cap c.args.world.now c.loop-step.world inv.run in
+    let less : c.loop-step.steps < step_count (exchange_in g.S.Sizes.n g.S.Sizes.cap c.args.world.now) =
+    few_steps (exchange_in g.S.Sizes.n g.S.Sizes.cap c.args.world.now)
+    (run_is g.S.Sizes.n g.S.Sizes.cap c.args.world.now c.k.ensures.way) c.args.world.now.world c.loop-step.world.world _ _
     c.loop-step.text.items c.loop-step.steps c.loop-step.sent inv.playing c.in-Some.step
     (λ finished. true≢false (c.in-Some.ensures.finished.1
     (subst (λ (e : Exchange). IsFinished e c.loop-step.world.world) (sym same) finished)))
@@ -48,12 +48,12 @@ loop-step-smaller g c =
 pub loop-step-preserved : goal.loop-step-preserved
 loop-step-preserved g c =
     let inv = c.loop-step.invariant in
-    let same = exchange_kept g.row.N g.row.CAP c.args.world.now c.loop-step.world inv.run in
+    let same = exchange_kept g.S.Sizes.n g.S.Sizes.cap c.args.world.now c.loop-step.world inv.run in
     record {
       run = same_run c.args.world.now c.loop-step.world c.tell_step.new.world inv.run c.tell_step.ensures.run;
       writing = c.in-Ok.ensures.write;
-      playing = plays_on (exchange_in g.row.N g.row.CAP c.args.world.now)
-          (run_is g.row.N g.row.CAP c.args.world.now c.k.ensures.way) c.args.world.now.world c.loop-step.world.world _ _
+      playing = plays_on (exchange_in g.S.Sizes.n g.S.Sizes.cap c.args.world.now)
+          (run_is g.S.Sizes.n g.S.Sizes.cap c.args.world.now c.k.ensures.way) c.args.world.now.world c.loop-step.world.world _ _
           c.loop-step.text.items c.loop-step.steps c.loop-step.sent inv.playing c.in-Some.step
           (λ finished. true≢false (c.in-Some.ensures.finished.1
           (subst (λ (e : Exchange). IsFinished e c.loop-step.world.world) (sym same) finished)))
@@ -69,9 +69,9 @@ loop-step-preserved g c =
 pub returns-clause-ok : goal.returns-clause-ok
 returns-clause-ok g c =
     let inv = c.loop-step.invariant in
-    let same = exchange_kept g.row.N g.row.CAP c.args.world.now c.loop-step.world inv.run in
-    has_played_out (exchange_in g.row.N g.row.CAP c.args.world.now)
-    (run_is g.row.N g.row.CAP c.args.world.now c.k.ensures.way) c.args.world.now.world c.loop-step.world.world _ _
+    let same = exchange_kept g.S.Sizes.n g.S.Sizes.cap c.args.world.now c.loop-step.world inv.run in
+    has_played_out (exchange_in g.S.Sizes.n g.S.Sizes.cap c.args.world.now)
+    (run_is g.S.Sizes.n g.S.Sizes.cap c.args.world.now c.k.ensures.way) c.args.world.now.world c.loop-step.world.world _ _
     c.loop-step.text.items c.loop-step.steps c.loop-step.sent inv.playing c.next.result
     (subst (λ (e : Exchange). c.next.result ≡ next_step e c.loop-step.world.world) same c.next.ensures.value)
     (subst (λ (e : Exchange). IsNone c.next.result ↔ IsFinished e c.loop-step.world.world) same c.next.ensures.finished)

@@ -8,9 +8,9 @@ abbrev pub invariant-loop-step : goal.invariant-loop-step
 invariant-loop-step g l = record {
   run : IsOfRun l.fn.world l.world;
   writing : g.O.Sink.has_failed l.out ≡ false;
-  playing : IsPlaying (exchange_in g.row.N g.row.CAP l.fn.world) l.fn.world.world l.world.world
+  playing : IsPlaying (exchange_in g.S.Sizes.n g.S.Sizes.cap l.fn.world) l.fn.world.world l.world.world
       (g.O.Sink.contents l.fn.out) (g.O.Sink.contents l.out) l.text.items l.steps l.sent;
 }
 
 abbrev pub decreases-loop-step : goal.decreases-loop-step
-decreases-loop-step g l = step_count (exchange_in g.row.N g.row.CAP l.fn.world) - l.steps
+decreases-loop-step g l = step_count (exchange_in g.S.Sizes.n g.S.Sizes.cap l.fn.world) - l.steps

@@ -9,5 +9,5 @@ pub unreachable-requires : goal.unreachable-requires
 unreachable-requires g c =
     false≢true (c.in-Err-finish.ensures.finished.1
     (subst (λ (e : Exchange). IsFinished e c.tell_all.new.world.world)
-    (sym (exchange_kept g.row.N g.row.CAP c.args.world c.tell_all.new.world c.tell_all.ensures.run))
+    (sym (exchange_kept g.S.Sizes.n g.S.Sizes.cap c.args.world c.tell_all.new.world c.tell_all.ensures.run))
     c.in-Ok.ensures.finished))

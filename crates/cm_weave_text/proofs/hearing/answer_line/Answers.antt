@@ -8,7 +8,7 @@ use Rattle.cm_weave_text.proofs.hearing.answer_line.Goals as goal
 
 pub returns-in-Err-play-clause-value : goal.returns-in-Err-play-clause-value
 returns-in-Err-play-clause-value g c =
-    refused_now (exchange_in g.row.N g.row.CAP c.args.world.now) c.args.world.now.world c.play.new.self.world
+    refused_now (exchange_in g.S.Sizes.n g.S.Sizes.cap c.args.world.now) c.args.world.now.world c.play.new.self.world
     c.args.line.now c.read_step.result c.in-Ok-Some.step
     (c.read_step.ensures.value
     ∙ ap (λ (k : ℕ). step_in_words k (words_of c.args.line.now)) c.k.ensures.value)

@@ -10,7 +10,7 @@ loop-done-init g c = record { run = own_run c.args.world.now; within = omega ari
 
 pub returns-then-len-rest-clause-ok : goal.returns-then-len-rest-clause-ok
 returns-then-len-rest-clause-ok g c =
-    heard_rest (exchange_in g.row.N g.row.CAP c.args.world.now) _ c.loop-done.world.world c.loop-done.line.items
+    heard_rest (exchange_in g.S.Sizes.n g.S.Sizes.cap c.args.world.now) _ c.loop-done.world.world c.loop-done.line.items
     c.loop-done.answers.items c.args.piece.now _ _ c.extend_from_slice.new.self.items c.loop-done.done
     c.line_len-len.result refl refl c.if-len-rest.true c.line_len-len.ensures.unended
     c.in_ok-extend_from_slice.ensures.items c.loop-done.invariant.heard
@@ -23,7 +23,7 @@ loop-done-preserved g c =
     record {
       run = same_run c.args.world.now c.loop-done.world c.end_line.new.world inv.run c.end_line.ensures.run;
       within = grind (arith, less, other, c.loop-done-test.true);
-      heard = heard_line (exchange_in g.row.N g.row.CAP c.args.world.now) _ _ c.loop-done.world.world
+      heard = heard_line (exchange_in g.S.Sizes.n g.S.Sizes.cap c.args.world.now) _ _ c.loop-done.world.world
           c.loop-done.line.items c.loop-done.answers.items c.args.piece.now _ _ c.extend_from_slice.new.self.items
           c.loop-done.done c.line_len-len.result refl refl (omega (arith, less, other))
           (c.line_len-len.ensures.ends (omega (arith, less, other))) c.line_len-len.ensures.unended
@@ -34,5 +34,5 @@ loop-done-preserved g c =
             line = c.extend_from_slice.new.self.items;
             answers = c.loop-done.answers.items;
           }))
-          (exchange_kept g.row.N g.row.CAP c.args.world.now c.loop-done.world inv.run));
+          (exchange_kept g.S.Sizes.n g.S.Sizes.cap c.args.world.now c.loop-done.world inv.run));
     }

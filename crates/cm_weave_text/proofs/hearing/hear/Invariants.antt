@@ -7,7 +7,7 @@ invariant-loop-done g l = record {
   run : IsOfRun l.fn.world l.world;
   within : l.done ≤ length l.piece;
   heard : record { world = l.world.world; line = l.line.items; answers = l.answers.items }
-      ≡ processed (exchange_in g.row.N g.row.CAP l.fn.world)
+      ≡ processed (exchange_in g.S.Sizes.n g.S.Sizes.cap l.fn.world)
       (record { world = l.fn.world.world; line = l.fn.line.items; answers = l.fn.answers.items })
       (take l.done l.piece);
 }

@@ -13,7 +13,7 @@ pub loop-count-init : goal.loop-count-init
 loop-count-init g c = record {
   text = [];
   run = own_run c.args.world.now;
-  midway = at_first_byte (exchange_in g.row.N g.row.CAP c.args.world.now) c.args.world.now.world
+  midway = at_first_byte (exchange_in g.S.Sizes.n g.S.Sizes.cap c.args.world.now) c.args.world.now.world
       (g.O.Sink.contents c.args.out.now) (g.I.Source.left c.args.steps.now) c.new-line.result.items
       c.new-line.ensures.items;
   reading = c.requires.reader;
@@ -23,20 +23,20 @@ loop-count-init g c = record {
 pub returns-in-Err-clause-err : goal.returns-in-Err-clause-err
 returns-in-Err-clause-err g c =
     let so = c.loop-count.invariant in
-    ends_read (exchange_in g.row.N g.row.CAP c.args.world.now) c.args.world.now.world _ _ so.text _ _ _ _ _ _ so.midway
+    ends_read (exchange_in g.S.Sizes.n g.S.Sizes.cap c.args.world.now) c.args.world.now.world _ _ so.text _ _ _ _ _ _ so.midway
     (g.I.Source.left c.read.new.self) c.in-Err.ensures.bytes
 
 pub returns-in-Err-clause-heard : goal.returns-in-Err-clause-heard
 returns-in-Err-clause-heard g c =
     let so = c.loop-count.invariant in
-    some_read (exchange_in g.row.N g.row.CAP c.args.world.now) c.args.world.now.world _ _ so.text _ _ _ _ _ _ so.midway
+    some_read (exchange_in g.S.Sizes.n g.S.Sizes.cap c.args.world.now) c.args.world.now.world _ _ so.text _ _ _ _ _ _ so.midway
     (g.I.Source.left c.read.new.self) c.in-Err.ensures.bytes
 
 pub returns-in-Err-tell-clause-err : goal.returns-in-Err-tell-clause-err
 returns-in-Err-tell-clause-err g c =
     let so = c.loop-count.invariant in
-    let same = exchange_kept g.row.N g.row.CAP c.args.world.now c.loop-count.world so.run in
-    ends_in_read (exchange_in g.row.N g.row.CAP c.args.world.now) c.args.world.now.world _ _ so.text _ _ _ _ _ _
+    let same = exchange_kept g.S.Sizes.n g.S.Sizes.cap c.args.world.now c.loop-count.world so.run in
+    ends_in_read (exchange_in g.S.Sizes.n g.S.Sizes.cap c.args.world.now) c.args.world.now.world _ _ so.text _ _ _ _ _ _
     so.midway c.read.new.buf c.in-Ok.count c.min-room.result (g.O.Sink.contents c.tell.new.out) c.in-Err-tell.fault
     c.min-room.ensures
     (subst (λ (e : Exchange). TextAborts (processed e (record {
@@ -51,8 +51,8 @@ returns-in-Err-tell-clause-err g c =
 pub returns-in-Err-tell-clause-heard : goal.returns-in-Err-tell-clause-heard
 returns-in-Err-tell-clause-heard g c =
     let so = c.loop-count.invariant in
-    let same = exchange_kept g.row.N g.row.CAP c.args.world.now c.loop-count.world so.run in
-    some_in_read (exchange_in g.row.N g.row.CAP c.args.world.now) c.args.world.now.world _ _ so.text _ _ _ _ _ _
+    let same = exchange_kept g.S.Sizes.n g.S.Sizes.cap c.args.world.now c.loop-count.world so.run in
+    some_in_read (exchange_in g.S.Sizes.n g.S.Sizes.cap c.args.world.now) c.args.world.now.world _ _ so.text _ _ _ _ _ _
     so.midway c.read.new.buf c.in-Ok.count c.min-room.result (g.O.Sink.contents c.tell.new.out) c.in-Err-tell.fault
     c.min-room.ensures
     (subst (λ (e : Exchange). TextAborts (processed e (record {
@@ -67,8 +67,8 @@ returns-in-Err-tell-clause-heard g c =
 pub returns-then-room-count-clause-err : goal.returns-then-room-count-clause-err
 returns-then-room-count-clause-err g c =
     let so = c.loop-count.invariant in
-    let same = exchange_kept g.row.N g.row.CAP c.args.world.now c.loop-count.world so.run in
-    ends_over (exchange_in g.row.N g.row.CAP c.args.world.now) c.args.world.now.world _ _ so.text _ _ _ _ _ _
+    let same = exchange_kept g.S.Sizes.n g.S.Sizes.cap c.args.world.now c.loop-count.world so.run in
+    ends_over (exchange_in g.S.Sizes.n g.S.Sizes.cap c.args.world.now) c.args.world.now.world _ _ so.text _ _ _ _ _ _
     so.midway c.read.new.buf c.in-Ok.count c.min-room.result c.tell.new.world.world c.tell.new.line.items
     (g.O.Sink.contents c.tell.new.out) c.in-Ok-tell.now c.in-Ok.ensures.bound.0 c.min-room.ensures
     c.if-room-count.true
@@ -80,8 +80,8 @@ returns-then-room-count-clause-err g c =
 pub returns-then-room-count-clause-heard : goal.returns-then-room-count-clause-heard
 returns-then-room-count-clause-heard g c =
     let so = c.loop-count.invariant in
-    let same = exchange_kept g.row.N g.row.CAP c.args.world.now c.loop-count.world so.run in
-    some_over (exchange_in g.row.N g.row.CAP c.args.world.now) c.args.world.now.world _ _ so.text _ _ _ _ _ _
+    let same = exchange_kept g.S.Sizes.n g.S.Sizes.cap c.args.world.now c.loop-count.world so.run in
+    some_over (exchange_in g.S.Sizes.n g.S.Sizes.cap c.args.world.now) c.args.world.now.world _ _ so.text _ _ _ _ _ _
     so.midway c.read.new.buf c.in-Ok.count c.min-room.result c.tell.new.world.world c.tell.new.line.items
     (g.O.Sink.contents c.tell.new.out) c.in-Ok-tell.now c.in-Ok.ensures.bound.0 c.min-room.ensures
     c.if-room-count.true
@@ -93,14 +93,14 @@ returns-then-room-count-clause-heard g c =
 pub loop-count-preserved : goal.loop-count-preserved
 loop-count-preserved g c =
     let so = c.loop-count.invariant in
-    let same = exchange_kept g.row.N g.row.CAP c.args.world.now c.loop-count.world so.run in
+    let same = exchange_kept g.S.Sizes.n g.S.Sizes.cap c.args.world.now c.loop-count.world so.run in
     let most = so.midway.within in
     let bound = c.in-Ok.ensures.bound.0 in
     let all : c.in-Ok.count ≡ c.min-room.result = omega (arith, c.min-room.ensures, c.if-room-count.false) in
     record {
       text = so.text ++ take c.min-room.result c.read.new.buf;
       run = same_run c.args.world.now c.loop-count.world c.tell.new.world so.run c.tell.ensures.run;
-      midway = midway_on (exchange_in g.row.N g.row.CAP c.args.world.now) c.args.world.now.world _ _ so.text _ _ _ _ _ _
+      midway = midway_on (exchange_in g.S.Sizes.n g.S.Sizes.cap c.args.world.now) c.args.world.now.world _ _ so.text _ _ _ _ _ _
           so.midway (take c.min-room.result c.read.new.buf) (g.I.Source.left c.read.new.self) c.tell.new.world.world
           c.tell.new.line.items (g.O.Sink.contents c.tell.new.out) c.in-Ok-tell.now c.min-room.result
           (subst (λ (k : ℕ). Consumes (g.I.Source.left c.loop-count.steps) (g.I.Source.left c.read.new.self)
@@ -118,7 +118,7 @@ loop-count-preserved g c =
 pub returns-then-is_empty-clause-ok : goal.returns-then-is_empty-clause-ok
 returns-then-is_empty-clause-ok g c =
     let so = c.loop-count.invariant in
-    heard_closed (exchange_in g.row.N g.row.CAP c.args.world.now) c.args.world.now.world _ _ so.text _ _ _ _ _ _
+    heard_closed (exchange_in g.S.Sizes.n g.S.Sizes.cap c.args.world.now) c.args.world.now.world _ _ so.text _ _ _ _ _ _
     so.midway (g.I.Source.left c.read.new.self) c.read.new.buf c.in-Ok.count c.if-count-eq0.true c.in-Ok.ensures.bytes.0
     (c.in-Ok.ensures.bytes.1 c.if-count-eq0.true (omega arith))
     (is_none c.loop-count.line.items c.loop-count.line.len c.is_empty.result (omega (arith, c.loop-count.line.ok.0))
@@ -127,7 +127,7 @@ returns-then-is_empty-clause-ok g c =
 pub returns-then-is_empty-clause-heard : goal.returns-then-is_empty-clause-heard
 returns-then-is_empty-clause-heard g c =
     let so = c.loop-count.invariant in
-    some_closed (exchange_in g.row.N g.row.CAP c.args.world.now) c.args.world.now.world _ _ so.text _ _ _ _ _ _
+    some_closed (exchange_in g.S.Sizes.n g.S.Sizes.cap c.args.world.now) c.args.world.now.world _ _ so.text _ _ _ _ _ _
     so.midway (g.I.Source.left c.read.new.self) c.read.new.buf c.in-Ok.count c.if-count-eq0.true c.in-Ok.ensures.bytes.0
     (c.in-Ok.ensures.bytes.1 c.if-count-eq0.true (omega arith))
     (is_none c.loop-count.line.items c.loop-count.line.len c.is_empty.result (omega (arith, c.loop-count.line.ok.0))
@@ -136,8 +136,8 @@ returns-then-is_empty-clause-heard g c =
 pub returns-in-Ok-tell-2-clause-ok : goal.returns-in-Ok-tell-2-clause-ok
 returns-in-Ok-tell-2-clause-ok g c =
     let so = c.loop-count.invariant in
-    let same = exchange_kept g.row.N g.row.CAP c.args.world.now c.loop-count.world so.run in
-    heard_last (exchange_in g.row.N g.row.CAP c.args.world.now) c.args.world.now.world _ _ so.text _ _ _ _ _ _
+    let same = exchange_kept g.S.Sizes.n g.S.Sizes.cap c.args.world.now c.loop-count.world so.run in
+    heard_last (exchange_in g.S.Sizes.n g.S.Sizes.cap c.args.world.now) c.args.world.now.world _ _ so.text _ _ _ _ _ _
     so.midway (g.I.Source.left c.read.new.self) c.read.new.buf c.in-Ok.count c.if-count-eq0.true c.in-Ok.ensures.bytes.0
     (c.in-Ok.ensures.bytes.1 c.if-count-eq0.true (omega arith)) c.tell-2.new.world.world c.tell-2.new.line.items
     (g.O.Sink.contents c.tell-2.new.out) c.in-Ok-tell-2.now
@@ -150,8 +150,8 @@ returns-in-Ok-tell-2-clause-ok g c =
 pub returns-in-Ok-tell-2-clause-heard : goal.returns-in-Ok-tell-2-clause-heard
 returns-in-Ok-tell-2-clause-heard g c =
     let so = c.loop-count.invariant in
-    let same = exchange_kept g.row.N g.row.CAP c.args.world.now c.loop-count.world so.run in
-    some_last (exchange_in g.row.N g.row.CAP c.args.world.now) c.args.world.now.world _ _ so.text _ _ _ _ _ _
+    let same = exchange_kept g.S.Sizes.n g.S.Sizes.cap c.args.world.now c.loop-count.world so.run in
+    some_last (exchange_in g.S.Sizes.n g.S.Sizes.cap c.args.world.now) c.args.world.now.world _ _ so.text _ _ _ _ _ _
     so.midway (g.I.Source.left c.read.new.self) c.read.new.buf c.in-Ok.count c.if-count-eq0.true c.in-Ok.ensures.bytes.0
     (c.in-Ok.ensures.bytes.1 c.if-count-eq0.true (omega arith)) c.tell-2.new.world.world c.tell-2.new.line.items
     (g.O.Sink.contents c.tell-2.new.out) c.in-Ok-tell-2.now
@@ -164,8 +164,8 @@ returns-in-Ok-tell-2-clause-heard g c =
 pub returns-clause-err : goal.returns-clause-err
 returns-clause-err g c =
     let so = c.loop-count.invariant in
-    let same = exchange_kept g.row.N g.row.CAP c.args.world.now c.loop-count.world so.run in
-    ends_last (exchange_in g.row.N g.row.CAP c.args.world.now) c.args.world.now.world _ _ so.text _ _ _ _ _ _
+    let same = exchange_kept g.S.Sizes.n g.S.Sizes.cap c.args.world.now c.loop-count.world so.run in
+    ends_last (exchange_in g.S.Sizes.n g.S.Sizes.cap c.args.world.now) c.args.world.now.world _ _ so.text _ _ _ _ _ _
     so.midway (g.I.Source.left c.read.new.self) c.read.new.buf c.in-Ok.count c.if-count-eq0.true c.in-Ok.ensures.bytes.0
     (c.in-Ok.ensures.bytes.1 c.if-count-eq0.true (omega arith)) (g.O.Sink.contents c.tell-2.new.out)
     c.in-Err-tell-2.fault
@@ -182,8 +182,8 @@ returns-clause-err g c =
 pub returns-clause-heard : goal.returns-clause-heard
 returns-clause-heard g c =
     let so = c.loop-count.invariant in
-    let same = exchange_kept g.row.N g.row.CAP c.args.world.now c.loop-count.world so.run in
-    some_cut_last (exchange_in g.row.N g.row.CAP c.args.world.now) c.args.world.now.world _ _ so.text _ _ _ _ _ _
+    let same = exchange_kept g.S.Sizes.n g.S.Sizes.cap c.args.world.now c.loop-count.world so.run in
+    some_cut_last (exchange_in g.S.Sizes.n g.S.Sizes.cap c.args.world.now) c.args.world.now.world _ _ so.text _ _ _ _ _ _
     so.midway (g.I.Source.left c.read.new.self) c.read.new.buf c.in-Ok.count c.if-count-eq0.true c.in-Ok.ensures.bytes.0
     (c.in-Ok.ensures.bytes.1 c.if-count-eq0.true (omega arith)) (g.O.Sink.contents c.tell-2.new.out)
     c.in-Err-tell-2.fault
@@ -200,40 +200,40 @@ returns-clause-heard g c =
 pub returns-in-Err-clause-within : goal.returns-in-Err-clause-within
 returns-in-Err-clause-within g c =
     let so = c.loop-count.invariant in
-    within_read (exchange_in g.row.N g.row.CAP c.args.world.now) c.args.world.now.world _ _ so.text _ _ _ _ _ _
+    within_read (exchange_in g.S.Sizes.n g.S.Sizes.cap c.args.world.now) c.args.world.now.world _ _ so.text _ _ _ _ _ _
     so.midway (g.I.Source.left c.read.new.self) c.in-Err.ensures.bytes
 
 pub returns-in-Err-tell-clause-within : goal.returns-in-Err-tell-clause-within
 returns-in-Err-tell-clause-within g c =
     let so = c.loop-count.invariant in
-    within_piece (exchange_in g.row.N g.row.CAP c.args.world.now) c.args.world.now.world _ _ so.text _ _ _ _ _ _
+    within_piece (exchange_in g.S.Sizes.n g.S.Sizes.cap c.args.world.now) c.args.world.now.world _ _ so.text _ _ _ _ _ _
     so.midway (g.I.Source.left c.read.new.self) c.read.new.buf c.in-Ok.count
     (omega (arith, c.in-Ok.ensures.bound)) c.in-Ok.ensures.bytes.0
 
 pub returns-then-room-count-clause-within : goal.returns-then-room-count-clause-within
 returns-then-room-count-clause-within g c =
     let so = c.loop-count.invariant in
-    within_piece (exchange_in g.row.N g.row.CAP c.args.world.now) c.args.world.now.world _ _ so.text _ _ _ _ _ _
+    within_piece (exchange_in g.S.Sizes.n g.S.Sizes.cap c.args.world.now) c.args.world.now.world _ _ so.text _ _ _ _ _ _
     so.midway (g.I.Source.left c.read.new.self) c.read.new.buf c.in-Ok.count
     (omega (arith, c.in-Ok.ensures.bound)) c.in-Ok.ensures.bytes.0
 
 pub returns-then-is_empty-clause-within : goal.returns-then-is_empty-clause-within
 returns-then-is_empty-clause-within g c =
     let so = c.loop-count.invariant in
-    within_piece (exchange_in g.row.N g.row.CAP c.args.world.now) c.args.world.now.world _ _ so.text _ _ _ _ _ _
+    within_piece (exchange_in g.S.Sizes.n g.S.Sizes.cap c.args.world.now) c.args.world.now.world _ _ so.text _ _ _ _ _ _
     so.midway (g.I.Source.left c.read.new.self) c.read.new.buf c.in-Ok.count
     (omega (arith, c.in-Ok.ensures.bound)) c.in-Ok.ensures.bytes.0
 
 pub returns-in-Ok-tell-2-clause-within : goal.returns-in-Ok-tell-2-clause-within
 returns-in-Ok-tell-2-clause-within g c =
     let so = c.loop-count.invariant in
-    within_piece (exchange_in g.row.N g.row.CAP c.args.world.now) c.args.world.now.world _ _ so.text _ _ _ _ _ _
+    within_piece (exchange_in g.S.Sizes.n g.S.Sizes.cap c.args.world.now) c.args.world.now.world _ _ so.text _ _ _ _ _ _
     so.midway (g.I.Source.left c.read.new.self) c.read.new.buf c.in-Ok.count
     (omega (arith, c.in-Ok.ensures.bound)) c.in-Ok.ensures.bytes.0
 
 pub returns-clause-within : goal.returns-clause-within
 returns-clause-within g c =
     let so = c.loop-count.invariant in
-    within_piece (exchange_in g.row.N g.row.CAP c.args.world.now) c.args.world.now.world _ _ so.text _ _ _ _ _ _
+    within_piece (exchange_in g.S.Sizes.n g.S.Sizes.cap c.args.world.now) c.args.world.now.world _ _ so.text _ _ _ _ _ _
     so.midway (g.I.Source.left c.read.new.self) c.read.new.buf c.in-Ok.count
     (omega (arith, c.in-Ok.ensures.bound)) c.in-Ok.ensures.bytes.0

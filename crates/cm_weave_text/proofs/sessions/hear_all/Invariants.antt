@@ -8,7 +8,7 @@ abbrev pub invariant-loop-count : goal.invariant-loop-count
 invariant-loop-count g l = record {
   text : List ℕ;
   run : IsOfRun l.fn.world l.world;
-  midway : IsMidway (exchange_in g.row.N g.row.CAP l.fn.world) l.fn.world.world (g.O.Sink.contents l.fn.out)
+  midway : IsMidway (exchange_in g.S.Sizes.n g.S.Sizes.cap l.fn.world) l.fn.world.world (g.O.Sink.contents l.fn.out)
       (g.I.Source.left l.fn.steps) text l.world.world l.line.items (g.O.Sink.contents l.out)
       (g.I.Source.left l.steps) l.sent l.taken;
   reading : g.I.Source.has_failed l.steps ≡ false;

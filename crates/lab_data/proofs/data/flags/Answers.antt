@@ -18,8 +18,8 @@ pub loop-index-preserved : goal.loop-index-preserved
 loop-index-preserved g c =
     let number = c.args.number in
     let chips = c.args.machine.now.machine.chips in
-    let read = λ (i : ℕ). bit_number (flag (processor_of chips (place_in g.row.N c.args.order i)) number) in
-    let bit : c.flag-bit.result ≡ flag (processor_of chips (place_in g.row.N c.args.order c.loop-index.index)) number =
+    let read = λ (i : ℕ). bit_number (flag (processor_of chips (place_in g.S.Sizes.n c.args.order i)) number) in
+    let bit : c.flag-bit.result ≡ flag (processor_of chips (place_in g.S.Sizes.n c.args.order c.loop-index.index)) number =
     c.flag-bit.ensures.value
     ∙ (λ j. flag (processor_at (c.chip.ensures.value j) c.place_in-here.result.proc) number)
     ∙ ap (λ (place : Place). flag (processor_of chips place) number) c.place_in-here.ensures.value in
@@ -32,13 +32,13 @@ pub returns : goal.returns
 unfolding flags_of
 returns g c =
     let read = λ (i : ℕ).
-    bit_number (flag (processor_of c.args.machine.now.machine.chips (place_in g.row.N c.args.order i)) c.args.number) in
-    let all : c.loop-index.index ≡ processors g.row.N = omega (
+    bit_number (flag (processor_of c.args.machine.now.machine.chips (place_in g.S.Sizes.n c.args.order i)) c.args.number) in
+    let all : c.loop-index.index ≡ processors g.S.Sizes.n = omega (
       arith,
       c.loop-index-test.false,
       c.loop-index.auto.index-end,
       c.processors-count.ensures.value,
     ) in
-    let value : c.loop-index.flags.items ≡ tabulate 0 (processors g.row.N) read =
+    let value : c.loop-index.flags.items ≡ tabulate 0 (processors g.S.Sizes.n) read =
     c.loop-index.invariant ∙ ap (λ (count : ℕ). tabulate 0 count read) all in
-    record { value = value; count = ap length value ∙ length-tabulate 0 (processors g.row.N) read }
+    record { value = value; count = ap length value ∙ length-tabulate 0 (processors g.S.Sizes.n) read }

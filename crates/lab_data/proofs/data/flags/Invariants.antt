@@ -10,4 +10,4 @@ use Rattle.lab_data.proofs.data.flags.Given as goal
 abbrev pub invariant-loop-index : goal.invariant-loop-index
 invariant-loop-index g l = l.flags.items
     ≡ tabulate 0 l.index
-    (λ i. bit_number (flag (processor_of l.fn.machine.machine.chips (place_in g.row.N l.fn.order i)) l.fn.number))
+    (λ i. bit_number (flag (processor_of l.fn.machine.machine.chips (place_in g.S.Sizes.n l.fn.order i)) l.fn.number))

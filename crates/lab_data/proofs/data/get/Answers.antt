@@ -15,7 +15,7 @@ loop-index-init g c = c.in_ok-numbers.ensures.items
 
 pub loop-index-preserved : goal.loop-index-preserved
 loop-index-preserved g c =
-    let read = λ (i : ℕ). field_value (processor_of c.args.machine.now.machine.chips (place_in g.row.N c.args.order i))
+    let read = λ (i : ℕ). field_value (processor_of c.args.machine.now.machine.chips (place_in g.S.Sizes.n c.args.order i))
     c.args.field.at c.args.field.len in
     let number : c.field-number.result ≡ read c.loop-index.index =
     c.field-number.ensures.value
@@ -30,14 +30,14 @@ loop-index-preserved g c =
 pub returns : goal.returns
 unfolding numbers_of
 returns g c =
-    let read = λ (i : ℕ). field_value (processor_of c.args.machine.now.machine.chips (place_in g.row.N c.args.order i))
+    let read = λ (i : ℕ). field_value (processor_of c.args.machine.now.machine.chips (place_in g.S.Sizes.n c.args.order i))
     c.args.field.at c.args.field.len in
-    let all : c.loop-index.index ≡ processors g.row.N = omega (
+    let all : c.loop-index.index ≡ processors g.S.Sizes.n = omega (
       arith,
       c.loop-index-test.false,
       c.loop-index.auto.index-end,
       c.processors-count.ensures.value,
     ) in
-    let value : c.loop-index.numbers.items ≡ tabulate 0 (processors g.row.N) read =
+    let value : c.loop-index.numbers.items ≡ tabulate 0 (processors g.S.Sizes.n) read =
     c.loop-index.invariant ∙ ap (λ (count : ℕ). tabulate 0 count read) all in
-    record { value = value; count = ap length value ∙ length-tabulate 0 (processors g.row.N) read }
+    record { value = value; count = ap length value ∙ length-tabulate 0 (processors g.S.Sizes.n) read }

@@ -7,6 +7,6 @@ use Rattle.lab_data.proofs.data.put.Given as goal
 abbrev pub invariant-loop-chip : goal.invariant-loop-chip
 invariant-loop-chip g l = record {
   value : l.machine ≡ with_chips l.fn.machine
-      (chips_filled g.row.N l.order l.field.at l.field.len l.numbers l.fn.machine.machine.chips l.chip);
-  whole : IsMachine g.row.N g.row.CAP l.machine.machine;
+      (chips_filled g.S.Sizes.n l.order l.field.at l.field.len l.numbers l.fn.machine.machine.chips l.chip);
+  whole : IsMachine g.S.Sizes.n g.S.Sizes.cap l.machine.machine;
 }

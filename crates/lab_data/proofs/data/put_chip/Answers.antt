@@ -12,7 +12,7 @@ loop-p-init g c =
     record {
       value = ap (with_chips c.args.machine.now)
           (sym (ap (set chips c.args.chip)
-          (sym (chip_filled-none g.row.N c.args.order c.args.field.at c.args.field.len c.args.numbers.now c.args.chip
+          (sym (chip_filled-none g.S.Sizes.n c.args.order c.args.field.at c.args.field.len c.args.numbers.now c.args.chip
           (get_or chips c.args.chip []) (c.requires.whole.whole c.args.chip c.requires.chip)))
           ∙ set-get_or chips c.args.chip []));
       whole = c.requires.whole;
@@ -22,7 +22,7 @@ pub loop-p-preserved : goal.loop-p-preserved
 loop-p-preserved g c =
     let chips = c.args.machine.now.machine.chips in
     let chip = chip_at chips c.args.chip in
-    let filled = chip_filled g.row.N c.args.order c.args.field.at c.args.field.len c.args.numbers.now c.args.chip chip in
+    let filled = chip_filled g.S.Sizes.n c.args.order c.args.field.at c.args.field.len c.args.numbers.now c.args.chip chip in
     let here : c.unwrap-proc.result ≡ c.loop-p.p = rw c.unwrap-proc.ensures at c.new.ensures.value in
     let there : c.args.chip < length chips = omega (arith, c.requires.chip, c.requires.whole.chip_count) in
     record {
@@ -40,10 +40,10 @@ loop-p-preserved g c =
           (get_or c.args.numbers.now c.index_in.result 0)))
           (get_or-set_same chips c.args.chip (filled c.loop-p.p) [] there)
           ∙ ap (set chips c.args.chip)
-          (chip_filled-more g.row.N c.args.order c.args.field.at c.args.field.len c.args.numbers.now c.args.chip chip
+          (chip_filled-more g.S.Sizes.n c.args.order c.args.field.at c.args.field.len c.args.numbers.now c.args.chip chip
           c.loop-p.p (get_or c.args.numbers.now c.index_in.result 0) c.loop-p-test.true
           (ap (λ (k : ℕ). get_or c.args.numbers.now k 0)
-          (c.index_in.ensures.value ∙ ap (λ (p : ℕ). index_in g.row.N c.args.order (record {
+          (c.index_in.ensures.value ∙ ap (λ (p : ℕ). index_in g.S.Sizes.n c.args.order (record {
             chip = c.args.chip;
             proc = p;
           })) here))));
@@ -56,8 +56,8 @@ returns-clause-value g c =
     let all : c.loop-p.p ≡ 16 = omega (arith, c.loop-p-test.false, c.loop-p.auto.p-end) in
     c.loop-p.invariant.value
     ∙ ap (λ (done : ℕ). with_chips c.args.machine.now (set chips c.args.chip
-    (chip_filled g.row.N c.args.order c.args.field.at c.args.field.len c.args.numbers.now c.args.chip
+    (chip_filled g.S.Sizes.n c.args.order c.args.field.at c.args.field.len c.args.numbers.now c.args.chip
     (chip_at chips c.args.chip) done))) all
     ∙ ap (λ chip. with_chips c.args.machine.now (set chips c.args.chip chip))
-    (chip_filled-all g.row.N c.args.order c.args.field.at c.args.field.len c.args.numbers.now c.args.chip
+    (chip_filled-all g.S.Sizes.n c.args.order c.args.field.at c.args.field.len c.args.numbers.now c.args.chip
     (chip_at chips c.args.chip))

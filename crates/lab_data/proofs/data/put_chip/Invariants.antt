@@ -9,7 +9,7 @@ abbrev pub invariant-loop-p : goal.invariant-loop-p
 invariant-loop-p g l = record {
   value : l.machine ≡ with_chips l.fn.machine
       (set l.fn.machine.machine.chips l.chip
-      (chip_filled g.row.N l.order l.field.at l.field.len l.numbers l.chip
+      (chip_filled g.S.Sizes.n l.order l.field.at l.field.len l.numbers l.chip
       (chip_at l.fn.machine.machine.chips l.chip) l.p));
-  whole : IsMachine g.row.N g.row.CAP l.machine.machine;
+  whole : IsMachine g.S.Sizes.n g.S.Sizes.cap l.machine.machine;
 }

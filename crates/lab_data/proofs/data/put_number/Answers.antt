@@ -30,7 +30,7 @@ loop-i-preserved g c =
           (c.requires.whole.whole c.args.chip c.requires.chip)
           (omega (arith, c.get-proc.ensures.value, c.get-proc.ensures.in_range))
           (omega (arith, c.at-at.ensures.within, c.loop-i-test.true, c.len-i-end.ensures.value)));
-      whole = subst (λ (kept : MachineView). IsMachine g.row.N g.row.CAP kept.machine) (sym c.poke.ensures.value)
-          (c.pokes_keep_machines.ensures g.row.N g.row.CAP c.loop-i.machine.machine c.args.chip c.args.proc
+      whole = subst (λ (kept : MachineView). IsMachine g.S.Sizes.n g.S.Sizes.cap kept.machine) (sym c.poke.ensures.value)
+          (c.pokes_keep_machines.ensures g.S.Sizes.n g.S.Sizes.cap c.loop-i.machine.machine c.args.chip c.args.proc
           c.unwrap.result c.bit_of.result c.requires.chip c.loop-i.invariant.whole).machine;
     }

@@ -11,5 +11,5 @@ invariant-loop-i g l = record {
   value : l.machine ≡ with_chips l.fn.machine
       (set l.fn.machine.machine.chips l.chip
       (with_memory_field (chip_at l.fn.machine.machine.chips l.chip) l.proc l.at l.i l.number));
-  whole : IsMachine g.row.N g.row.CAP l.machine.machine;
+  whole : IsMachine g.S.Sizes.n g.S.Sizes.cap l.machine.machine;
 }

@@ -22,13 +22,12 @@ pub returns : goal.returns
 unfolding buffered
 returns g c =
     let count = λ (k : ℕ). length (nth_or_nil c.args.machine.now.machine.buffers k) in
-    let all : c.loop-chip.chip ≡ 2 ^ g.row.N = omega (
+    let all : c.loop-chip.chip ≡ 2 ^ g.S.Sizes.n = omega (
       arith,
       c.loop-chip-test.false,
       c.loop-chip.auto.chip-end,
-      c.processors.ensures.value,
-      c.processors.ensures.within,
+      c.chip_count-chips.ensures.value,
     ) in
-    let value : c.loop-chip.dots.items ≡ tabulate 0 (2 ^ g.row.N) count =
+    let value : c.loop-chip.dots.items ≡ tabulate 0 (2 ^ g.S.Sizes.n) count =
     c.loop-chip.invariant ∙ ap (λ (chips : ℕ). tabulate 0 chips count) all in
-    record { value = value; count = ap length value ∙ length-tabulate 0 (2 ^ g.row.N) count ∙ chips_in_columns g.row.N }
+    record { value = value; count = ap length value ∙ length-tabulate 0 (2 ^ g.S.Sizes.n) count ∙ chips_in_columns g.S.Sizes.n }

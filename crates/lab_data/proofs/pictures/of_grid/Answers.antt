@@ -7,6 +7,6 @@ use Rattle.lab_data.proofs.pictures.of_grid.Goals as goal
 pub new-requires : goal.new-requires
 new-requires g c = record {
   dots =
-      let size : processors g.row.N ≡ rows g.row.N * columns g.row.N = grid_rows g.row.N in
+      let size : processors g.S.Sizes.n ≡ rows g.S.Sizes.n * columns g.S.Sizes.n = grid_rows g.S.Sizes.n in
       cc;
 }

@@ -3,5 +3,5 @@ use Rattle.lab_front.proofs.front_end.ask.Goals as goal
 
 pub returns-clause-err : goal.returns-clause-err
 returns-clause-err g c =
-    still g.row.N g.row.CAP _ _ _ c.answer.new.machine.machine
-    c.in_ok-debugger.ensures.acts c.clock.ensures.whole c.in-Err.ensures.goes.machine
+    still g.S.Sizes.n g.S.Sizes.cap _ _ _ c.answer.new.machine.machine
+    c.in_ok-debugger.ensures.acts c.clock-clock.ensures.whole c.in-Err.ensures.goes.machine

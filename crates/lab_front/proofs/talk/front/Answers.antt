@@ -28,9 +28,9 @@ loop-front-init g c =
       done = [];
       lines = no_lines;
       consumed = subst (λ (xs : List ℕ). Consumes source source xs) (sym c.new-heard.ensures.items) (Consumes-nil source);
-      told = subst (λ (f : Front). IsTold g.row.N g.row.CAP start out_before [] f out_before c.new-answers.result.sent
+      told = subst (λ (f : Front). IsTold g.S.Sizes.n g.S.Sizes.cap start out_before [] f out_before c.new-answers.result.sent
           c.new-answers.result.bytes.items) (sym (ap (front_of start) c.new-front.ensures))
-          (nothing_told g.row.N g.row.CAP start out_before c.new-answers.result.sent c.new-answers.result.bytes.items
+          (nothing_told g.S.Sizes.n g.S.Sizes.cap start out_before c.new-answers.result.sent c.new-answers.result.bytes.items
           c.new-answers.ensures.sent c.new-answers.ensures.none);
       within = omega arith;
       taken = omega (arith, ap length c.new-heard.ensures.items);
@@ -52,7 +52,7 @@ returns-in-Err-clause-ends g c =
     let len = c.line_len-len.result in
     let rest : List ℕ = take (length c.deref.result.now - place) (drop place c.deref.result.now) in
     let inside : len < length rest = omega (arith, c.if-len-rest.true) in
-    line_ends g.row.N g.row.CAP c.args.machine.now.machine (g.O.Sink.contents c.args.out.now)
+    line_ends g.S.Sizes.n g.S.Sizes.cap c.args.machine.now.machine (g.O.Sink.contents c.args.out.now)
     (g.I.Source.left c.args.commands.now) (g.I.Source.left c.loop-front.commands) c.loop-front.heard.items so.given rest
     (take len rest) place len so.done (front_of c.loop-front.machine.machine c.loop-front.front)
     (g.O.Sink.contents c.loop-front.out) (g.O.Sink.contents c.tell_line.new.out) c.loop-front.answers.sent
@@ -84,7 +84,7 @@ loop-front-preserved-then-len-rest g c =
       consumed = subst
           (Consumes (g.I.Source.left c.args.commands.now) (g.I.Source.left c.loop-front.commands))
           (a_line_on heard so.given rest line place len is refl inside (c.line_len-len.ensures.ends inside)) so.consumed;
-      told = told_line g.row.N g.row.CAP c.args.machine.now.machine (g.O.Sink.contents c.args.out.now) so.done
+      told = told_line g.S.Sizes.n g.S.Sizes.cap c.args.machine.now.machine (g.O.Sink.contents c.args.out.now) so.done
           (front_of c.loop-front.machine.machine c.loop-front.front)
           (front_of c.tell_line.new.machine.machine c.tell_line.new.front) (g.O.Sink.contents c.loop-front.out)
           (g.O.Sink.contents c.tell_line.new.out) c.loop-front.answers.sent c.tell_line.new.answers.sent
@@ -106,7 +106,7 @@ loop-front-preserved-then-len-rest g c =
 pub returns-in-Err-send-clause-ends : goal.returns-in-Err-send-clause-ends
 returns-in-Err-send-clause-ends g c =
     let so = c.loop-front.invariant in
-    send_ends g.row.N g.row.CAP c.args.machine.now.machine (g.O.Sink.contents c.args.out.now)
+    send_ends g.S.Sizes.n g.S.Sizes.cap c.args.machine.now.machine (g.O.Sink.contents c.args.out.now)
     (g.I.Source.left c.args.commands.now) (g.I.Source.left c.loop-front.commands) so.given
     (drop c.loop-front.place c.loop-front.heard.items) so.done
     (front_of c.loop-front.machine.machine c.loop-front.front) (g.O.Sink.contents c.loop-front.out)
@@ -131,7 +131,7 @@ returns-then-is_too_much-clause-ends g c =
     c.line_len-len.ensures.unended in
     let open_is : len ≡ length (drop place heard) =
     omega (arith, c.if-len-rest.false, c.line_len-len.ensures.within, rest_len heard rest place is, length-drop place heard) in
-    over_ends g.row.N g.row.CAP start out_before (g.I.Source.left c.args.commands.now)
+    over_ends g.S.Sizes.n g.S.Sizes.cap start out_before (g.I.Source.left c.args.commands.now)
     (g.I.Source.left c.loop-front.commands) so.given (drop place heard)
     so.done front (g.O.Sink.contents c.send.new.out) c.send.new.self.sent
     c.send.new.self.bytes.items c.in-Ok-send.ensures.none free so.lines
@@ -139,7 +139,7 @@ returns-then-is_too_much-clause-ends g c =
     (over_is len (length (drop place heard)) c.loop-front.taken (length (so.given ++ drop place heard)) open_is
     (all_len heard so.given place c.loop-front.taken so.within so.taken)
     (c.is_too_much.ensures.over c.if-is_too_much.true))
-    (told_sent g.row.N g.row.CAP start out_before so.done front (g.O.Sink.contents c.loop-front.out)
+    (told_sent g.S.Sizes.n g.S.Sizes.cap start out_before so.done front (g.O.Sink.contents c.loop-front.out)
     (g.O.Sink.contents c.send.new.out) c.loop-front.answers.sent c.send.new.self.sent c.loop-front.answers.bytes.items
     c.send.new.self.bytes.items c.in-Ok-send.ensures.written c.in-Ok-send.ensures.none c.in-Ok-send.ensures.sent so.told)
 
@@ -160,12 +160,12 @@ returns-in-Err-hear-clause-ends g c =
     c.line_len-len.ensures.unended in
     let open_is : len ≡ length (drop place heard) =
     omega (arith, c.if-len-rest.false, c.line_len-len.ensures.within, rest_len heard rest place is, length-drop place heard) in
-    hearing_ends g.row.N g.row.CAP start out_before (g.I.Source.left c.args.commands.now)
+    hearing_ends g.S.Sizes.n g.S.Sizes.cap start out_before (g.I.Source.left c.args.commands.now)
     (g.I.Source.left c.loop-front.commands) (g.I.Source.left c.hear.new.commands) so.given (drop place heard)
     so.done front (g.O.Sink.contents c.send.new.out) c.send.new.self.sent
     c.send.new.self.bytes.items c.in-Err-hear.fault c.in-Ok-send.ensures.none free so.lines so.consumed
     so.short (omega (arith, open_is, c.is_too_much.ensures.short c.if-is_too_much.false))
-    (told_sent g.row.N g.row.CAP start out_before so.done front (g.O.Sink.contents c.loop-front.out)
+    (told_sent g.S.Sizes.n g.S.Sizes.cap start out_before so.done front (g.O.Sink.contents c.loop-front.out)
     (g.O.Sink.contents c.send.new.out) c.loop-front.answers.sent c.send.new.self.sent c.loop-front.answers.bytes.items
     c.send.new.self.bytes.items c.in-Ok-send.ensures.written c.in-Ok-send.ensures.none c.in-Ok-send.ensures.sent so.told)
     c.in-Err-hear.ensures.err
@@ -196,7 +196,7 @@ loop-front-preserved g c =
       lines = so.lines;
       consumed = heard_more (g.I.Source.left c.args.commands.now) mid after so.given (drop place heard)
           c.hear.new.heard.items c.in-Ok-hear.count so.consumed more;
-      told = told_sent g.row.N g.row.CAP c.args.machine.now.machine (g.O.Sink.contents c.args.out.now) so.done front
+      told = told_sent g.S.Sizes.n g.S.Sizes.cap c.args.machine.now.machine (g.O.Sink.contents c.args.out.now) so.done front
           (g.O.Sink.contents c.loop-front.out) (g.O.Sink.contents c.send.new.out) c.loop-front.answers.sent
           c.send.new.self.sent c.loop-front.answers.bytes.items c.send.new.self.bytes.items
           c.in-Ok-send.ensures.written c.in-Ok-send.ensures.none c.in-Ok-send.ensures.sent so.told;
@@ -228,13 +228,13 @@ returns-then-is_empty-clause-ends g c =
     let after = g.I.Source.left c.hear.new.commands in
     let longer : length now ≡ length (drop place heard) + c.in-Ok-hear.count =
     heard_len mid after (drop place heard) now c.in-Ok-hear.count more in
-    closed_ends g.row.N g.row.CAP start out_before before after so.given now so.done front (g.O.Sink.contents c.send.new.out)
+    closed_ends g.S.Sizes.n g.S.Sizes.cap start out_before before after so.given now so.done front (g.O.Sink.contents c.send.new.out)
     c.send.new.self.sent c.send.new.self.bytes.items c.in-Ok-send.ensures.none
     (is_none now c.hear.new.heard.len c.is_empty.result (omega (arith, c.hear.new.heard.ok.0)) c.is_empty.ensures
     c.if-is_empty.true) so.lines
     (heard_more before mid after so.given (drop place heard) now c.in-Ok-hear.count so.consumed more)
     so.short
-    (told_sent g.row.N g.row.CAP start out_before so.done front (g.O.Sink.contents c.loop-front.out)
+    (told_sent g.S.Sizes.n g.S.Sizes.cap start out_before so.done front (g.O.Sink.contents c.loop-front.out)
     (g.O.Sink.contents c.send.new.out) c.loop-front.answers.sent c.send.new.self.sent c.loop-front.answers.bytes.items
     c.send.new.self.bytes.items c.in-Ok-send.ensures.written c.in-Ok-send.ensures.none c.in-Ok-send.ensures.sent so.told)
 
@@ -260,16 +260,16 @@ returns-in-Err-tell_line-clause-ends g c =
     c.line_len-len.ensures.unended in
     let same : now ≡ drop place heard =
     heard_none mid after (drop place heard) now c.in-Ok-hear.count c.if-count-eq0.true more in
-    last_ends g.row.N g.row.CAP start out_before before after so.given now so.done front (g.O.Sink.contents c.send.new.out)
+    last_ends g.S.Sizes.n g.S.Sizes.cap start out_before before after so.given now so.done front (g.O.Sink.contents c.send.new.out)
     (g.O.Sink.contents c.tell_line-2.new.out) c.send.new.self.sent c.send.new.self.bytes.items
     c.tell_line-2.new.machine.machine c.in-Err-tell_line.fault (subst IsUnended (sym same) free)
     (has_some now now c.hear.new.heard.len c.is_empty.result (omega (arith, c.hear.new.heard.ok.0)) c.is_empty.ensures
     c.if-is_empty.false refl) so.lines more.within
     (heard_more before mid after so.given (drop place heard) now c.in-Ok-hear.count so.consumed more)
-    (told_sent g.row.N g.row.CAP start out_before so.done front (g.O.Sink.contents c.loop-front.out)
+    (told_sent g.S.Sizes.n g.S.Sizes.cap start out_before so.done front (g.O.Sink.contents c.loop-front.out)
     (g.O.Sink.contents c.send.new.out) c.loop-front.answers.sent c.send.new.self.sent c.loop-front.answers.bytes.items
     c.send.new.self.bytes.items c.in-Ok-send.ensures.written c.in-Ok-send.ensures.none c.in-Ok-send.ensures.sent so.told)
-    (subst (λ (l : List ℕ). LineAborts g.row.N g.row.CAP front l c.send.new.self.sent c.send.new.self.bytes.items
+    (subst (λ (l : List ℕ). LineAborts g.S.Sizes.n g.S.Sizes.cap front l c.send.new.self.sent c.send.new.self.bytes.items
     (g.O.Sink.contents c.send.new.out) c.tell_line-2.new.machine.machine (g.O.Sink.contents c.tell_line-2.new.out)
     c.in-Err-tell_line.fault) c.as_slice.ensures.value c.in-Err-tell_line.ensures.err)
 
@@ -299,7 +299,7 @@ returns-in-Ok-send-2-clause-ends g c =
     heard_none mid after (drop place heard) now c.in-Ok-hear.count c.if-count-eq0.true more in
     let longer : length now ≡ length (drop place heard) + c.in-Ok-hear.count =
     heard_len mid after (drop place heard) now c.in-Ok-hear.count more in
-    answered_ends g.row.N g.row.CAP start out_before before after so.given now so.done last
+    answered_ends g.S.Sizes.n g.S.Sizes.cap start out_before before after so.given now so.done last
     (g.O.Sink.contents c.send-2.new.out) c.send-2.new.self.sent c.send-2.new.self.bytes.items
     c.in-Ok-send-2.ensures.none (subst IsUnended (sym same) free)
     (has_some now now c.hear.new.heard.len c.is_empty.result (omega (arith, c.hear.new.heard.ok.0)) c.is_empty.ensures
@@ -314,17 +314,17 @@ returns-in-Ok-send-2-clause-ends g c =
       c.if-len-rest.false,
       c.is_too_much.ensures.short c.if-is_too_much.false,
     ))
-    (told_sent g.row.N g.row.CAP start out_before (so.done ++ now ∷ []) last (g.O.Sink.contents c.tell_line-2.new.out)
+    (told_sent g.S.Sizes.n g.S.Sizes.cap start out_before (so.done ++ now ∷ []) last (g.O.Sink.contents c.tell_line-2.new.out)
     (g.O.Sink.contents c.send-2.new.out) c.tell_line-2.new.answers.sent c.send-2.new.self.sent
     c.tell_line-2.new.answers.bytes.items c.send-2.new.self.bytes.items c.in-Ok-send-2.ensures.written
     c.in-Ok-send-2.ensures.none c.in-Ok-send-2.ensures.sent
-    (subst (λ (l : List ℕ). IsTold g.row.N g.row.CAP start out_before (so.done ++ l ∷ []) last
+    (subst (λ (l : List ℕ). IsTold g.S.Sizes.n g.S.Sizes.cap start out_before (so.done ++ l ∷ []) last
     (g.O.Sink.contents c.tell_line-2.new.out) c.tell_line-2.new.answers.sent c.tell_line-2.new.answers.bytes.items)
     c.as_slice.ensures.value
-    (told_line g.row.N g.row.CAP start out_before so.done front last (g.O.Sink.contents c.send.new.out)
+    (told_line g.S.Sizes.n g.S.Sizes.cap start out_before so.done front last (g.O.Sink.contents c.send.new.out)
     (g.O.Sink.contents c.tell_line-2.new.out) c.send.new.self.sent c.tell_line-2.new.answers.sent
     c.send.new.self.bytes.items c.tell_line-2.new.answers.bytes.items c.as_slice.result.now
-    (told_sent g.row.N g.row.CAP start out_before so.done front (g.O.Sink.contents c.loop-front.out)
+    (told_sent g.S.Sizes.n g.S.Sizes.cap start out_before so.done front (g.O.Sink.contents c.loop-front.out)
     (g.O.Sink.contents c.send.new.out) c.loop-front.answers.sent c.send.new.self.sent c.loop-front.answers.bytes.items
     c.send.new.self.bytes.items c.in-Ok-send.ensures.written c.in-Ok-send.ensures.none c.in-Ok-send.ensures.sent so.told)
     ended.front ended.written ended.count)))
@@ -353,19 +353,19 @@ returns-clause-ends g c =
     c.line_len-len.ensures.unended in
     let same : now ≡ drop place heard =
     heard_none mid after (drop place heard) now c.in-Ok-hear.count c.if-count-eq0.true more in
-    cut_ends g.row.N g.row.CAP start out_before before after so.given now so.done last
+    cut_ends g.S.Sizes.n g.S.Sizes.cap start out_before before after so.given now so.done last
     (g.O.Sink.contents c.tell_line-2.new.out) (g.O.Sink.contents c.send-2.new.out) c.tell_line-2.new.answers.sent
     c.tell_line-2.new.answers.bytes.items c.in-Err-send-2.cut.0 (subst IsUnended (sym same) free)
     (has_some now now c.hear.new.heard.len c.is_empty.result (omega (arith, c.hear.new.heard.ok.0)) c.is_empty.ensures
     c.if-is_empty.false refl) so.lines more.within
     (heard_more before mid after so.given (drop place heard) now c.in-Ok-hear.count so.consumed more)
-    (subst (λ (l : List ℕ). IsTold g.row.N g.row.CAP start out_before (so.done ++ l ∷ []) last
+    (subst (λ (l : List ℕ). IsTold g.S.Sizes.n g.S.Sizes.cap start out_before (so.done ++ l ∷ []) last
     (g.O.Sink.contents c.tell_line-2.new.out) c.tell_line-2.new.answers.sent c.tell_line-2.new.answers.bytes.items)
     c.as_slice.ensures.value
-    (told_line g.row.N g.row.CAP start out_before so.done front last (g.O.Sink.contents c.send.new.out)
+    (told_line g.S.Sizes.n g.S.Sizes.cap start out_before so.done front last (g.O.Sink.contents c.send.new.out)
     (g.O.Sink.contents c.tell_line-2.new.out) c.send.new.self.sent c.tell_line-2.new.answers.sent
     c.send.new.self.bytes.items c.tell_line-2.new.answers.bytes.items c.as_slice.result.now
-    (told_sent g.row.N g.row.CAP start out_before so.done front (g.O.Sink.contents c.loop-front.out)
+    (told_sent g.S.Sizes.n g.S.Sizes.cap start out_before so.done front (g.O.Sink.contents c.loop-front.out)
     (g.O.Sink.contents c.send.new.out) c.loop-front.answers.sent c.send.new.self.sent c.loop-front.answers.bytes.items
     c.send.new.self.bytes.items c.in-Ok-send.ensures.written c.in-Ok-send.ensures.none c.in-Ok-send.ensures.sent so.told)
     ended.front ended.written ended.count)) c.in-Err-send-2.ensures.err

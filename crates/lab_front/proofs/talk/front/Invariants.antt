@@ -14,7 +14,7 @@ invariant-loop-front g l = record {
   done : List (List ℕ);
   lines : AreLinesOf given done;
   consumed : Consumes (g.I.Source.left l.fn.commands) (g.I.Source.left l.commands) (given ++ drop l.place l.heard.items);
-  told : IsTold g.row.N g.row.CAP l.fn.machine.machine (g.O.Sink.contents l.fn.out) done
+  told : IsTold g.S.Sizes.n g.S.Sizes.cap l.fn.machine.machine (g.O.Sink.contents l.fn.out) done
       (front_of l.machine.machine l.front)
       (g.O.Sink.contents l.out) l.answers.sent l.answers.bytes.items;
   within : l.place ≤ length l.heard.items;

@@ -5,7 +5,7 @@ use Rattle.lab_machine.proofs.copying.copied_engine.Given as goal
 -- the messages of so many chips stand there
 abbrev pub invariant-loop-chip : goal.invariant-loop-chip
 invariant-loop-chip g l = record {
-  count : length l.engine.buffers ≡ 2 ^ g.row.N;
+  count : length l.engine.buffers ≡ 2 ^ g.S.Sizes.n;
   laid : (k : ℕ) → k < l.chip → nth_or_nil l.engine.buffers k ≡ nth_or_nil l.machine.machine.buffers k;
   above : (k : ℕ) → l.chip ≤ k → nth_or_nil l.engine.buffers k ≡ [];
 }

@@ -26,9 +26,9 @@ loop-chip-preserved g c =
 pub returns : goal.returns
 returns g c =
     let all : List (List Event) = c.args.machine.now.machine.logs in
-    let count : c.loop-chip.chip ≡ 2 ^ g.row.N =
+    let count : c.loop-chip.chip ≡ 2 ^ g.S.Sizes.n =
     omega (arith, c.loop-chip-test.false, c.loop-chip.auto.chip-end, c.chip_count-chip-end.ensures.value) in
     record {
       value = c.loop-chip.invariant ∙ ap (λ k. tabulate 0 k (nth_or_nil all)) count
-          ∙ sym (is_each [] (2 ^ g.row.N) (nth_or_nil all) all c.clock-clock.ensures.whole.log_count (λ i l. refl));
+          ∙ sym (is_each [] (2 ^ g.S.Sizes.n) (nth_or_nil all) all c.clock-clock.ensures.whole.log_count (λ i l. refl));
     }

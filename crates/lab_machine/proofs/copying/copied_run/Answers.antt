@@ -1,4 +1,4 @@
-use Rattle.std.proofs.Common.{lit<, length, sym, ap, ◌∙◌, arith}
+use Rattle.std.proofs.Common.{length, sym, ap, ◌∙◌, arith}
 use Rattle.cm_model.specs.Chip.{blank_chip}
 use Rattle.cm_model.proofs.Each.{length-tabulate}
 use Rattle.cm_array.proofs.Laying.{chips_cut, cut_all}
@@ -6,17 +6,15 @@ use Rattle.lab_machine.proofs.copying.copied_run.Goals as goal
 
 pub copy_chips-requires : goal.copy_chips-requires
 copy_chips-requires g c =
-    let count = c.chip_count-chips.result in (
-      lit< tt,
-      (
-        omega (arith, c.chip_count-chips.ensures.value),
-        omega (
-          arith,
-          ap length c.in_ok-run.ensures.value,
-          length-tabulate 0 count (λ k. blank_chip),
-        ),
-      ),
-    )
+    let count = c.chip_count-chips.result in
+    record {
+      there = omega (arith, c.chip_count-chips.ensures.value);
+      room = omega (
+        arith,
+        ap length c.in_ok-run.ensures.value,
+        length-tabulate 0 count (λ k. blank_chip),
+      );
+    }
 
 pub returns : goal.returns
 returns g c =

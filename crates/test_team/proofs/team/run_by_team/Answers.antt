@@ -1,4 +1,4 @@
-use Rattle.std.proofs.Common.{rules, ◌≡◌, ℕ, ◌*◌, ◌%◌, ◌^◌, ◌∙◌, length, get_or, subst, sym, arith, lit<}
+use Rattle.std.proofs.Common.{rules, ◌≡◌, ℕ, ◌*◌, ◌%◌, ◌^◌, ◌∙◌, length, get_or, subst, sym, arith}
 use Rattle.std.proofs.lemmas.Nat.{one_shl}
 use Rattle.cm_gates.specs.Dealing.{AreShares}
 use Rattle.cm_turns.specs.declared.worker.Worker.{Worker}
@@ -42,10 +42,9 @@ join-requires g c =
       each = λ w d e l.
           let got = (shares.ensures.each w e l).1 in
           subst (λ (x : Worker). HasWorked x (get_or shares.shares.items w e).items) (sym (got.job_is d)) got.call.met;
-    }) in (
-      lit< tt,
-      (left.machine c.in_order.result.items (c.in_order.ensures.count ∙ total) c.in_order.ensures.value).whole,
-    )
+    }) in record {
+      whole = (left.machine c.in_order.result.items (c.in_order.ensures.count ∙ total) c.in_order.ensures.value).whole;
+    }
 
 pub returns-clause-ok : goal.returns-clause-ok
 returns-clause-ok g c =

@@ -7,13 +7,13 @@ pub loop-done-init : goal.loop-done-init
 loop-done-init g c = record {
   working = c.requires.writer;
   within = omega arith;
-  taken = nothing_taken g.row.N g.row.CAP _;
+  taken = nothing_taken g.S.Sizes.n g.S.Sizes.cap _;
 }
 
 pub returns-in-Ok-clause-takes : goal.returns-in-Ok-clause-takes
 returns-in-Ok-clause-takes g c =
     rest_taken c.args.piece.now _ c.loop-done.done refl c.loop-done.invariant.taken
-    (part_taken g.row.N g.row.CAP _ _ c.extend_from_slice.new.self.items
+    (part_taken g.S.Sizes.n g.S.Sizes.cap _ _ c.extend_from_slice.new.self.items
     (unended _ _ c.if-len-rest.true c.line_len-len.ensures.unended) c.in-Ok.ensures.items)
 
 pub returns-in-Err-clause-takes : goal.returns-in-Err-clause-takes

@@ -8,7 +8,7 @@ abbrev pub invariant-loop-count : goal.invariant-loop-count
 invariant-loop-count g l = record {
   text : List ℕ;
   read : Consumes (g.I.Source.left l.fn.commands) (g.I.Source.left l.commands) text;
-  told : AreProcessed g.row.N g.row.CAP (setting l.fn.self.debugger.acts.now l.fn.machine.machine
+  told : AreProcessed g.S.Sizes.n g.S.Sizes.cap (setting l.fn.self.debugger.acts.now l.fn.machine.machine
       (g.O.Sink.contents l.fn.out) (g.R.Runner.threads_lacked l.fn.runner)) text
       (talk l.machine.machine l.self (g.O.Sink.contents l.out) (g.R.Runner.threads_lacked l.runner));
   none : l.self.output.bytes.items ≡ [];

@@ -6,7 +6,7 @@ use Rattle.cm_debug.proofs.Coming.{stop_done}
 use Rattle.cm_debug.proofs.debugger.Debugger.run_on.Goals as goal
 
 pub loop-self-init : goal.loop-self-init
-loop-self-init g c = none_gone g.row.N g.row.CAP c.args.stops (state c.args.machine.now.machine c.args.self.now
+loop-self-init g c = none_gone g.S.Sizes.n g.S.Sizes.cap c.args.stops (state c.args.machine.now.machine c.args.self.now
     c.args.text.now.items (g.R.Runner.threads_lacked c.args.runner.now))
 
 pub loop-self-preserved : goal.loop-self-preserved
@@ -19,7 +19,7 @@ loop-self-preserved g c =
 pub returns-then-lacks_room : goal.returns-then-lacks_room
 returns-then-lacks_room g c = record {
   goes = gone_done c.loop-self.invariant
-      (refused_here g.row.N g.row.CAP (stops_at c.args.stops c.loop-self.self.breakpoints.items)
+      (refused_here g.S.Sizes.n g.S.Sizes.cap (stops_at c.args.stops c.loop-self.self.breakpoints.items)
       (session_of c.loop-self.machine.machine c.loop-self.self)
       c.loop-self.self.acts.now _ c.index-rest-0.result c.clock.result c.loop-self-test.true refl c.index-rest-0.is
       c.clock.ensures.value (sym c.lacks_room.ensures.value ∙ c.if-lacks_room.true))
@@ -35,7 +35,7 @@ returns-then-stops_here g c = record {
 pub returns : goal.returns
 returns g c = record {
   goes = gone_done c.loop-self.invariant
-      (ended_here g.row.N g.row.CAP (stops_at c.args.stops c.loop-self.self.breakpoints.items)
+      (ended_here g.S.Sizes.n g.S.Sizes.cap (stops_at c.args.stops c.loop-self.self.breakpoints.items)
       (session_of c.loop-self.machine.machine c.loop-self.self) c.loop-self.self.acts.now c.loop-self-test.false)
       c.in_ok-push_word.ensures.ok;
 }

@@ -17,7 +17,7 @@ push_sparse_chip-requires g c =
     c.in-Chips.is c.requires.near in
     let same : c.view.result ≡ chip_at c.args.self.now.machine.now.machine.chips number =
     c.view.ensures.value ∙ stands.1 in
-    let room : length (nth_or_nil c.args.self.now.machine.now.machine.buffers number) ≤ g.row.CAP =
+    let room : length (nth_or_nil c.args.self.now.machine.now.machine.buffers number) ≤ g.S.Sizes.cap =
     c.buffer-buffer.ensures.whole.room number c.requires.chip in
     record {
       planes = ap (λ (k : ℕ). get_or c.args.self.now.counts.now k 0) c.from.ensures
@@ -36,7 +36,7 @@ push_dense_chip-requires g c =
     c.in-Planes.is c.requires.near in
     let own : ℕ = c.from-own.result * 4128 in
     let planes : List ℕ = c.deref.result.now in
-    let room : length (nth_or_nil c.args.self.now.machine.now.machine.buffers number) ≤ g.row.CAP =
+    let room : length (nth_or_nil c.args.self.now.machine.now.machine.buffers number) ≤ g.S.Sizes.cap =
     c.buffer-buffer.ensures.whole.room number c.requires.chip in
     record {
       listed = ap (λ (k : ℕ). get_or c.args.self.now.counts.now k 0) c.from.ensures

@@ -30,7 +30,7 @@ loop-first-preserved g c = record {
 pub returns-in-Err-clause-err : goal.returns-in-Err-clause-err
 returns-in-Err-clause-err g c =
     part_of_chips c.args.self.now.machine.now.machine c.args.text.now.items (g.O.Sink.contents c.args.sink.now)
-    (g.O.Sink.contents c.send_tile.new.sink) 0 (c.loop-first.first + c.min-some.result) (2 ^ g.row.N)
+    (g.O.Sink.contents c.send_tile.new.sink) 0 (c.loop-first.first + c.min-some.result) (2 ^ g.S.Sizes.n)
     (omega (arith, c.min-some.ensures, c.loop-first.invariant.within, c.chip_count-count.ensures.value))
     (goes_cut (g.O.Sink.contents c.args.sink.now) (g.O.Sink.contents c.loop-first.sink)
     (g.O.Sink.contents c.send_tile.new.sink) _ _

@@ -15,7 +15,7 @@ loop-c-init g c = record {
 
 pub push_chip-requires : goal.push_chip-requires
 push_chip-requires g c =
-    let below : c.args.first + c.loop-c.c < 2 ^ g.row.N = omega (arith, c.requires.chips, c.loop-c-test.true) in
+    let below : c.args.first + c.loop-c.c < 2 ^ g.S.Sizes.n = omega (arith, c.requires.chips, c.loop-c-test.true) in
     let near = c.requires.near c.loop-c.c c.loop-c-test.true in
     search (rules, below, near)
 

@@ -18,27 +18,27 @@ returns-in_err-next-clause-refused g c =
 
 pub returns-in-Ok-clause-value : goal.returns-in-Ok-clause-value
 returns-in-Ok-clause-value g c =
-    let header : Head × ℕ = header_of g.row.N g.row.CAP c.args.self.header in
+    let header : Head × ℕ = header_of g.S.Sizes.n g.S.Sizes.cap c.args.self.header in
     let machine : Machine = with_waiting c.in_ok-next.next c.take_pieces.new.self.builder c.take_pieces.new.self.waiting in
     rest_so c.args.most (g.I.Source.left c.args.source.now) (g.I.Source.left c.take_pieces.new.source) _ _
     (λ more reads whole to. c.in-Ok.ensures.value whole
-    (subst (λ (h : Header). IsReadTo g.row.N g.row.CAP (header_of g.row.N g.row.CAP h) c.in_ok-next.next machine
+    (subst (λ (h : Header). IsReadTo g.S.Sizes.n g.S.Sizes.cap (header_of g.S.Sizes.n g.S.Sizes.cap h) c.in_ok-next.next machine
     c.deref.result.now whole) (sym c.take_pieces.ensures.header)
-    (subst (λ (r : List ℕ). IsReadTo g.row.N g.row.CAP header c.in_ok-next.next machine r whole)
+    (subst (λ (r : List ℕ). IsReadTo g.S.Sizes.n g.S.Sizes.cap header c.in_ok-next.next machine r whole)
     (sym c.deref.ensures.value) (reads whole to))))
     c.in_ok-next.ensures.value
 
 pub returns-clause-refused : goal.returns-clause-refused
 returns-clause-refused g c =
-    let header : Head × ℕ = header_of g.row.N g.row.CAP c.args.self.header in
+    let header : Head × ℕ = header_of g.S.Sizes.n g.S.Sizes.cap c.args.self.header in
     let machine : Machine = with_waiting c.in_ok-next.next c.take_pieces.new.self.builder c.take_pieces.new.self.waiting in (
       gives_at_most c.args.most (g.I.Source.left c.args.source.now) (g.I.Source.left c.take_pieces.new.source) _
           c.in_ok-next.ensures.value,
       λ other. rest_so c.args.most (g.I.Source.left c.args.source.now) (g.I.Source.left c.take_pieces.new.source) _ _
           (λ more reads whole to. c.in-Err.ensures.refused other whole
-          (subst (λ (h : Header). IsReadTo g.row.N g.row.CAP (header_of g.row.N g.row.CAP h) c.in_ok-next.next machine
+          (subst (λ (h : Header). IsReadTo g.S.Sizes.n g.S.Sizes.cap (header_of g.S.Sizes.n g.S.Sizes.cap h) c.in_ok-next.next machine
           c.deref.result.now whole) (sym c.take_pieces.ensures.header)
-          (subst (λ (r : List ℕ). IsReadTo g.row.N g.row.CAP header c.in_ok-next.next machine r whole)
+          (subst (λ (r : List ℕ). IsReadTo g.S.Sizes.n g.S.Sizes.cap header c.in_ok-next.next machine r whole)
           (sym c.deref.ensures.value) (reads whole to))))
           c.in_ok-next.ensures.value,
     )

@@ -15,16 +15,16 @@ returns-in_err-all-clause-refused g c =
 
 pub returns-then-not-lists_all-clause-value : goal.returns-then-not-lists_all-clause-value
 returns-then-not-lists_all-clause-value g c =
-    let header : Head × ℕ = header_of g.row.N g.row.CAP c.args.self.now.header in
+    let header : Head × ℕ = header_of g.S.Sizes.n g.S.Sizes.cap c.args.self.now.header in
     rest_so c.args.most (g.I.Source.left c.args.source.now) (g.I.Source.left c.take_rest.new.source) _ _
     (λ more is whole to.
-    first_to g.row.N g.row.CAP header c.args.self.now.builder c.args.self.now.waiting c.in_ok-all.all.items
+    first_to g.S.Sizes.n g.S.Sizes.cap header c.args.self.now.builder c.args.self.now.waiting c.in_ok-all.all.items
     (c.args.chips.now ++ more) whole c.requires.none is to)
     c.in_ok-all.ensures.value
 
 pub returns-then-not-lists_all-clause-blank : goal.returns-then-not-lists_all-clause-blank
 returns-then-not-lists_all-clause-blank g c =
-    first_blank g.row.N c.args.self.now.builder c.args.self.now.waiting c.requires.none c.requires.blank
+    first_blank g.S.Sizes.n c.args.self.now.builder c.args.self.now.waiting c.requires.none c.requires.blank
 
 pub returns-in_err-window-clause-refused : goal.returns-in_err-window-clause-refused
 returns-in_err-window-clause-refused g c =
@@ -44,7 +44,7 @@ returns-in_err-bytes-clause-refused g c =
 
 pub returns-clause-value : goal.returns-clause-value
 returns-clause-value g c =
-    let header : Head × ℕ = header_of g.row.N g.row.CAP c.args.self.now.header in
+    let header : Head × ℕ = header_of g.S.Sizes.n g.S.Sizes.cap c.args.self.now.header in
     let machine : Machine =
     with_waiting c.in_ok-next.next c.take_full_chips.new.builder c.take_full_chips.new.waiting in
     let taken = c.in_ok-next.ensures.value in
@@ -52,11 +52,11 @@ returns-clause-value g c =
     (g.I.Source.left c.take_full_chips.new.source) (g.I.Source.left c.take_rest-2.new.source) taken.came _ _ taken.few
     taken.consumed
     (λ more is whole to.
-    subst (λ (r : List ℕ). IsReadTo g.row.N g.row.CAP header c.in_ok-next.next machine r whole)
+    subst (λ (r : List ℕ). IsReadTo g.S.Sizes.n g.S.Sizes.cap header c.in_ok-next.next machine r whole)
     (sym (is ∙ ap (λ (r : List ℕ). r ++ more) c.rest.ensures.value))
-    (left_of g.row.N g.row.CAP header c.in_ok-next.next c.args.most c.in_ok-next.left c.args.self.now.builder machine
+    (left_of g.S.Sizes.n g.S.Sizes.cap header c.in_ok-next.next c.args.most c.in_ok-next.left c.args.self.now.builder machine
     c.in_ok-window.window c.take_full_chips.new.window more whole (g.I.Source.left c.args.source.now)
     (g.I.Source.left c.take_full_chips.new.source) taken
-    (subst (λ (r : List ℕ). IsReadTo g.row.N g.row.CAP header 0 c.args.self.now.builder (r ++ (taken.came ++ more)) whole)
+    (subst (λ (r : List ℕ). IsReadTo g.S.Sizes.n g.S.Sizes.cap header 0 c.args.self.now.builder (r ++ (taken.came ++ more)) whole)
     (sym c.in_ok-window.ensures.value) to)))
     c.in_ok-bytes.ensures.value

@@ -1,4 +1,4 @@
-use Rattle.std.proofs.Common.{ℕ, ◌+◌, ◌*◌, ◌-◌, List, length, get_or, sym, ap, ◌∙◌, arith, lit<}
+use Rattle.std.proofs.Common.{ℕ, ◌+◌, ◌*◌, ◌-◌, List, length, get_or, sym, ap, ◌∙◌, arith}
 use Rattle.cm_model.specs.Array.{Chips}
 use Rattle.cm_element.specs.Runs.{chips_beside}
 use Rattle.cm_array.specs.Pokes.{machine_with_chips}
@@ -28,19 +28,12 @@ overflow_sub-end g c = omega (
 pub chips-requires : goal.chips-requires
 chips-requires g c =
     let waiting = count_is c.self.inside.memory.items c.self.inside.flags.items c.self.inside.count
-    c.args.self.now c.self.view_is in (
-      lit< tt,
-      (
-        omega (arith, c.requires.waiting, c.requires.end, waiting),
-        (
-          omega (arith, c.self.invariant.memory, ap length c.deref.ensures.value),
-          (
-            omega (arith, c.self.invariant.flag_words, ap length c.deref-2.ensures.value),
-            λ k h. ap (λ (fs : List ℕ). get_or fs (k * 16 + 8) 0) c.deref-2.ensures.value ∙ c.self.invariant.zero k h,
-          ),
-        ),
-      ),
-    )
+    c.args.self.now c.self.view_is in record {
+      chips = omega (arith, c.requires.waiting, c.requires.end, waiting);
+      memory = omega (arith, c.self.invariant.memory, ap length c.deref.ensures.value);
+      flags = omega (arith, c.self.invariant.flag_words, ap length c.deref-2.ensures.value);
+      zero = λ k h. ap (λ (fs : List ℕ). get_or fs (k * 16 + 8) 0) c.deref-2.ensures.value ∙ c.self.invariant.zero k h;
+    }
 
 pub returns-clause-value : goal.returns-clause-value
 returns-clause-value g c =

@@ -5,14 +5,14 @@ use Rattle.cm_resident.specs.TeamSetups.{AreLinedUpForSome}
 use Rattle.cm_resident.proofs.Ending.{account_after, first_of, lined_up_id}
 use Rattle.cm_resident.proofs.shared_list.SharedList.share_out.Goals as goal
 
-pub run_prepared-requires-after_bounds : goal.run_prepared-requires-after_bounds
-run_prepared-requires-after_bounds g c =
+pub run_prepared-requires : goal.run_prepared-requires
+run_prepared-requires g c =
     let prepared = c.in_ok-prepared.prepared in let ensures = c.in_ok-prepared.ensures in
     let lined = ensures.team in
     let count : length prepared.all.readies.items ≡ c.args.self.now.workers = lined.len ∙ lined.is.len in
-    let within : prepared.k ≤ g.row.N - g.row.N / 2 = omega (arith, ensures.k, c.requires.list.within) in
+    let within : prepared.k ≤ g.S.Sizes.n - g.S.Sizes.n / 2 = omega (arith, ensures.k, c.requires.list.within) in
     let some : 0 < length prepared.all.readies.items = omega (arith, count, c.requires.list.some) in
-    let team : AreLinedUpForSome g.row.N prepared.k g.row.CAP c.args.machine.now.machine prepared.all.readies.items =
+    let team : AreLinedUpForSome g.S.Sizes.n prepared.k g.S.Sizes.cap c.args.machine.now.machine prepared.all.readies.items =
     record { acts = c.args.self.now.acts.now; count = c.args.self.now.workers; of = lined } in
     search (rules, within, some, team)
 
@@ -22,7 +22,7 @@ returns-clause-ok g c =
 
 pub returns-clause-account : goal.returns-clause-account
 returns-clause-account g c =
-    account_after g.row.N g.row.CAP c.args.machine.now.machine c.run_prepared.new.machine.machine c.args.self.now.acts.now
+    account_after g.S.Sizes.n g.S.Sizes.cap c.args.machine.now.machine c.run_prepared.new.machine.machine c.args.self.now.acts.now
     (returns-clause-ok g c)
 
 pub returns-clause-admitted : goal.returns-clause-admitted
@@ -31,7 +31,7 @@ returns-clause-admitted g c gate is w below =
     let readies = c.in_ok-prepared.prepared.all.readies.items in
     let k = c.in_ok-prepared.prepared.k in
     let run : Run =
-    record { n = g.row.N; k = k; room = g.row.CAP; machine = c.args.machine.now.machine; acts = c.args.self.now.acts.now } in
+    record { n = g.S.Sizes.n; k = k; room = g.S.Sizes.cap; machine = c.args.machine.now.machine; acts = c.args.self.now.acts.now } in
     let count : length readies ≡ c.args.self.now.workers = lined.len ∙ lined.is.len in
     let there : w < length readies = omega (arith, count, below) in
     let d : PendingWorker = first_of readies (omega (arith, there)) in

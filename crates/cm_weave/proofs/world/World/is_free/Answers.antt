@@ -8,7 +8,7 @@ use Rattle.cm_weave.proofs.world.World.is_free.Goals as goal
 pub lane_moved-at-requires-clause-kind : goal.lane_moved-at-requires-clause-kind
 lane_moved-at-requires-clause-kind g c =
     subst (λ (n : ℕ). CanBeOver n c.self.inside.k c.index.result.now.kind) (sym c.dims.ensures.value)
-    (kind_asked g.row.N g.row.CAP c.self.inside.k c.self.inside.machine.machine c.self.inside.acts.items
+    (kind_asked g.S.Sizes.n g.S.Sizes.cap c.self.inside.k c.self.inside.machine.machine c.self.inside.acts.items
     c.self.inside.rounds.items c.self.inside.blocks.items c.self.inside.stands.items c.self.inside.lanes.items
     c.self.invariant c.args.self.now c.self.view_is c.args.step c.args.stand c.requires.block c.requires.stands
     c.requires.round c.index.result.now c.index.ensures)
@@ -16,7 +16,7 @@ lane_moved-at-requires-clause-kind g c =
 pub index-requires-2 : goal.index-requires-2
 index-requires-2 g c =
     subst (λ (n : ℕ). c.lane_moved-at.result < n) (sym c.self.inside.lanes.ok.0)
-    (at_below_asked g.row.N g.row.CAP c.self.inside.k c.self.inside.machine.machine c.self.inside.acts.items
+    (at_below_asked g.S.Sizes.n g.S.Sizes.cap c.self.inside.k c.self.inside.machine.machine c.self.inside.acts.items
     c.self.inside.rounds.items c.self.inside.blocks.items c.self.inside.stands.items c.self.inside.lanes.items
     c.self.invariant c.args.self.now c.self.view_is c.args.step c.args.stand c.requires.block c.requires.stands
     c.requires.round c.index.result.now c.lane_moved-at.result c.index.ensures
@@ -26,7 +26,7 @@ index-requires-2 g c =
 
 pub returns : goal.returns
 returns g c = record {
-  value = free_asked g.row.N g.row.CAP c.self.inside.k c.self.inside.machine.machine c.self.inside.acts.items
+  value = free_asked g.S.Sizes.n g.S.Sizes.cap c.self.inside.k c.self.inside.machine.machine c.self.inside.acts.items
       c.self.inside.rounds.items c.self.inside.blocks.items c.self.inside.stands.items c.self.inside.lanes.items
       c.self.invariant c.args.self.now c.self.view_is c.args.step c.args.stand c.requires.block c.requires.stands
       c.requires.round c.index.result.now c.lane_moved-at.result c.index-2.result.now c.is_ready.result

@@ -13,28 +13,28 @@ pub index-stand-requires : goal.index-stand-requires
 index-stand-requires g c =
     subst (λ (n : ℕ). c.from-b.result < n) (sym c.self.inside.stands.ok.0)
     (subst (λ (n : ℕ). n < length c.self.inside.stands.items) (sym (c.from-b.ensures ∙ c.block.ensures.value))
-    (taken_in_stands g.row.N g.row.CAP c.self.inside.k c.self.inside.machine.machine c.self.inside.acts.items
+    (taken_in_stands g.S.Sizes.n g.S.Sizes.cap c.self.inside.k c.self.inside.machine.machine c.self.inside.acts.items
     c.self.inside.rounds.items c.self.inside.blocks.items c.self.inside.stands.items c.self.inside.lanes.items
     c.self.invariant c.args.self.now c.self.view_is c.args.step c.requires.can))
 
 pub index-requires : goal.index-requires
 index-requires g c =
     subst (λ (n : ℕ). c.index-stand.result.now.round < n) (sym c.self.inside.rounds.ok.0)
-    (taken_in_rounds g.row.N g.row.CAP c.self.inside.k c.self.inside.machine.machine c.self.inside.acts.items
+    (taken_in_rounds g.S.Sizes.n g.S.Sizes.cap c.self.inside.k c.self.inside.machine.machine c.self.inside.acts.items
     c.self.inside.rounds.items c.self.inside.blocks.items c.self.inside.stands.items c.self.inside.lanes.items
     c.self.invariant c.args.self.now c.self.view_is c.args.step c.requires.can
     c.from-b.result c.index-stand.result.now (c.from-b.ensures ∙ c.block.ensures.value) c.index-stand.ensures)
 
 pub lane_moved-at-requires-clause-block : goal.lane_moved-at-requires-clause-block
 lane_moved-at-requires-clause-block g c =
-    taken_below g.row.N g.row.CAP c.self.inside.k c.self.inside.machine.machine c.self.inside.acts.items
+    taken_below g.S.Sizes.n g.S.Sizes.cap c.self.inside.k c.self.inside.machine.machine c.self.inside.acts.items
     c.self.inside.rounds.items c.self.inside.blocks.items c.self.inside.stands.items c.self.inside.lanes.items
     c.self.invariant c.args.self.now c.self.view_is c.args.step c.requires.can
 
 pub lane_moved-at-requires-clause-kind : goal.lane_moved-at-requires-clause-kind
 lane_moved-at-requires-clause-kind g c =
     subst (λ (n : ℕ). CanBeOver n c.self.inside.k c.index.result.now.kind) (sym c.dims.ensures.value)
-    (taken_kind g.row.N g.row.CAP c.self.inside.k c.self.inside.machine.machine c.self.inside.acts.items
+    (taken_kind g.S.Sizes.n g.S.Sizes.cap c.self.inside.k c.self.inside.machine.machine c.self.inside.acts.items
     c.self.inside.rounds.items c.self.inside.blocks.items c.self.inside.stands.items c.self.inside.lanes.items
     c.self.invariant c.args.self.now c.self.view_is c.args.step c.requires.can
     c.from-b.result c.index-stand.result.now c.index.result.now 0 (c.from-b.ensures
@@ -44,14 +44,14 @@ pub index_mut-requires : goal.index_mut-requires
 index_mut-requires g c =
     subst (λ (n : ℕ). c.from-b.result < n) (sym c.self.inside.blocks.ok.0)
     (subst (λ (n : ℕ). n < length c.self.inside.blocks.items) (sym (c.from-b.ensures ∙ c.block.ensures.value))
-    (taken_in_blocks g.row.N g.row.CAP c.self.inside.k c.self.inside.machine.machine c.self.inside.acts.items
+    (taken_in_blocks g.S.Sizes.n g.S.Sizes.cap c.self.inside.k c.self.inside.machine.machine c.self.inside.acts.items
     c.self.inside.rounds.items c.self.inside.blocks.items c.self.inside.stands.items c.self.inside.lanes.items
     c.self.invariant c.args.self.now c.self.view_is c.args.step c.requires.can))
 
 pub index_mut-requires-2 : goal.index_mut-requires-2
 index_mut-requires-2 g c =
     subst (λ (n : ℕ). c.lane_moved-at.result < n) (sym c.self.inside.lanes.ok.0)
-    (taken_in_lanes g.row.N g.row.CAP c.self.inside.k c.self.inside.machine.machine c.self.inside.acts.items
+    (taken_in_lanes g.S.Sizes.n g.S.Sizes.cap c.self.inside.k c.self.inside.machine.machine c.self.inside.acts.items
     c.self.inside.rounds.items c.self.inside.blocks.items c.self.inside.stands.items c.self.inside.lanes.items
     c.self.invariant c.args.self.now c.self.view_is c.args.step c.requires.can
     c.from-b.result c.index-stand.result.now c.index.result.now c.lane_moved-at.result (c.from-b.ensures
@@ -65,7 +65,7 @@ pub weave-requires : goal.weave-requires
 weave-requires g c = record {
   can = subst (λ (acts : List Act). CanWeave acts c.args.step c.index.result.now c.index_mut.result.now
       c.index_mut-2.result.now) (sym c.deref.ensures.value)
-      (taken_can g.row.N g.row.CAP c.self.inside.k c.self.inside.machine.machine c.self.inside.acts.items
+      (taken_can g.S.Sizes.n g.S.Sizes.cap c.self.inside.k c.self.inside.machine.machine c.self.inside.acts.items
       c.self.inside.rounds.items c.self.inside.blocks.items c.self.inside.stands.items c.self.inside.lanes.items
       c.self.invariant c.args.self.now c.self.view_is c.args.step c.requires.can
       c.from-b.result c.index-stand.result.now c.index.result.now c.lane_moved-at.result (c.from-b.ensures
@@ -79,7 +79,7 @@ weave-requires g c = record {
 
 pub go_on-requires : goal.go_on-requires
 go_on-requires g c = record {
-  few = taken_few g.row.N g.row.CAP c.self.inside.k c.self.inside.machine.machine c.self.inside.acts.items
+  few = taken_few g.S.Sizes.n g.S.Sizes.cap c.self.inside.k c.self.inside.machine.machine c.self.inside.acts.items
       c.self.inside.rounds.items c.self.inside.blocks.items c.self.inside.stands.items c.self.inside.lanes.items
       c.self.invariant c.args.self.now c.self.view_is c.args.step c.requires.can
       c.from-b.result c.index-stand.result.now (c.from-b.ensures ∙ c.block.ensures.value) c.index-stand.ensures;
@@ -89,13 +89,13 @@ pub index_mut-requires-3 : goal.index_mut-requires-3
 index_mut-requires-3 g c =
     subst (λ (n : ℕ). c.from-b.result < n) (sym c.self.inside.stands.ok.0)
     (subst (λ (n : ℕ). n < length c.self.inside.stands.items) (sym (c.from-b.ensures ∙ c.block.ensures.value))
-    (taken_in_stands g.row.N g.row.CAP c.self.inside.k c.self.inside.machine.machine c.self.inside.acts.items
+    (taken_in_stands g.S.Sizes.n g.S.Sizes.cap c.self.inside.k c.self.inside.machine.machine c.self.inside.acts.items
     c.self.inside.rounds.items c.self.inside.blocks.items c.self.inside.stands.items c.self.inside.lanes.items
     c.self.invariant c.args.self.now c.self.view_is c.args.step c.requires.can))
 
 pub invariant_of-self : goal.invariant_of-self
 invariant_of-self g c =
-    taken_woven g.row.N g.row.CAP c.self.inside.k c.self.inside.machine.machine c.self.inside.acts.items
+    taken_woven g.S.Sizes.n g.S.Sizes.cap c.self.inside.k c.self.inside.machine.machine c.self.inside.acts.items
     c.self.inside.rounds.items c.self.inside.blocks.items c.self.inside.stands.items c.self.inside.lanes.items
     c.self.invariant c.args.self.now c.self.view_is c.args.step c.requires.can
     c.from-b.result c.index-stand.result.now c.index.result.now c.lane_moved-at.result (c.from-b.ensures
@@ -111,7 +111,7 @@ invariant_of-self g c =
 
 pub returns-clause-value : goal.returns-clause-value
 returns-clause-value g c =
-    taken_world g.row.N g.row.CAP c.self.inside.k c.self.inside.machine.machine c.self.inside.acts.items
+    taken_world g.S.Sizes.n g.S.Sizes.cap c.self.inside.k c.self.inside.machine.machine c.self.inside.acts.items
     c.self.inside.rounds.items c.self.inside.blocks.items c.self.inside.stands.items c.self.inside.lanes.items
     c.self.invariant c.args.self.now c.self.view_is c.args.step c.requires.can
     c.from-b.result c.index-stand.result.now c.index.result.now c.lane_moved-at.result (c.from-b.ensures

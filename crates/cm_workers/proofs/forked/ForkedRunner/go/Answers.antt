@@ -4,16 +4,16 @@ use Rattle.cm_workers.proofs.forked.ForkedRunner.go.Goals as goal
 
 pub returns-then-is_empty-clause-ok : goal.returns-then-is_empty-clause-ok
 returns-then-is_empty-clause-ok g c =
-    nothing_run g.row.N g.row.CAP c.args.machine.now.machine c.args.acts.now c.clock.ensures.whole (search rules)
+    nothing_run g.S.Sizes.n g.S.Sizes.cap c.args.machine.now.machine c.args.acts.now c.clock.ensures.whole (search rules)
 
 pub returns-then-is_empty-clause-account : goal.returns-then-is_empty-clause-account
 returns-then-is_empty-clause-account g c =
-    account_after g.row.N g.row.CAP c.args.machine.now.machine c.args.machine.now.machine c.args.acts.now
-    (nothing_run g.row.N g.row.CAP c.args.machine.now.machine c.args.acts.now c.clock.ensures.whole (search rules))
+    account_after g.S.Sizes.n g.S.Sizes.cap c.args.machine.now.machine c.args.machine.now.machine c.args.acts.now
+    (nothing_run g.S.Sizes.n g.S.Sizes.cap c.args.machine.now.machine c.args.acts.now c.clock.ensures.whole (search rules))
 
 pub fork-done-requires : goal.fork-done-requires
 fork-done-requires g c =
-    let dims : c.sizes-sizes.result.dims ≡ g.row.N = c.sizes-sizes.ensures.dims ∙ c.dims.ensures.value in
-    let within : c.sizes-sizes.result.k ≤ g.row.N - g.row.N / 2 =
+    let dims : c.sizes-sizes.result.dims ≡ g.S.Sizes.n = c.sizes-sizes.ensures.dims ∙ c.dims.ensures.value in
+    let within : c.sizes-sizes.result.k ≤ g.S.Sizes.n - g.S.Sizes.n / 2 =
     omega (arith, c.sizes-sizes.ensures.within, c.dims.ensures.value) in
     search (rules, dims, within)

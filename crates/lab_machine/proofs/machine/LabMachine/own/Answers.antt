@@ -19,5 +19,12 @@ around-requires g c =
     let are = c.in_ok-engine.ensures.value in
     let whole = c.clock-clock.ensures.whole in
     let sizes = c.clock-clock.ensures.sizes in
-    let within = fit g.row.N g.row.CAP c.args.machine.now.machine c.in_ok-engine.engine.buffers are whole.buffer_count whole.room in
-    (omega arith, (sizes.some_room, (sizes.most_room, (are, (c.in_ok-engine.ensures.gathered, within)))))
+    let room = c.room.ensures.value in
+    let within = fit g.S.Sizes.n g.S.Sizes.cap c.args.machine.now.machine c.in_ok-engine.engine.buffers are whole.buffer_count whole.room in
+    record {
+      some = omega (arith, room, sizes.some_room);
+      most = omega (arith, room, sizes.most_room);
+      messages = are;
+      gathered = c.in_ok-engine.ensures.gathered;
+      within = subst (λ (cap : ℕ). All (λ (ms : List Message). length ms ≤ cap) c.in_ok-engine.engine.buffers) (sym room) within;
+    }
