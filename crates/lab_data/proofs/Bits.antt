@@ -1,6 +1,6 @@
 -- How many bits numbers have, of which one is the greatest.
-use Rattle.std.proofs.Common.{◌≡◌, ◌≢◌, ℕ, suc, zero, ◌+◌, ◌-◌, ◌^◌, ◌≤◌, ◌<◌, ◌==◌, Bool, true, false, Option, Some, None}
-use Rattle.std.proofs.Common.{sym, ap, ◌∙◌, arith, eq-eqb, ne_eqb, if◌then◌else◌}
+use Rattle.std.proofs.Common.{◌≡◌, ◌≢◌, ℕ, suc, zero, ◌+◌, ◌^◌, ◌<◌, Bool, Some, None}
+use Rattle.std.proofs.Common.{ap, ◌∙◌, arith, eq-eqb, ne_eqb, if◌then◌else◌}
 use Rattle.lab_data.specs.Pictures.{bits_from}
 
 -- this is their length

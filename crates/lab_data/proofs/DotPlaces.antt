@@ -1,11 +1,10 @@
 -- Dots of pictures, and the places they tell of.
-use Rattle.std.proofs.Common.{◌≡◌, ℕ, suc, zero, ◌+◌, ◌-◌, ◌*◌, ◌/◌, ◌%◌, ◌^◌, ◌<◌, ◌≤◌, ◌==◌, Bool, true, false, Option}
-use Rattle.std.proofs.Common.{Some, None, List, length, get_or, sym, ap, ◌∙◌, subst, arith, ⊎_elim, if◌then◌else◌}
+use Rattle.std.proofs.Common.{◌≡◌, ℕ, suc, zero, ◌+◌, ◌*◌, ◌^◌, ◌<◌, ◌≤◌, ◌==◌, Bool, true, false}
+use Rattle.std.proofs.Common.{Some, None, length, get_or, sym, ap, ◌∙◌, subst, arith, ⊎_elim, if◌then◌else◌}
 use Rattle.std.proofs.lemmas.Bool.{cases_Bool, eqb-true}
 use Rattle.std.proofs.lemmas.Nat.{mul-add-lt, div-mul-add, mod-mul-add}
 use Rattle.std.specs.List.{All}
 use Rattle.cm_bits.specs.Bit.{bit_number}
-use Rattle.cm_bits.specs.Span.{Span}
 use Rattle.cm_bits.specs.declared.place.Place.{Place}
 use Rattle.cm_model.specs.Each.{tabulate}
 use Rattle.cm_model.specs.Place.{chip_columns, rows, columns, place_at}
@@ -17,7 +16,7 @@ use Rattle.cm_model.proofs.Each.{get_or-each_below}
 use Rattle.cm_model.proofs.Torus.{chips_in_rows}
 use Rattle.lab_figures.specs.Pictures.{Dots}
 use Rattle.lab_data.specs.declared.order.Order.TheVariants.{Rows as by_rows}
-use Rattle.lab_data.specs.declared.pictures.Shown.TheVariants.{Flag, Number, Buffers}
+use Rattle.lab_data.specs.declared.pictures.Shown.TheVariants.{Number}
 use Rattle.lab_data.specs.Data.{processors, place_in, numbers_of, flags_of, machine_with_numbers}
 use Rattle.lab_data.specs.Pictures.{chip_rows, buffered, greatest_number, machine_picture, bits_from, depth_of_greatest}
 use Rattle.lab_data.specs.PictureLaws.{AreDotsOfPlaces}

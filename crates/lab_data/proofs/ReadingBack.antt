@@ -1,10 +1,10 @@
 -- Numbers that were put into a field of every processor read back.
-use Rattle.std.proofs.Common.{◌≡◌, ℕ, ◌+◌, ◌*◌, ◌%◌, ◌^◌, ◌<◌, ◌≤◌, List, [], length, take, drop, get_or, sym, ap, ◌∙◌, arith}
+use Rattle.std.proofs.Common.{◌≡◌, ℕ, ◌+◌, ◌^◌, ◌<◌, ◌≤◌, List, [], length, get_or, sym, ap, ◌∙◌, arith}
 use Rattle.std.proofs.Math.Nat.{mod-eq_of_lt}
 use Rattle.std.proofs.lemmas.List.Elements.{All-get_or}
 use Rattle.std.specs.List.{All}
 use Rattle.cm_bits.specs.declared.place.Place.{Place}
-use Rattle.cm_model.specs.Processor.{Processor, value, field_value}
+use Rattle.cm_model.specs.Processor.{Processor, field_value}
 use Rattle.cm_model.specs.Chip.{processor_at, no_processor}
 use Rattle.cm_model.specs.Array.{Chips, chip_at, processor_of}
 use Rattle.cm_model.specs.Laws.{IsPlace}

@@ -1,5 +1,5 @@
 -- Studies and routes by the text of a program.
-use Rattle.std.proofs.Common.{◌≡◌, ◌≢◌, ℕ, List, Result, Ok, Err, refl, sym, ap, ◌∙◌}
+use Rattle.std.proofs.Common.{◌≡◌, ◌≢◌, ℕ, List, Result, Err, refl, sym, ap, ◌∙◌}
 use Rattle.cm_model.specs.declared.act.Act.{Act}
 use Rattle.cm_language.specs.declared.fault.AsmKind.{AsmKind}
 use Rattle.cm_language.specs.declared.fault.AsmKind.TheVariants as kind

@@ -1,5 +1,5 @@
 -- Pictures of machines: a dot for each processor of the grid, or for each chip. Ours.
-use Rattle.std.specs.Prelude.{◌≡◌, ℕ, suc, zero, ◌+◌, ◌-◌, ◌*◌, ◌/◌, ◌%◌, ◌^◌, ◌<◌, ◌==◌, Bool, true, nat_lt, if◌then◌else◌}
+use Rattle.std.specs.Prelude.{ℕ, suc, zero, ◌+◌, ◌-◌, ◌/◌, ◌^◌, ◌==◌, Bool, true, nat_lt, if◌then◌else◌}
 use Rattle.std.specs.Prelude.{Option, Some, None, List, length}
 use Rattle.cm_model.specs.Place.{chip_columns, rows, columns}
 use Rattle.cm_model.specs.Array.{each_chip, nth_or_nil}

@@ -1,6 +1,4 @@
 use Rattle.std.proofs.Common.{◌≡◌, ◌+◌, sym, ap, ◌∙◌, subst, arith}
-use Rattle.cm_model.specs.Chip.{with_memory_bit}
-use Rattle.cm_model.specs.Array.{chip_at}
 use Rattle.cm_model.specs.Keeping.{IsMachine}
 use Rattle.cm_array.specs.Parts.{MachineView}
 use Rattle.cm_array.specs.Pokes.{machine_with_memory_bit}
