@@ -4,8 +4,8 @@ ghost use Rattle.std.specs.Prelude.{ℕ};
 
 use std::marker::Brand;
 
-/// The sizes of a machine: it has 2^`n` chips, whose routers have room for `cap` messages each. No code is made for
-/// sizes, so that machines of all sizes have the same.
+/// The sizes of a machine: it has 2^`n` chips, whose routers have room for `cap` messages each. Only contracts can read
+/// them, so machines of all sizes share their code.
 pub trait Sizes {
     ghost n: { ℕ };
 
