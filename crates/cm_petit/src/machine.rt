@@ -17,7 +17,7 @@ use crate::phases::cross_all;
 use cm_element::Run;
 use cm_message::Event;
 use cm_router::{Deliveries, Records, Routing, is_idle, pass_over};
-use cm_router_engine::{RouterEngine, Shape};
+use cm_router_engine::{Arrivals, RouterEngine, Shape};
 
 /// One petit cycle of a whole machine: every router takes messages in, they cross each dimension, from the lowest on,
 /// and those that have arrived go to their processors (a dimension at a time: Hillis 1985; the order: ours). The
@@ -100,12 +100,13 @@ fn deliver(sizes: Shape, run: &mut Run, crossing: &mut RouterEngine, row: &mut V
     pass_over(run);
     let chips = run.chips();
     let mut deliveries = Deliveries::new();
-    let mut c = crossing.next_arrived(sizes, 0);
+    let mut known = Arrivals::new();
+    let mut c = crossing.next_arrived(&mut known, sizes, 0);
     while c < chips {
         deliveries.make_room(run);
         let chip = c as u16;
         crossing.deliver(sizes, run, &mut deliveries, chip, chip, row);
-        c = crossing.next_arrived(sizes, c + 1);
+        c = crossing.next_arrived(&mut known, sizes, c + 1);
     }
     deliveries.put_down(run);
 }

@@ -17,7 +17,7 @@ ghost use Rattle.cm_petit.specs.Routers.{machine_from, part_from_logs, AreRouter
 use cm_element::Run;
 use cm_message::Event;
 use cm_router::{Deliveries, Records, Routing, is_idle, pass_over};
-use cm_router_engine::{RouterEngine, Shape};
+use cm_router_engine::{Arrivals, RouterEngine, Shape};
 
 /// Every router of a run of chips takes in messages of its chip's processors. The run begins at chip `first` of
 /// the machine. A chip that this leaves as it is is passed over.
@@ -94,7 +94,8 @@ pub fn deliver(
 {
     pass_over(run);
     let mut deliveries = Deliveries::new();
-    let mut c = crossing.next_arrived(sizes, 0);
+    let mut known = Arrivals::new();
+    let mut c = crossing.next_arrived(&mut known, sizes, 0);
     while c < logs.len() {
         deliveries.make_room(run);
         let chip = c as u16;
@@ -106,7 +107,7 @@ pub fn deliver(
             first + chip,
             &mut logs[c],
         );
-        c = crossing.next_arrived(sizes, c + 1);
+        c = crossing.next_arrived(&mut known, sizes, c + 1);
     }
     deliveries.put_down(run);
 }

@@ -1,5 +1,5 @@
 -- What tickets do, the messages do that they stand for.
-use Rattle.std.proofs.Common.{◌≡◌, ◌↔◌, ℕ, zero, suc, ◌^◌, List, [], ◌∷◌, length, map, Option, Some, None}
+use Rattle.std.proofs.Common.{◌∙◌, ◌≡◌, ◌↔◌, ℕ, zero, suc, ◌^◌, List, [], ◌∷◌, length, map, Option, Some, None}
 use Rattle.std.proofs.Common.{refl, ap, get_or, ◌<◌, ◌≤◌, ◌++◌, arith}
 use Rattle.std.specs.Prelude.{bit_xor}
 use Rattle.std.specs.List.{All, list_any, range_with_len}
@@ -140,6 +140,11 @@ pub arrived_standing : (row : List Message) (ts : List Ticket)
     → list_any has_arrived (standing row ts) ≡ list_any has_come ts
 arrived_standing row [] = refl
 arrived_standing row (t ∷ ts) = rw (arrived_standing row ts) refl
+
+pub arrived_at : (row : List Message) (queues : List (List Ticket)) (c : ℕ)
+    → list_any has_arrived (nth_or_nil (all_standing row queues) c) ≡ list_any has_come (nth_or_nil queues c)
+arrived_at row queues c = ap (λ (ms : List Message). list_any has_arrived ms) (standing_at row queues c)
+    ∙ arrived_standing row (nth_or_nil queues c)
 
 -- where there is room for one more, it may come
 pub room_for_one : {X : Type 0} (room : ℕ) (xs : List X) (o : Option X) → length xs < room

@@ -3,3 +3,4 @@ pub mod Keeping
 pub mod Leaving
 pub mod Places
 pub mod Rising
+pub mod Arrived

@@ -1,3 +1,4 @@
 pub mod Standing
 pub mod Ranking
 pub mod Routed
+pub mod Arrived

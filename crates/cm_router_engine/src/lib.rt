@@ -4,9 +4,10 @@
 
 mod choosing;
 mod ranking;
+mod reading;
 mod routed;
 mod router_engine;
 mod row;
 
-pub use cm_slots::Shape;
+pub use cm_slots::{Arrivals, Shape};
 pub use router_engine::RouterEngine;

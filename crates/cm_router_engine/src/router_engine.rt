@@ -19,9 +19,11 @@ ghost use Rattle.cm_router.specs.Idle.{IsPassedOver};
 ghost use Rattle.cm_router.specs.Logs.{log_room};
 ghost use Rattle.cm_router.specs.Records.{AreRecords};
 ghost use Rattle.cm_router.specs.Routes.{routing_of};
+ghost use Rattle.cm_router_engine.specs.Arrived.{HaveArrivedAt};
 
 use crate::ranking::{rearrange, renumber, risen_to, sort_numbers};
 use crate::routed::{cross, leave};
+use crate::reading::{ReadAhead, read_ahead};
 use crate::row::{collect, compact, deliver_at, read_out, stand, store_injected};
 use cm_bits::{NoMemory, Plane};
 use cm_element::Run;
@@ -30,7 +32,7 @@ use cm_router::{
     ChipRecords, Deliveries, MOST_INJECTED, Records, Routing, Senders, acknowledge, asking,
     chip_asks, chip_is_acknowledged, take_none,
 };
-use cm_slots::{Shape, Ticket, TicketQueues};
+use cm_slots::{Arrivals, Shape, Ticket, TicketQueues};
 use std::alloc::Global;
 use std::marker::Model;
 use std::mem;
@@ -69,6 +71,8 @@ pub struct RouterEngine {
     keys: Vec<u128>,
     /// Room for where each message goes when they are put in order.
     moved: Vec<u16>,
+    /// What was read last of messages that are about to be delivered.
+    ahead: ReadAhead,
 }
 
 impl Model for RouterEngine {
@@ -114,6 +118,7 @@ impl RouterEngine {
             waited: 0,
             keys,
             moved,
+            ahead: ReadAhead::new(),
         })
     }
 
@@ -139,6 +144,7 @@ impl RouterEngine {
             waited: 0,
             keys,
             moved,
+            ahead: ReadAhead::new(),
         })
     }
 
@@ -160,17 +166,20 @@ impl RouterEngine {
         self.slots.len(chip)
     }
 
-    /// The first chip from this one on at which a message has arrived; as many as there are, if there is none.
-    pub fn next_arrived(&self, sizes: Shape, from: usize) -> usize
+    /// The first chip from this one on at which a message has arrived; as many as there are, if there is none. What is
+    /// known of the chips that stand beside it goes from chip to chip.
+    pub fn next_arrived(&self, known: &mut Arrivals, sizes: Shape, from: usize) -> usize
         requires from { from ≤ length self.now.buffers }
         requires within { All (λ ms. length ms ≤ sizes.room) self.now.buffers }
+        requires known { HaveArrivedAt known.old from self.now.buffers }
+        ensures known { HaveArrivedAt known.new from self.now.buffers }
         ensures none { (c : ℕ) → from ≤ c → c < result → list_any has_arrived (nth_or_nil self.now.buffers c) ≡ false }
         ensures from { from ≤ result }
         ensures most { result ≤ length self.now.buffers }
         ensures arrived { result < length self.now.buffers
             → list_any has_arrived (nth_or_nil self.now.buffers result) ≡ true }
     {
-        self.slots.next_arrived(from, sizes)
+        self.slots.next_arrived(known, from, sizes)
     }
 
     /// The messages that stand at a chip, in order of arrival, where all have been gathered.
@@ -553,6 +562,7 @@ impl RouterEngine {
         ensures capacity { vec_capacity log.old ≤ vec_capacity log.new }
         ensures within { All (λ ms. length ms ≤ sizes.room) self.new.buffers }
     {
+        read_ahead(&mut self.ahead, &self.row, &self.slots, chip, sizes.room);
         deliver_at(&self.row, &mut self.slots, run, deliveries, chip, here, log);
         self.gathered = false;
     }

@@ -8,3 +8,4 @@ pub mod Runs
 pub mod Views
 pub mod Moves
 pub mod Queues
+pub mod Lanes

@@ -93,6 +93,11 @@ module _ {noted chips : ℕ} {tiles : Vec Tile} {leaving : Vec (Option (List ℕ
   none_stand none c h = sym (queue_at noted were view c h)
       ∙ ap (map (ticket_over noted)) (nobody_yet are refl none (bit_xor c noted) (stand_inside c h))
 
+  -- where nothing is noted they stand at the chip itself
+  pub unmoved : noted ≡ 0 → (c : ℕ) → c < length q → nth_or_nil q c ≡ tickets_of tiles.items c
+  unmoved none c h = ap (λ (qs : List (List Ticket)). nth_or_nil qs c) (sym view ∙ over_none_noted were none refl)
+      ∙ sym (ticket_list are refl c (omega (arith, h, chip_count)))
+
   module _ (c : ℕ) (h : c < length q) where
     standing : map (ticket_over noted) (tickets_of tiles.items (bit_xor c noted)) ≡ nth_or_nil q c
     standing = ap (map (ticket_over noted)) (ticket_list are refl (bit_xor c noted) (stand_inside c h))

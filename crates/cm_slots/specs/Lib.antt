@@ -5,3 +5,4 @@ pub mod Choice
 pub mod Tiles
 pub mod Runs
 pub mod Moves
+pub mod Arrivals

@@ -2,6 +2,7 @@
 #![tactic(auto)]
 
 mod across;
+mod arrivals;
 mod choice;
 mod departing;
 pub mod laws;
@@ -15,6 +16,7 @@ mod ticket_queues;
 mod tile;
 mod tiles;
 
+pub use arrivals::{Arrivals, next_lane};
 pub use shape::Shape;
 pub use ticket::Ticket;
 pub use ticket_queues::TicketQueues;

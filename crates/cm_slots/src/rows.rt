@@ -5,6 +5,9 @@ ghost use Rattle.std.specs.Prelude.{◌≡◌, ◌≢◌, ◌↔◌, ℕ, ◌+�
 ghost use Rattle.std.specs.Prelude.{if◌then◌else◌, true, false, IsFalse};
 ghost use Rattle.cm_slots.specs.Slots.{crosses, comers, slot_in, slot_behind, leaver_in, IsCarried, AreSlots};
 ghost use Rattle.cm_slots.specs.Slots.{IsBlank, AreSlotRows, AreTaken, is_arrival, is_taken};
+ghost use Rattle.cm_bits.specs.Bit.{bit};
+
+use std::simd::prelude::*;
 
 /// So many chips stand side by side.
 pub(crate) const WIDTH: usize = 64;
@@ -180,17 +183,14 @@ pub(crate) fn is_blank(row: &Row) -> bool
     all == 0
 }
 
-/// Whether in some lane of a row a ticket stands whose message has arrived. All lanes are looked at, many at once.
+/// In which lanes of a row a ticket stands whose message has arrived: bit i is 1 for lane i.
 #[inline(never)]
-pub(crate) fn has_arrival(row: &Row) -> bool
+pub(crate) fn arrivals(row: &Row) -> u64
     requires long { length row.now ≡ 64 }
-    ensures none { IsFalse result → (i : ℕ) → i < 64 → is_arrival (slice_index row.now i) ≡ false }
+    ensures value { (i : ℕ) → i < 64 → bit result i ≡ is_arrival (slice_index row.now i) }
 {
-    let mut seen = false;
-    for i in 0..WIDTH {
-        seen |= is_arrival(row[i]);
-    }
-    seen
+    let slots = u32x64::from_slice(row);
+    (slots.simd_ne(u32x64::splat(0)) & slots.simd_lt(u32x64::splat(65536))).to_bitmask()
 }
 
 /// Whether a ticket stands in a slot whose message has arrived.

@@ -1,7 +1,9 @@
 //! The queues of a run of chips.
 
-ghost use Rattle.std.specs.Prelude.{◌≡◌, ◌↔◌, ℕ, ◌^◌, ◌<◌, ◌≤◌, ◌++◌, [], ◌∷◌, IfOk, IfSome};
-ghost use Rattle.std.specs.Prelude.{IsTrue, bit_xor, length, true, false};
+ghost use Rattle.std.specs.Prelude.{◌≡◌, ◌↔◌, ℕ, ◌+◌, ◌%◌, ◌^◌, ◌<◌, ◌≤◌, ◌++◌, [], ◌∷◌, IfOk, IfSome};
+ghost use Rattle.std.specs.Prelude.{IsTrue, Some, bit_xor, length, true, false};
+ghost use Rattle.std.specs.Option.{option_map};
+ghost use Rattle.cm_bits.specs.Bit.{bit};
 ghost use Rattle.std.specs.Prelude.{map, remove, slice_set};
 ghost use Rattle.std.specs.List.{All, list_any, slice_get};
 ghost use Rattle.cm_model.specs.Each.{tabulate};
@@ -10,7 +12,9 @@ ghost use Rattle.cm_slots.specs.Queues.{stayers_of};
 ghost use Rattle.cm_slots.specs.Tickets.{has_to_go, has_come, ticket_going, queue_exchanged};
 ghost use Rattle.cm_slots.specs.Choice.{exchanged_by, exchanged_by_number};
 ghost use Rattle.cm_slots.specs.Moves.{ticket_over, queues_over};
+ghost use Rattle.cm_slots.specs.Arrivals.{AreArrivals};
 
+use crate::arrivals::Arrivals;
 use crate::departing::{take_out, write_down};
 use crate::moving::{have_arrival_over, settle};
 use crate::order::Order;
@@ -173,10 +177,15 @@ impl TicketQueues {
     }
 
     /// The first chip from this one on at which a ticket stands whose message has arrived; as many as there are, if
-    /// there is none. Nowhere stand more tickets than there is room for.
-    pub fn next_arrived(&self, from: usize, sizes: Shape) -> usize
+    /// there is none. Nowhere stand more tickets than there is room for. What is known of a tile stays true until
+    /// a chip changes from this one on.
+    pub fn next_arrived(&self, known: &mut Arrivals, from: usize, sizes: Shape) -> usize
         requires from { from ≤ length self.now }
         requires within { All (λ ts. length ts ≤ sizes.room) self.now }
+        requires known { AreArrivals known.old from (length self.now)
+            (λ c. list_any has_come (nth_or_nil self.now c)) }
+        ensures known { AreArrivals known.new from (length self.now)
+            (λ c. list_any has_come (nth_or_nil self.now c)) }
         ensures none { (c : ℕ) → from ≤ c → c < result → list_any has_come (nth_or_nil self.now c) ≡ false }
         ensures from { from ≤ result }
         ensures most { result ≤ length self.now }
@@ -187,8 +196,24 @@ impl TicketQueues {
         } else if self.tiles.is_empty() {
             self.chips
         } else {
-            self.chips.min(next_arrived(&self.tiles, from, sizes))
+            self.chips
+                .min(next_arrived(&self.tiles, self.chips, known, from, sizes))
         }
+    }
+
+    /// At which of 64 chips, from a multiple of 64 on, the ticket at a place is one whose message has arrived: bit i is
+    /// 1 only for such a chip. Where tickets have crossed dimensions that are noted, all bits are 0.
+    pub fn arrivals_at(&self, first: usize, place: usize) -> u64
+        requires chips { first < length self.now }
+        requires tile { first % 64 ≡ 0 }
+        requires place { place < 15 }
+        ensures value { (i : ℕ) → i < 64 → first + i < length self.now → bit result i ≡ true
+            → option_map has_come (slice_get (nth_or_nil self.now (first + i)) place) ≡ Some true }
+    {
+        if self.noted != 0 || self.tiles.is_empty() {
+            return 0;
+        }
+        self.tiles[first / WIDTH].arrivals_in(place)
     }
 
     /// The same chip by chip, where one ticket at most stands at each.

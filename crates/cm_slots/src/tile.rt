@@ -4,6 +4,7 @@ ghost use Rattle.std.specs.Prelude.{◌≡◌, ◌↔◌, ◌≢◌, ℕ, ◌<�
 ghost use Rattle.std.specs.Prelude.{slice_index, slice_set, None, false, IfSome, unwrap_or};
 ghost use Rattle.std.specs.Prelude.{map};
 ghost use Rattle.std.specs.List.{list_any, slice_get};
+ghost use Rattle.cm_bits.specs.Bit.{bit};
 ghost use Rattle.cm_slots.specs.Tickets.{ticket_of};
 ghost use Rattle.cm_slots.specs.declared.order.Order.TheVariants.{Arrival, Number};
 ghost use Rattle.cm_slots.specs.Slots.{is_taken, is_arrival, leaver_at, slot_across, IsBlank, AreTaken};
@@ -16,7 +17,7 @@ ghost use Rattle.cm_slots.specs.Moves.{AreFirst, HasMoved, slot_over};
 use crate::across::{has_arrival_over, put_across, put_leavers, put_over, trade};
 use crate::choice::{leave_from, places};
 use crate::order::Order;
-use crate::rows::{ROOM, Row, WIDTH, has_arrival, is_blank, leave, take_in};
+use crate::rows::{ROOM, Row, WIDTH, arrivals, is_blank, leave, take_in};
 use crate::shape::Shape;
 use crate::ticket::{Ticket, ticket_in};
 
@@ -244,22 +245,35 @@ impl Tile {
         !self.awake || is_blank(&self.first)
     }
 
-    /// Whether at some chip, where there is room for so many tickets, one stands whose message has arrived.
-    pub fn has_arrival(&self, sizes: Shape) -> bool
+    /// At which chips, where there is room for so many tickets, one stands whose message has arrived: bit i is 1 for the
+    /// chip at place i.
+    pub fn arrivals(&self, sizes: Shape) -> u64
         requires whole { IsTile self.now }
-        ensures none { IsFalse result → (i j : ℕ) → i < 64 → j < sizes.room
-            → is_arrival (slots_of self.now i j) ≡ false }
+        requires within { (i : ℕ) → i < 64 → length (numbers_standing_at self.now i) ≤ sizes.room }
+        ensures value { (i : ℕ) → i < 64
+            → bit result i ≡ list_any is_arrival (numbers_standing_at self.now i) }
     {
-        let room = usize::from(sizes.room);
         if self.is_quiet() {
-            return false;
+            return 0;
         }
-        for k in 1..room {
-            if has_arrival(&self.rest[k - 1]) {
-                return true;
-            }
+        let mut lanes = arrivals(&self.first);
+        for k in 1..usize::from(sizes.room) {
+            lanes |= arrivals(&self.rest[k - 1]);
         }
-        has_arrival(&self.first)
+        lanes
+    }
+
+    /// At which chips a ticket stands in a slot whose message has arrived: bit i is 1 for the chip at place i.
+    pub fn arrivals_in(&self, slot: usize) -> u64
+        requires slot { slot < 15 }
+        requires whole { IsTile self.now }
+        ensures value { (i : ℕ) → i < 64 → bit result i ≡ is_arrival (slots_of self.now i slot) }
+    {
+        if slot == 0 {
+            arrivals(&self.first)
+        } else {
+            arrivals(&self.rest[slot - 1])
+        }
     }
 
     /// Whether at some chip the first ticket is one whose message arrives across these dimensions.
@@ -269,21 +283,6 @@ impl Tile {
             → (i : ℕ) → i < 64 → is_arrival (slot_over dims (slots_of self.now i 0)) ≡ false }
     {
         has_arrival_over(&self.first, dims)
-    }
-
-    /// Whether at a chip a ticket stands whose message has arrived.
-    pub fn has_arrival_at(&self, place: usize) -> bool
-        requires place { place < 64 }
-        requires whole { IsTile self.now }
-        ensures value { result ≡ list_any is_arrival (numbers_standing_at self.now place) }
-    {
-        for k in 0..ROOM {
-            let slot = self.slot(place, k);
-            if slot < 65536 {
-                return slot != 0;
-            }
-        }
-        false
     }
 
     /// Whether no chip has more tickets than this.

@@ -1,11 +1,13 @@
 //! The tiles of a run of chips: how they are made and copied, and where in them a ticket has arrived.
 
-ghost use Rattle.std.specs.Prelude.{◌≡◌, ℕ, ◌+◌, ◌/◌, ◌<◌, ◌≤◌, IfOk, length, true, false, vec_capacity};
+ghost use Rattle.std.specs.Prelude.{◌≡◌, ℕ, ◌+◌, ◌*◌, ◌/◌, ◌<◌, ◌≤◌, IfOk, length, true, false, vec_capacity};
 ghost use Rattle.std.specs.List.{All, list_any};
 ghost use Rattle.cm_slots.specs.Tickets.{has_come};
+ghost use Rattle.cm_slots.specs.Arrivals.{has_come_at, AreArrivals};
 ghost use Rattle.cm_slots.specs.Tiles.{IsTile};
 ghost use Rattle.cm_slots.specs.Runs.{AreEmptyTiles, AreKept, AreWithin, queues_in, tickets_of};
 
+use crate::arrivals::Arrivals;
 use crate::rows::{Row, WIDTH};
 use crate::shape::Shape;
 use crate::tile::Tile;
@@ -111,25 +113,31 @@ pub(crate) fn no_leavers(
     Ok(leaving)
 }
 
-/// The first chip from this one on at which a ticket stands whose message has arrived, or one behind all of
-/// them, where there is room for so many tickets at each. A tile in which none has arrived is passed over.
-pub(crate) fn next_arrived(tiles: &[Tile], from: usize, sizes: Shape) -> usize
+/// The first of so many chips, from one on, at which a ticket stands whose message has arrived, or one behind all of
+/// them, where there is room for so many tickets at each. Each tile is looked at once.
+pub(crate) fn next_arrived(
+    tiles: &[Tile],
+    chips: usize,
+    known: &mut Arrivals,
+    from: usize,
+    sizes: Shape,
+) -> usize
     requires whole { All IsTile tiles.now }
     requires within { AreWithin sizes.room tiles.now }
-    ensures none { (c : ℕ) → from ≤ c → c < result → c / 64 < length tiles.now
-        → list_any has_come (tickets_of tiles.now c) ≡ false }
+    requires chips { chips ≤ length tiles.now * 64 }
+    requires known { AreArrivals known.old from chips (has_come_at tiles.now) }
+    ensures known { AreArrivals known.new from chips (has_come_at tiles.now) }
+    ensures none { (c : ℕ) → from ≤ c → c < result → c < chips → list_any has_come (tickets_of tiles.now c) ≡ false }
     ensures from { from ≤ result }
-    ensures arrived { result / 64 < length tiles.now → list_any has_come (tickets_of tiles.now result) ≡ true }
+    ensures arrived { result < chips → list_any has_come (tickets_of tiles.now result) ≡ true }
 {
     let mut chip = from;
-    while chip / WIDTH < tiles.len() {
-        let tile = &tiles[chip / WIDTH];
-        if chip % WIDTH == 0 && !tile.has_arrival(sizes) {
-            chip = (chip / WIDTH + 1) * WIDTH;
-        } else if tile.has_arrival_at(chip % WIDTH) {
-            return chip;
-        } else {
-            chip += 1;
+    while chip < chips {
+        let tile = chip / WIDTH;
+        known.look(tiles, tile, sizes);
+        match known.next(chip % WIDTH) {
+            Some(place) => return tile * WIDTH + place,
+            None => chip = (tile + 1) * WIDTH,
         }
     }
     chip

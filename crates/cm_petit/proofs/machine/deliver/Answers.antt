@@ -1,6 +1,7 @@
 use Rattle.std.proofs.Common.{◌∙◌, arith, refl}
 use Rattle.cm_blocks.specs.Steps.{part_after}
 use Rattle.cm_router.proofs.Telling.{told_of_delivered}
+use Rattle.cm_router_engine.proofs.Arrived.{known_behind, known_from}
 use Rattle.cm_petit.proofs.Making.{done_all, delivering_nothing}
 use Rattle.cm_petit.proofs.IntoRow.{told_none, told_past, told_one, row_takes, row_taken}
 use Rattle.cm_petit.proofs.machine.deliver.Goals as goal
@@ -18,6 +19,7 @@ loop-c-init c =
       chips = refl;
       before = rw none (λ k d l. absurd (omega arith));
       within = are.within;
+      known = known_from _ _ _ _ c.next_arrived-c.ensures.from c.next_arrived-c.ensures.known;
     }
 
 pub deliver-requires-clause-log_room : goal.deliver-requires-clause-log_room
@@ -38,7 +40,12 @@ loop-c-preserved c =
       chips = c.make_room.ensures.chips ∙ c.loop-c.invariant.chips;
       before = λ k d l. omega (arith, done.before k d l, next.from);
       within = done.within;
+      known = known_from _ _ _ _ next.from next.known;
     }
+
+pub next_arrived-c-in-loop-c-requires-clause-known : goal.next_arrived-c-in-loop-c-requires-clause-known
+next_arrived-c-in-loop-c-requires-clause-known c =
+    known_behind _ _ _ c.loop-c.c c.loop-c.c _ c.loop-c.invariant.known (omega arith) c.deliver.ensures.value
 
 pub put_down-requires : goal.put_down-requires
 put_down-requires c =

@@ -1,5 +1,6 @@
 use Rattle.std.proofs.Common.{◌∙◌, arith, refl}
 use Rattle.cm_blocks.specs.Steps.{part_after}
+use Rattle.cm_router_engine.proofs.Arrived.{known_behind, known_from}
 use Rattle.cm_petit.proofs.Making.{made_none, made_past, made_more, made_all, delivering_nothing, log_takes}
 use Rattle.cm_petit.proofs.phases.deliver.Goals as goal
 
@@ -16,6 +17,7 @@ loop-c-init c =
       most = omega (arith, c.next_arrived-c.ensures.most, routers.buffer_count);
       before = rw none (λ k d l. absurd (omega arith));
       within = routers.within;
+      known = known_from _ _ _ _ c.next_arrived-c.ensures.from c.next_arrived-c.ensures.known;
     }
 
 pub deliver-requires-clause-log_room : goal.deliver-requires-clause-log_room
@@ -38,7 +40,12 @@ loop-c-preserved c =
       most = omega (arith, next.most, more.done.buffer_count);
       before = λ k d l. omega (arith, c.deliver.ensures.before k d l, next.from);
       within = c.deliver.ensures.within;
+      known = known_from _ _ _ _ next.from next.known;
     }
+
+pub next_arrived-c-in-loop-c-requires-clause-known : goal.next_arrived-c-in-loop-c-requires-clause-known
+next_arrived-c-in-loop-c-requires-clause-known c =
+    known_behind _ _ _ c.loop-c.c c.loop-c.c _ c.loop-c.invariant.known (omega arith) c.deliver.ensures.value
 
 pub put_down-requires : goal.put_down-requires
 put_down-requires c =

@@ -1,6 +1,7 @@
 use Rattle.std.proofs.Common.{◌≡◌, ◌-◌, ◌≤◌, length}
 use Rattle.std.specs.List.{All}
 use Rattle.cm_router.specs.Deliveries.{run_after, AreBefore}
+use Rattle.cm_router_engine.specs.Arrived.{HaveArrivedAt}
 use Rattle.cm_petit.proofs.Making.{AreMade, delivering}
 use Rattle.cm_petit.proofs.phases.deliver.Given as goal
 
@@ -13,6 +14,7 @@ invariant-loop-c l = record {
   most : l.c ≤ length l.fn.run;
   before : AreBefore l.c l.deliveries;
   within : All (λ ms. length ms ≤ l.sizes.room) l.crossing.buffers;
+  known : HaveArrivedAt l.known l.c l.crossing.buffers;
 }
 
 abbrev pub decreases-loop-c : goal.decreases-loop-c
