@@ -1,9 +1,18 @@
 -- The records of the processors that ask to send, read at once for eight chips. Ours.
 use Rattle.std.specs.Prelude.{ℕ, ◌+◌, ◌*◌, ◌<◌, Option, IfSome, List, length, slice_index}
-use Rattle.cm_model.specs.declared.letters.TheConstants.{SENT_REL}
-use Rattle.cm_model.specs.Processor.{Processor, memory_bit}
+use Rattle.cm_model.specs.declared.letters.TheConstants.{SENT_REL, SENT_PROC, SENT_PAYLOAD}
+use Rattle.cm_model.specs.Processor.{Processor, memory_bit, field_value}
 use Rattle.cm_model.specs.Chip.{IsPlane, processor_at}
 use Rattle.cm_model.specs.Array.{Chips, chip_at}
+use Rattle.cm_router.specs.declared.letters.Record.{Record}
+
+-- the record of a processor: what stands in its memory of the message that it asks to send
+abbrev pub record_of : Processor → Record
+record_of processor = record {
+  rel = field_value processor SENT_REL 16;
+  proc = field_value processor SENT_PROC 4;
+  payload = field_value processor SENT_PAYLOAD 32;
+}
 
 -- the records of eight chips, once they were read
 pub record Held : Type 0 where

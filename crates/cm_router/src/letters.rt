@@ -5,7 +5,7 @@ ghost use Rattle.std.specs.Prelude.{length, slice_set, vec_len, vec_capacity};
 ghost use Rattle.cm_bits.specs.Bit.{bit};
 ghost use Rattle.std.specs.List.{list_any};
 ghost use Rattle.cm_element.specs.Flags.{has_flag};
-ghost use Rattle.cm_model.specs.Processor.{SEND, ACK, RECV, flag, field_value};
+ghost use Rattle.cm_model.specs.Processor.{Processor, SEND, ACK, RECV, flag, field_value};
 ghost use Rattle.cm_model.specs.Chip.{IsPlane, processor_at};
 ghost use Rattle.cm_model.specs.Array.{chip_at};
 ghost use Rattle.cm_model.specs.Whole.{IsChip};
@@ -13,7 +13,7 @@ ghost use Rattle.cm_model.specs.Letters.{senders_taken, is_among, message_sent};
 ghost use Rattle.cm_model.specs.Letters.{chip_after_injection, chip_after_delivery};
 ghost use Rattle.cm_router.specs.Idle.{IsIdle};
 ghost use Rattle.cm_router.specs.Logs.{log_room};
-ghost use Rattle.cm_router.specs.Records.{Held, AreRecords};
+ghost use Rattle.cm_router.specs.Records.{Held, AreRecords, record_of};
 
 use cm_bits::{Field, FlagNo, Plane, Proc};
 use cm_element::{ChipView, Run};
@@ -66,18 +66,47 @@ pub fn asking(run: &Run, chip: u16) -> Plane
     run.flag_plane(chip, FlagNo::SEND)
 }
 
+/// What the record of a processor tells: where a message is to go, and its payload.
+#[derive(Clone, Copy, Debug, PartialEq, Eq)]
+pub(crate) struct Record {
+    /// The relative address, of which a machine takes as many bits as its cube has dimensions.
+    pub(crate) rel: u16,
+    pub(crate) proc: Proc,
+    pub(crate) payload: u32,
+}
+
 /// The message that a processor's record asks to send, from chip `here` of a cube of `dims` dimensions.
 pub fn message_sent(chip: &ChipView<'_>, proc: Proc, here: u16, dims: u8, clock: u64) -> Message
     requires dims { dims ≤ 12 }
     ensures value { result ≡ message_sent dims clock here chip.now proc }
 {
+    message_with(record_of(chip, proc), proc, here, dims, clock)
+}
+
+/// The record of a processor, read bit by bit.
+pub(crate) fn record_of(chip: &ChipView<'_>, proc: Proc) -> Record
+    ensures value { result ≡ record_of (processor_at chip.now proc) }
+{
     let relative = field_value(chip, proc, SENT_REL, 16);
     let target = field_value(chip, proc, SENT_PROC, 4);
     let payload = field_value(chip, proc, SENT_PAYLOAD, 32);
-    Message {
-        rel: (relative % (1 << dims)) as u16,
+    Record {
+        rel: relative as u16,
         proc: Proc::new(target as u8).unwrap(),
         payload: payload as u32,
+    }
+}
+
+/// The message that a processor sends whose record this is.
+pub(crate) fn message_with(sent: Record, proc: Proc, here: u16, dims: u8, clock: u64) -> Message
+    requires dims { dims ≤ 12 }
+    ensures value { (chip : List Processor) → sent ≡ record_of (processor_at chip proc)
+        → result ≡ message_sent dims clock here chip proc }
+{
+    Message {
+        rel: sent.rel % (1 << dims),
+        proc: sent.proc,
+        payload: sent.payload,
         tag: Tag {
             chip: here,
             proc,

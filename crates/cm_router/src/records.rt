@@ -6,12 +6,12 @@ ghost use Rattle.cm_model.specs.Processor.{Processor, field_value};
 ghost use Rattle.cm_model.specs.Chip.{processor_at};
 ghost use Rattle.cm_model.specs.Array.{Chips, chip_at};
 ghost use Rattle.cm_model.specs.Letters.{message_sent};
-ghost use Rattle.cm_router.specs.Records.{AreRecords, AreRecordPlanes};
+ghost use Rattle.cm_router.specs.Records.{AreRecords, AreRecordPlanes, record_of};
 
-use crate::letters::message_sent;
+use crate::letters::{Record, message_with, record_of};
 use cm_bits::{FlagNo, Plane, Proc};
 use cm_element::{ChipView, FIELD_PITCH, Run, sixteen_bits_in};
-use cm_message::{Message, Tag};
+use cm_message::Message;
 use cm_model::SENT_REL;
 use std::marker::Model;
 use std::simd::prelude::*;
@@ -133,10 +133,24 @@ impl<'a> ChipRecords<'a> {
         requires dims { dims ≤ 12 }
         ensures value { result ≡ message_sent dims clock here self.now proc }
     {
+        message_with(self.record(proc), proc, here, dims, clock)
+    }
+
+    /// The record of a processor.
+    fn record(&self, proc: Proc) -> Record
+        ensures value { result ≡ record_of (processor_at self.now proc) }
+    {
         if self.planes.len() < FIELD_PITCH {
-            return message_of(&self.chip, proc, here, dims, clock);
+            // Field by field, so that both ways give the fields in registers. If both ended in one place in memory, the
+            // caller would read there at once what was written field by field, and the CPU waits long for such a read.
+            let alone = record_alone(&self.chip, proc);
+            return Record {
+                rel: alone.rel,
+                proc: alone.proc,
+                payload: alone.payload,
+            };
         }
-        message_in(self.planes, proc, here, dims, clock)
+        record_in(self.planes, proc)
     }
 }
 
@@ -161,33 +175,25 @@ fn are_busy(run: &Run, first: u16) -> bool
     busy.count_ones() >= FEW
 }
 
-/// The message that a processor's record asks to send, read bit by bit. It stands apart so that the compiler does not
-/// join it to what is read from planes: where both ways end in one, it would keep each bit in a word of its own.
+/// The record of a processor, read bit by bit. It stands apart so that the compiler does not join it to what is read
+/// from planes: where both ways end in one, it would keep each bit in a word of its own.
 #[inline(never)]
-fn message_of(chip: &ChipView<'_>, proc: Proc, here: u16, dims: u8, clock: u64) -> Message
-    requires dims { dims ≤ 12 }
-    ensures value { result ≡ message_sent dims clock here chip.now proc }
+fn record_alone(chip: &ChipView<'_>, proc: Proc) -> Record
+    ensures value { result ≡ record_of (processor_at chip.now proc) }
 {
-    message_sent(chip, proc, here, dims, clock)
+    record_of(chip, proc)
 }
 
-/// The message that a record in these planes asks to send.
-fn message_in(planes: &[Plane], proc: Proc, here: u16, dims: u8, clock: u64) -> Message
+/// The record of a processor in these planes.
+fn record_in(planes: &[Plane], proc: Proc) -> Record
     requires planes { 64 ≤ length planes.now }
-    requires dims { dims ≤ 12 }
     ensures value { (chip : List Processor) → AreRecordPlanes planes.now chip
-        → result ≡ message_sent dims clock here chip proc }
+        → result ≡ record_of (processor_at chip proc) }
 {
-    let relative = sixteen_in(planes, proc, 0);
-    Message {
-        rel: (relative % (1 << dims)) as u16,
+    Record {
+        rel: sixteen_in(planes, proc, 0) as u16,
         proc: target_in(planes, proc),
         payload: payload_in(planes, proc),
-        tag: Tag {
-            chip: here,
-            proc,
-            birth: clock,
-        },
     }
 }
 
