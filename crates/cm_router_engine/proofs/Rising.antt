@@ -1,6 +1,6 @@
 -- The order of age in the row: lower numbers are those of older messages; and messages that move into it.
 use Rattle.std.proofs.Common.{◌≡◌, ◌≢◌, ◌⊎◌, ℕ, zero, suc, ◌+◌, ◌-◌, ◌^◌, ◌<◌, ◌≤◌, ◌++◌, true, false}
-use Rattle.std.proofs.Common.{List, [], ◌∷◌, length, map, get_or, Option, Some, None, refl, sym, ap, ◌∙◌, ⊎_elim, arith}
+use Rattle.std.proofs.Common.{List, [], ◌∷◌, length, map, get_or, Option, Some, None, refl, sym, ap, ap₂, ◌∙◌, ⊎_elim, arith}
 use Rattle.std.specs.Prelude.{nat_lt, bit_xor}
 use Rattle.std.specs.List.{All}
 use Rattle.std.specs.Option.{option_map}
@@ -39,11 +39,12 @@ none_rising row = record { within = omega arith; each = λ i j h l. absurd (omeg
 pub rising_longer : (row more : List Message) (n : ℕ) → AreByAge row n → AreByAge (row ++ more) n
 rising_longer row more n was = record {
   within = omega (arith, was.within, length-append row more);
-  each = λ i j h l. rw (
-    get_or_append_left row more no_message i (omega (arith, h, l, was.within)),
-    get_or_append_left row more no_message j (omega (arith, l, was.within)),
-  ) (was.each i j h l);
+  each = λ i j h l. ap₂ is_older (tag_low i (omega (arith, h, l, was.within))) (tag_low j (omega (arith, l, was.within)))
+      ∙ was.each i j h l;
 }
+  where
+    tag_low : (k : ℕ) → k < length row → tag_at (row ++ more) k ≡ tag_at row k
+    tag_low k below = ap (λ (m : Message). m.tag) (get_or_append_left row more no_message k below)
 
 pub rising_more : (row : List Message) (n : ℕ) → n < length row
     → (n ≡ 0) ⊎ (is_older (tag_at row (n - 1)) (tag_at row n) ≡ true) → AreByAge row n → AreByAge row (n + 1)

@@ -43,9 +43,12 @@ loop-c-preserved c =
       known = known_from _ _ _ _ next.from next.known;
     }
 
-pub next_arrived-c-in-loop-c-requires-clause-known : goal.next_arrived-c-in-loop-c-requires-clause-known
-next_arrived-c-in-loop-c-requires-clause-known c =
+pub next_arrived-c-requires-in-loop-c-clause-known : goal.next_arrived-c-requires-in-loop-c-clause-known
+next_arrived-c-requires-in-loop-c-clause-known c =
     known_behind _ _ _ c.loop-c.c c.loop-c.c _ c.loop-c.invariant.known (omega arith) c.deliver.ensures.value
+
+pub next_arrived-c-requires-clause-known : goal.next_arrived-c-requires-clause-known
+next_arrived-c-requires-clause-known c = c.new-known.ensures.value 0 _ _
 
 pub put_down-requires : goal.put_down-requires
 put_down-requires c =
