@@ -1,16 +1,15 @@
 -- A chip of planes after one bit of one processor was put there.
-use Rattle.std.proofs.Common.{◌≡◌, ◌≢◌, ℕ, ◌-◌, ◌*◌, ◌/◌, ◌%◌, ◌^◌, ◌<◌, ◌≤◌, ◌==◌, ◌&&◌, ◌||◌, Bool, true, false, not, List}
+use Rattle.std.proofs.Common.{◌≡◌, ◌≢◌, ℕ, ◌-◌, ◌*◌, ◌%◌, ◌^◌, ◌<◌, ◌==◌, ◌&&◌, ◌||◌, Bool, true, false, not, List}
 use Rattle.std.proofs.Common.{length, map, get_or, set, refl, sym, ap, ◌∙◌, ⊎_elim, arith, eq-eqb, ne_eqb, bit_and}
 use Rattle.std.proofs.Common.{bit_or, mod-lt, lit<, if◌then◌else◌, length-set, get_or-set_same, get_or-set_other}
 use Rattle.std.proofs.lemmas.Bool.{cases_Bool, eqb-true, eqb-false}
-use Rattle.std.proofs.Math.Nat.{div-div-eq-div-mul, mul-div-mul_right, pow-le-pow_right, mod-eq_of_lt}
-use Rattle.std.proofs.lemmas.Nat.{one_shl, pow_pos, mul-le}
+use Rattle.std.proofs.lemmas.Nat.{one_shl}
 use Rattle.std.proofs.lemmas.Nat.Bits.{bit_at-pow_same, bit_at-pow_other}
 use Rattle.cm_bits.specs.Bit.{bit}
 use Rattle.cm_model.specs.Each.{tabulate}
 use Rattle.cm_model.specs.Processor.{Processor}
 use Rattle.cm_model.specs.Chip.{IsPlane, with_memory_bit, with_flag, no_processor}
-use Rattle.cm_model.proofs.Bits.{bit-bit_and, bit-bit_or, bit-bit_not, bit_at-cut}
+use Rattle.cm_model.proofs.Bits.{bit-bit_and, bit-bit_or, bit-bit_not}
 use Rattle.cm_model.proofs.Each.{is_each, length-tabulate, get_or-each_below}
 use Rattle.cm_element.specs.Planes.{processor_in, chip_of}
 use Rattle.cm_element.proofs.Planes.{processor_at-chip_of}
@@ -18,7 +17,7 @@ use Rattle.cm_element.proofs.Storing.{row-set}
 
 -- ---- one bit of a plane
 
-bit-one_here : (k p : ℕ) → k < 16 → bit ((1 * 2 ^ k) % 65536) p ≡ (p == k)
+pub bit-one_here : (k p : ℕ) → k < 16 → bit ((1 * 2 ^ k) % 65536) p ≡ (p == k)
 bit-one_here k p h =
     ap (λ (n : ℕ). bit n p) (one_shl k 16 h) ∙ ⊎_elim
     (λ (e : (p == k) ≡ true). let same : p ≡ k = eqb-true p k e in
@@ -55,49 +54,19 @@ bit-cleared plane k p h below =
     (bit-bit_not ((1 * 2 ^ k) % 65536) p (mod-lt (1 * 2 ^ k) (lit< tt)) below ∙ ap not (bit-one_here k p h))
     ∙ and_not_here (p == k) (bit plane p)
 
--- of bits that were lifted by so many places, one by its place among these
-lifted_is : (bits k i : ℕ) → bit (bits * 2 ^ k / 2 ^ i) k ≡ bit bits i
-lifted_is bits k i =
-    ap (λ (n : ℕ). n % 2 == 1)
-    (div-div-eq-div-mul (bits * 2 ^ k) (2 ^ i) (2 ^ k) ∙ mul-div-mul_right bits (2 ^ i) (pow_pos k))
+bit_for_here : (here b c : Bool) → (if here then false else c) || (here && b) ≡ (if here then b else c)
+bit_for_here true true c = refl
+bit_for_here true false c = refl
+bit_for_here false b true = refl
+bit_for_here false b false = refl
 
--- sixteen bits that are lifted by fewer than sixteen places
-pub lift_fits : (bits k : ℕ) → bits < 65536 → k < 16 → (bits * 2 ^ k) % 2 ^ 32 ≡ bits * 2 ^ k
-lift_fits bits k few below =
-    let two : 0 < 2 = omega arith in
-    let most_k : k ≤ 15 = omega arith in
-    let most : 2 ^ k ≤ 2 ^ 15 = pow-le-pow_right two most_k in
-    let small : bits * 2 ^ k ≤ 65535 * 2 ^ 15 = mul-le bits (2 ^ k) 65535 (2 ^ 15) (omega arith) most in
-    mod-eq_of_lt (omega (arith, small))
-
-chosen_here : (here b c : Bool) → (b && not here) || (c && here) ≡ (if here then c else b)
-chosen_here true true true = refl
-chosen_here true true false = refl
-chosen_here true false true = refl
-chosen_here true false false = refl
-chosen_here false true true = refl
-chosen_here false true false = refl
-chosen_here false false true = refl
-chosen_here false false false = refl
-
--- the plane with one of these bits for processor k
-pub bit-lifted : (plane k lifted bits i p : ℕ) → k < 16 → p < 16 → lifted ≡ bits * 2 ^ k
-    → bit (bit_or (bit_and plane (65535 - (1 * 2 ^ k) % 65536)) (bit_and ((lifted / 2 ^ i) % 65536) ((1 * 2 ^ k) % 65536))) p
-    ≡ (if p == k then bit bits i else bit plane p)
-bit-lifted plane k lifted bits i p h below is =
-    bit-bit_or (bit_and plane (65535 - (1 * 2 ^ k) % 65536)) (bit_and ((lifted / 2 ^ i) % 65536) ((1 * 2 ^ k) % 65536)) p
-    ∙ (λ j. (bit-bit_and plane (65535 - (1 * 2 ^ k) % 65536) p
-    ∙ ap (λ (v : Bool). bit plane p && v)
-    (bit-bit_not ((1 * 2 ^ k) % 65536) p (mod-lt (1 * 2 ^ k) (lit< tt)) below ∙ ap not (bit-one_here k p h))) j
-    || (bit-bit_and ((lifted / 2 ^ i) % 65536) ((1 * 2 ^ k) % 65536) p
-    ∙ ap (λ (v : Bool). bit ((lifted / 2 ^ i) % 65536) p && v) (bit-one_here k p h)) j)
-    ∙ chosen_here (p == k) (bit plane p) (bit ((lifted / 2 ^ i) % 65536) p)
-    ∙ ⊎_elim
-    (λ (e : (p == k) ≡ true). let same : p ≡ k = eqb-true p k e in
-    rw (e, same) (ap (λ (n : ℕ). n == 1) (bit_at-cut (lifted / 2 ^ i) 16 k h)
-    ∙ ap (λ (n : ℕ). bit (n / 2 ^ i) k) is ∙ lifted_is bits k i))
-    (λ (e : (p == k) ≡ false). rw e refl)
-    (cases_Bool (p == k))
+-- the plane with a bit for processor k that stands in another, where the others have 0
+pub bit-replaced : (plane alone k p : ℕ) (b : Bool) → k < 16 → p < 16 → bit alone p ≡ ((p == k) && b)
+    → bit (bit_or (bit_and plane (65535 - (1 * 2 ^ k) % 65536)) alone) p ≡ (if p == k then b else bit plane p)
+bit-replaced plane alone k p b h below is =
+    bit-bit_or (bit_and plane (65535 - (1 * 2 ^ k) % 65536)) alone p
+    ∙ (λ j. bit-cleared plane k p h below j || is j)
+    ∙ bit_for_here (p == k) b (bit plane p)
 
 -- ---- one processor of a chip
 

@@ -2,7 +2,10 @@
 use Rattle.std.proofs.Common.{◌≡◌, ◌≢◌, ℕ, ◌+◌, ◌*◌, ◌/◌, ◌%◌, ◌^◌, ◌<◌}
 use Rattle.std.proofs.Common.{◌==◌, Bool, true, false, if◌then◌else◌, List, [], length, get_or, set}
 use Rattle.std.proofs.Common.{sym, ap, ◌∙◌, arith, length-set, refl, subst, get_or-set_other}
-use Rattle.std.proofs.lemmas.List.{set-get_or}
+use Rattle.std.proofs.Common.{◌-◌, ◌++◌, take, drop, length-take, length-drop}
+use Rattle.std.proofs.lemmas.List.{set-get_or, take_all, drop_all, append-nil}
+use Rattle.std.proofs.lemmas.List.{set-append_right, take-append-drop, get_or-drop}
+use borrow.Rule.Slice.PartMut.{put_mid}
 use Rattle.std.proofs.Math.Nat.{div-div-eq-div-mul}
 use Rattle.std.proofs.lemmas.Nat.{pow-add}
 use Rattle.cm_bits.specs.Bit.{bit}
@@ -192,3 +195,28 @@ slot_put_at words slots stride c p at i number now index word address put p_belo
     slot_put words slots stride c p at i number now index word put p_below (omega (arith, address_is, below)) inside
     (subst (λ (n : ℕ). 0 < get_or slots n 0) address_is own)
     (place ∙ ap (λ (n : ℕ). get_or slots n 0 * stride + c) address_is) is
+
+-- the words from a place on, of which one is put in place of another
+pub column_set : (words : List ℕ) (place count i word : ℕ) → place + count ≡ length words
+    → put_mid place count words (set (take count (drop place words)) i word) ≡ set words (i + place) word
+column_set words place count i word is =
+    let long : length (drop place words) ≡ count = omega (arith, length-drop place words, is) in
+    let all : take count (drop place words) ≡ drop place words =
+    take_all count (drop place words) (omega (arith, long)) in
+    let none : drop count (drop place words) ≡ [] = drop_all count (drop place words) (omega (arith, long)) in
+    let front : length (take place words) ≡ place = omega (arith, is, length-take place words) in
+    let there : i + place - place ≡ i = omega arith in
+    (λ j. take place words ++ (set (all j) i word ++ none j))
+    ∙ ap (λ (xs : List ℕ). take place words ++ xs) (append-nil (set (drop place words) i word))
+    ∙ ap (λ (n : ℕ). take place words ++ set (drop place words) n word) (sym there)
+    ∙ sym (set-append_right (take place words) (drop place words) place (i + place) word front (omega arith))
+    ∙ ap (λ (xs : List ℕ). set xs (i + place) word) (take-append-drop place words)
+
+-- one of them
+pub get_or-column : (words : List ℕ) (place count i : ℕ) → place + count ≡ length words
+    → get_or (take count (drop place words)) i 0 ≡ get_or words (i + place) 0
+get_or-column words place count i is =
+    let long : length (drop place words) ≡ count = omega (arith, length-drop place words, is) in
+    ap (λ (xs : List ℕ). get_or xs i 0) (take_all count (drop place words) (omega (arith, long)))
+    ∙ get_or-drop place words i 0
+    ∙ ap (λ (n : ℕ). get_or words n 0) (omega arith)

@@ -1,6 +1,6 @@
 //! The words of the rows: one bit for each processor of a chip.
 
-ghost use Rattle.std.specs.Prelude.{◌≡◌, ℕ, ◌+◌, ◌*◌, ◌^◌, ◌<◌, ◌==◌, cond, if◌then◌else◌, length, map};
+ghost use Rattle.std.specs.Prelude.{◌≡◌, ℕ, ◌+◌, ◌^◌, ◌<◌, ◌==◌, ◌&&◌, Bool, cond, if◌then◌else◌, length, map};
 ghost use Rattle.std.specs.Prelude.{slice_index};
 ghost use Rattle.std.specs.Bool.{beq};
 ghost use Rattle.cm_bits.specs.Bit.{bit};
@@ -12,6 +12,11 @@ use std::simd::prelude::*;
 
 /// So many planes are looked at, or bits put, at once.
 pub(crate) const SIXTEEN: usize = 16;
+
+/// The planes in which only one processor has a 1, by the processor's number.
+const PLACES: [Plane; SIXTEEN] = [
+    1, 2, 4, 8, 16, 32, 64, 128, 256, 512, 1024, 2048, 4096, 8192, 16384, 32768,
+];
 
 /// Whether the bit of a processor is 1 in a plane.
 pub(crate) fn is_one(plane: Plane, proc: Proc) -> bool
@@ -30,23 +35,25 @@ pub(crate) fn with_bit(plane: Plane, proc: Proc, value: bool) -> Plane
     if value { plane | here } else { plane & !here }
 }
 
-/// Sixteen bits, lifted to where the lowest is that of a processor.
-pub(crate) fn lift(bits: u16, proc: Proc) -> u32
-    ensures value { result ≡ bits * 2 ^ proc }
+/// A plane for each of sixteen bits: the bit stands at a processor, and the others have 0. All are made at once.
+pub(crate) fn planes_of_bits(bits: u16, proc: Proc) -> [Plane; SIXTEEN]
+    ensures value { (i : ℕ) → i < 16 → IsPlane (slice_index result i) (λ p. (p == proc) && bit bits i) }
 {
-    u32::from(bits) << proc.get()
+    let here: Plane = 1 << proc.get();
+    let places = u16x16::from_array(PLACES);
+    let ones = (u16x16::splat(bits) & places).simd_eq(places);
+    ones.select(u16x16::splat(here), u16x16::splat(0))
+        .to_array()
 }
 
-/// The plane with one of sixteen bits for a processor. They are lifted to where the lowest is that of the processor.
-pub(crate) fn with_lifted_bit(plane: Plane, proc: Proc, lifted: u32, i: usize) -> Plane
-    requires { i < 16 }
-    ensures value { (bits : ℕ) → lifted ≡ bits * 2 ^ proc
-        → IsPlane result (λ p. if p == proc then bit bits i else bit plane p) }
+/// The plane with another bit for a processor. It stands in a plane in which the others have 0.
+pub(crate) fn with_bit_of(plane: Plane, proc: Proc, alone: Plane) -> Plane
+    ensures value { (b : Bool) → IsPlane alone (λ p. (p == proc) && b)
+        → IsPlane result (λ p. if p == proc then b else bit plane p) }
     ensures in_range { proc < 16 }
 {
     let here: Plane = 1 << proc.get();
-    let lit = ((lifted >> i) % 65536) as Plane;
-    plane & !here | lit & here
+    plane & !here | alone
 }
 
 /// The bits of a processor in sixteen planes, as a number: bit k is that in plane k.

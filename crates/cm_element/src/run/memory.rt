@@ -19,7 +19,7 @@ use crate::run::room::{ROOM, WIDTH, fill_room};
 use crate::run::rows::put_row;
 use crate::run::square::{EIGHT, SQUARE, put_eight, put_square, transpose};
 use crate::run::{ADDRESSES, FIELD_PITCH, PITCH};
-use crate::word::{SIXTEEN, bit_of, lift, with_bit, with_lifted_bit};
+use crate::word::{SIXTEEN, bit_of, planes_of_bits, with_bit, with_bit_of};
 use cm_bits::{Field, NoMemory, Plane, Proc};
 use cm_model::Nano;
 use cm_rows::{Places, compute, compute_memory};
@@ -719,7 +719,8 @@ fn are_in_use(slots: &[u16], at: usize) -> bool
     !lacks
 }
 
-/// Puts sixteen bits into rows that are in use. The compiler knows how many, so that nothing is counted.
+/// Puts sixteen bits into rows that are in use. The compiler knows how many, so that nothing is counted. It adds the
+/// chip's place once and for all, since the words are taken from there on.
 fn put_sixteen(words: &mut [Plane], slots: &[u16], spot: Spot, proc: Proc, at: usize, bits: u16)
     requires slots { length slots.now ≡ 4096 }
     requires few { spot.stride < 2 ^ 20 }
@@ -733,10 +734,10 @@ fn put_sixteen(words: &mut [Plane], slots: &[u16], spot: Spot, proc: Proc, at: u
         → ArePut first slots.now spot.stride spot.place proc from (put + 16) number words.new }
     ensures words { length words.new ≡ length words.old }
 {
-    let lifted = lift(bits, proc);
+    let planes = planes_of_bits(bits, proc);
     for i in 0..SIXTEEN {
-        let slot = usize::from(slots[at + i]);
-        let here = slot * spot.stride + usize::from(spot.place);
-        words[here] = with_lifted_bit(words[here], proc, lifted, i);
+        let row = usize::from(slots[at + i]) * spot.stride;
+        let column = &mut words[usize::from(spot.place)..];
+        column[row] = with_bit_of(column[row], proc, planes[i]);
     }
 }

@@ -1,7 +1,9 @@
-use Rattle.std.proofs.Common.{◌≡◌, ◌+◌, ◌*◌, ◌<◌, ◌==◌, ℕ, Bool, if◌then◌else◌, List, get_or, refl, ap, ◌∙◌}
-use Rattle.std.proofs.Common.{arith, length-set}
+use Rattle.std.proofs.Common.{◌≡◌, ◌+◌, ◌-◌, ◌*◌, ◌<◌, ◌==◌, ℕ, if◌then◌else◌, List, get_or, set, refl, ap, ◌∙◌}
+use Rattle.std.proofs.Common.{arith, length, length-set, subst, sym, take, drop}
 use Rattle.cm_bits.specs.Bit.{bit}
-use Rattle.cm_element.proofs.Putting.{slot_put_at, retold_put}
+use Rattle.cm_element.specs.Puts.{ArePut}
+use Rattle.cm_element.proofs.Putting.{slot_put_at, retold_put, column_set, get_or-column}
+use borrow.Rule.Slice.PartMut.{put_mid}
 use Rattle.cm_element.proofs.run.memory.put_sixteen.Goals as goal
 
 pub loop-i-init : goal.loop-i-init
@@ -19,21 +21,29 @@ loop-i-preserved c =
     let i : ℕ = c.loop-i.i in
     let words : List ℕ = c.loop-i.words in
     let slots : List ℕ = c.args.slots.now in
-    let index : ℕ = c.from-slot.result * spot.stride + c.from.result in
+    let place : ℕ = c.from-in-loop-i.result in
+    let row : ℕ = c.from.result * spot.stride in
+    let word : ℕ = c.with_bit_of.result in
     let inside : i < 16 = omega arith in
-    let slot : c.from-slot.result ≡ get_or slots (c.args.at + i) 0 = c.from-slot.ensures in
-    let place : index ≡ get_or slots (c.args.at + i) 0 * spot.stride + spot.place =
-    (λ j. slot j * spot.stride + c.from.ensures j) in
+    let starts : row + place ≡ get_or slots (c.args.at + i) 0 * spot.stride + spot.place =
+    (λ j. c.from.ensures j * spot.stride + c.from-in-loop-i.ensures j) in
+    let room = c.requires.rows (c.args.at + i) (omega (arith, c.requires.at, inside)) in
+    let rest : place + (length words - place) ≡ length words = omega (arith, starts, room, c.requires.place, was.long) in
+    let is : set words (row + place) word
+    ≡ put_mid place (length words - place) words (set (take (length words - place) (drop place words)) row word) =
+    sym (column_set words place (length words - place) row word rest) in
     record {
-      put = λ first from put number is same are.
-          retold_put first slots spot.stride spot.place c.args.proc from from (put + i + 1) (put + (i + 1)) number _
-          (slot_put_at first slots spot.stride spot.place c.args.proc from (put + i) number words index
-          c.with_lifted_bit.result (c.args.at + i) (was.put first from put number is same are) c.with_lifted_bit.ensures.in_range
-          (omega (arith, is)) (omega arith) c.requires.place (c.requires.own i inside) place
-          (λ q h. c.with_lifted_bit.ensures.value c.args.bits c.lift-lifted.ensures.value q h
-          ∙ ap (λ (b : Bool). if q == c.args.proc then b else bit (get_or words index 0) q) (same i inside)))
-          refl (omega arith);
-      long = length-set words index c.with_lifted_bit.result ∙ was.long;
+      put = λ first from put number is_at same are.
+          subst (λ (ws : List ℕ). ArePut first slots spot.stride spot.place c.args.proc from (put + (i + 1)) number ws) is
+          (retold_put first slots spot.stride spot.place c.args.proc from from (put + i + 1) (put + (i + 1)) number _
+          (slot_put_at first slots spot.stride spot.place c.args.proc from (put + i) number words (row + place)
+          word (c.args.at + i) (was.put first from put number is_at same are) c.with_bit_of.ensures.in_range
+          (omega (arith, is_at)) (omega arith) c.requires.place (c.requires.own i inside) starts
+          (λ q h. c.with_bit_of.ensures.value (bit c.args.bits i) (c.planes_of_bits-planes.ensures.value i inside) q h
+          ∙ (λ j. if q == c.args.proc then same i inside j
+          else bit (get_or-column words place (length words - place) row rest j) q)))
+          refl (omega arith));
+      long = sym (ap length is) ∙ length-set words (row + place) word ∙ was.long;
     }
 
 pub returns-clause-value : goal.returns-clause-value
