@@ -1,5 +1,5 @@
 -- The flag planes and the memory planes of a chip: a turn of the loop, a fault, and the end.
-use Rattle.std.proofs.Common.{◌≡◌, ℕ, ◌+◌, ◌-◌, ◌<◌, ◌≤◌, List, [], length, take, set, get_or, fold}
+use Rattle.std.proofs.Common.{◌≡◌, ℕ, ◌+◌, ◌-◌, ◌*◌, ◌<◌, ◌≤◌, List, [], length, take, set, get_or, fold}
 use Rattle.std.proofs.Common.{None, Ok, Err, refl, sym, ap, ◌∙◌, subst, ⊎_elim, arith, nat_le}
 use Rattle.std.specs.Int.{w16}
 use Rattle.std.proofs.lemmas.Bool.{le-leb, cases_eq}
@@ -62,11 +62,13 @@ flags_all f flags rest bytes h filling =
 abbrev pub next_address : ℕ → Listed → ℕ
 next_address least x = x.at + 1
 
--- the loop from here on, with this machine, gives what it gave at the start, and the buffers are what they were
+-- the loop from here on, with this machine, gives what it gave at the start, and has four bytes less for each turn; the
+-- buffers are what they were
 pub record IsListing (c count i least : ℕ) (machine : Machine) (rest : List ℕ) (first : Machine)
     (bytes : List ℕ) : Type 0 where
   pub same : fill next_address listed_part (with_listed c) (count - i) least machine rest
       ≡ fill next_address listed_part (with_listed c) count 0 first bytes
+  pub left : length rest + 4 * i ≡ length bytes
   pub buffers : machine.buffers ≡ first.buffers
   pub clock : machine.clock ≡ first.clock
 
@@ -76,11 +78,13 @@ few count h = rw (le-leb count 4096 h) refl
 pub memory_on : (c count i least at plane : ℕ) (machine after_one first : Machine) (rest after bytes : List ℕ)
     → i < count → IsListing c count i least machine rest first bytes
     → listed_part least rest ≡ Ok (record { at = at; plane = plane }, after)
-    → after_one ≡ machine_with_plane machine c at plane → IsListing c count (i + 1) (at + 1) after_one after first bytes
-memory_on c count i least at plane machine after_one first rest after bytes h listing is put =
+    → length after + 4 ≡ length rest → after_one ≡ machine_with_plane machine c at plane
+    → IsListing c count (i + 1) (at + 1) after_one after first bytes
+memory_on c count i least at plane machine after_one first rest after bytes h listing is four put =
     subst (λ (m : Machine). IsListing c count (i + 1) (at + 1) m after first bytes) (sym put) (record {
       same = sym (fill_on next_address listed_part (with_listed c) count i least machine rest after
           (record { at = at; plane = plane }) h is) ∙ listing.same;
+      left = omega (arith, four, listing.left);
       buffers = listing.buffers;
       clock = listing.clock;
     })
