@@ -59,7 +59,7 @@ fn address_fault(least: u16, at: u16) -> Option<ImageFault>
 /// The address of a plane, which is this one or above it, and the plane, where the bytes of both are there.
 #[inline(always)]
 #[tactic(auto, unfolding(cm_image_format::specs::Reading::number_at))]
-fn take_listed(least: u16, bytes: &[u8]) -> Result<(u16, Plane, &[u8]), ImageFault>
+pub(crate) fn take_listed(least: u16, bytes: &[u8]) -> Result<(u16, Plane, &[u8]), ImageFault>
     requires here { 4 ≤ length bytes.now }
     ensures value { Gives (λ x. (record { at = x.0; plane = x.1 }, x.2.now)) result
         (listed_part least bytes.now) }

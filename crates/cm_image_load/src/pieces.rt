@@ -19,8 +19,11 @@ pub const PIECE: usize = 16384;
 /// Room for so many times the bytes that came first is taken with them, so that the list grows seldom.
 const AHEAD: usize = 16;
 
-/// So many bytes stand near at most: a cache holds them beside chips that wait.
-const WIDTH: usize = 262144;
+/// So many bytes stand near at most where chips list all their memory planes: a cache holds them beside chips that wait.
+pub(crate) const WIDE: usize = 262144;
+
+/// So many stand near at most where chips are smaller.
+pub(crate) const NARROW: usize = 65536;
 
 /// From so many on the next chip stands near whole.
 const ENOUGH: usize = 32768;
@@ -58,16 +61,17 @@ impl Model for Window {
 }
 
 impl Window {
-    /// Begins with these bytes.
-    pub(crate) fn of(alloc: Global, front: &[u8]) -> Result<Window, SourceFault>
-        requires few { length front.now ≤ 65536 }
+    /// Begins with these bytes, and has room for so many.
+    pub(crate) fn of(alloc: Global, front: &[u8], width: usize) -> Result<Window, SourceFault>
+        requires front { length front.now ≤ width }
+        requires width { width ≤ 262144 }
         ensures value { IfOk result (λ window. window ≡ front.now) }
         ensures refused { IfErr result (λ fault. fault ≡ SourceFault.Image ImageFault.Memory) }
     {
-        let Ok(mut bytes) = held(alloc, front, WIDTH) else {
+        let Ok(mut bytes) = held(alloc, front, width) else {
             return Err(SourceFault::Image(ImageFault::Memory));
         };
-        let Ok(()) = push_zeros(&mut bytes, WIDTH - front.len()) else {
+        let Ok(()) = push_zeros(&mut bytes, width - front.len()) else {
             return Err(SourceFault::Image(ImageFault::Memory));
         };
         Ok(Window {
