@@ -180,38 +180,8 @@ fn is_chip<S: Sizes>(room: u8, chips: u16, clock: u64, bytes: &[u8]) -> bool
     are_messages::<S>(room, chips, clock, rest)
 }
 
-/// Takes in a chip, if all of it stands in these bytes without a fault: looks first, since what is put into the machine
-/// cannot be taken back. How many bytes come after it.
-fn take_checked_chip<S: Sizes>(
-    builder: &mut BuilderOf<S>,
-    waiting: &mut WaitingChips,
-    chip: u16,
-    chips: u16,
-    clock: u64,
-    bytes: &[u8],
-) -> Option<usize>
-    requires cube { chips ≡ 2 ^ S.n }
-    requires chip { chip < chips }
-    requires waiting { length waiting.old ≤ chip }
-    requires blank { IsBlankFrom S.n chip (with_waiting chip builder.old waiting.old) }
-    requires clock { builder.old.clock ≡ clock }
-    ensures full { IfSome result (λ len. IsTakenIn S.n S.cap clock chip (with_waiting chip builder.old waiting.old)
-        (with_waiting (chip + 1) builder.new waiting.new) len bytes.now) }
-    ensures waiting { IfSome result (λ len. length waiting.new ≤ chip + 1) }
-    ensures other { IsNone result
-        → with_waiting chip builder.new waiting.new ≡ with_waiting chip builder.old waiting.old }
-    ensures few { IsNone result → length waiting.new ≤ chip }
-{
-    if !is_chip::<S>(builder.room(), chips, clock, bytes) {
-        return None;
-    }
-    match take_chip(builder, waiting, chip, chips, clock, bytes) {
-        Ok(after) => Some(after.len()),
-        Err(_) => unreachable!(),
-    }
-}
-
-/// The same. The planes of a chip that lists those of all addresses are read only once.
+/// Takes in a chip, if all of it stands in these bytes without a fault. How many bytes come after it. A chip that does
+/// not list all its memory planes is read twice: what was put into the machine cannot be taken back.
 fn take_sound_chip<S: Sizes>(
     builder: &mut BuilderOf<S>,
     waiting: &mut WaitingChips,
@@ -235,7 +205,13 @@ fn take_sound_chip<S: Sizes>(
     if lists_all(bytes) {
         return take_full_chip(builder, waiting, chip, chips, clock, bytes);
     }
-    take_checked_chip(builder, waiting, chip, chips, clock, bytes)
+    if !is_chip::<S>(builder.room(), chips, clock, bytes) {
+        return None;
+    }
+    match take_chip(builder, waiting, chip, chips, clock, bytes) {
+        Ok(after) => Some(after.len()),
+        Err(_) => unreachable!(),
+    }
 }
 
 /// Takes in chips of bytes and of those that a source has behind them, up to the first that has a fault or is not there

@@ -5,7 +5,7 @@ use Rattle.cm_image_format.specs.Image.{chip_part}
 use Rattle.cm_image_load.specs.Chips.{with_chip_image}
 use Rattle.cm_image_load.specs.WaitingChips.{with_waiting}
 use Rattle.cm_image_load.proofs.Going.{goes_on-made, chip_goes_on, last_bytes}
-use Rattle.cm_image_load.proofs.chips.take_checked_chip.Goals as goal
+use Rattle.cm_image_load.proofs.chips.take_sound_chip.Goals as goal
 
 pub returns-clause-full : goal.returns-clause-full
 returns-clause-full g c =
