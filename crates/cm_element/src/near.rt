@@ -76,16 +76,15 @@ impl NearRun {
         ensures value { self.new
             ≡ slice_set self.old chip (with_memory_plane (chip_at self.old chip) at (bit plane)) }
     {
-        let first = come_near(
+        come_near(
             &mut self.far,
             &mut self.near,
-            self.first,
+            &mut self.first,
             self.width,
             self.chips,
             chip,
         );
-        self.first = first;
-        self.near.poke_plane(chip - first, at, plane);
+        self.near.poke_plane(chip - self.first, at, plane);
     }
 
     /// Puts a plane into a flag of a chip, but not into flag 8.
@@ -95,16 +94,15 @@ impl NearRun {
         ensures value { self.new
             ≡ slice_set self.old chip (with_flag_plane (chip_at self.old chip) number (bit plane)) }
     {
-        let first = come_near(
+        come_near(
             &mut self.far,
             &mut self.near,
-            self.first,
+            &mut self.first,
             self.width,
             self.chips,
             chip,
         );
-        self.first = first;
-        self.near.poke_flag_plane(chip - first, number, plane);
+        self.near.poke_flag_plane(chip - self.first, number, plane);
     }
 
     /// Puts the planes of so many chips into the places from `at` on. They lie chip by chip: those of memory `PITCH`
@@ -138,21 +136,23 @@ fn are_apart(at: u16, count: u16, first: u16, width: u16) -> bool
     first + width <= at
 }
 
-/// Lays the near chips back and brings the chips around this one near; answers the first of these. Does nothing where
-/// this chip is near already.
-fn come_near(far: &mut Run, near: &mut Run, first: u16, width: u16, chips: u16, chip: u16) -> u16
-    requires near { AreNear far.old near.old first width chips }
+/// Lays the near chips back and brings the chips around this one near, and notes the first of these. Does nothing where
+/// this chip is near already: then it writes nothing, which would cost more than to find this out.
+#[inline(always)]
+fn come_near(far: &mut Run, near: &mut Run, place: &mut u16, width: u16, chips: u16, chip: u16)
+    requires near { AreNear far.old near.old place.old width chips }
     requires chip { chip < chips }
-    ensures near { AreNear far.new near.new result width chips }
-    ensures value { with_near far.new near.new result ≡ with_near far.old near.old first }
-    ensures below { result ≤ chip }
-    ensures above { chip < result + width }
+    ensures near { AreNear far.new near.new place.new width chips }
+    ensures value { with_near far.new near.new place.new ≡ with_near far.old near.old place.old }
+    ensures below { place.new ≤ chip }
+    ensures above { chip < place.new + width }
 {
-    if first <= chip && chip - first < width {
-        return first;
+    let first = *place;
+    if chip.wrapping_sub(first) < width {
+        return;
     }
     far.lay(first, near, 0, width);
     let first = chip.min(chips - width);
     near.lay(0, far, first, width);
-    first
+    *place = first;
 }

@@ -5,6 +5,7 @@ mod cuts;
 mod eights;
 mod header;
 mod numbers;
+mod passing;
 mod planes;
 
 pub use cuts::{cuts_len, push_cuts, take_routing, version_of};
@@ -14,4 +15,5 @@ pub use numbers::{
     push, push_u8, push_u16, push_u64, push_zeros, take_chip_number, take_u8, take_u16, take_u32,
     take_u64,
 };
+pub use passing::behind_memory;
 pub use planes::{BLANK_CHIP_LEN, LISTING_LEN, take_flags, take_memory};

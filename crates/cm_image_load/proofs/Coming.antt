@@ -13,10 +13,10 @@ use Rattle.cm_model.specs.Machine.{Machine, blank_machine}
 use Rattle.cm_image_format.specs.declared.fault.ImageFault.{ImageFault}
 use Rattle.cm_image_format.specs.declared.fault.ImageFault.TheVariants as image
 use Rattle.cm_image_format.specs.declared.fault.ImageFault.TheVariants.{Count}
-use Rattle.cm_image_format.specs.Reading.{must, number_at, made, fault_in}
+use Rattle.cm_image_format.specs.Reading.{Read, must, number_at, made, fault_in}
 use Rattle.cm_image_format.specs.Header.{Head, header_part}
 use Rattle.cm_image_format.specs.Cuts.{routing_part}
-use Rattle.cm_image_format.specs.Image.{message_part, messages_part, chip_part}
+use Rattle.cm_image_format.specs.Image.{Listed, flags_part, memory_part, message_part, messages_part, chip_part}
 use Rattle.cm_image_fields.specs.Cuts.{with_routing}
 use Rattle.cm_image_fields.proofs.Filling.{fill, counted_all}
 use Rattle.cm_image_load.specs.declared.pieces.SourceFault.{SourceFault}
@@ -269,6 +269,19 @@ messages_stand n cap clock count i rest after bytes h most is same =
     (counted_all w8 (must Count (λ k. nat_le k cap)) same_place (λ k. message_part n clock)
     passed_over count i 0 0 0 0 rest after bytes h (no_more cap count most) is same) in
     ap is_ok read.1
+
+value_of : {A : Type 0} (r : Read A) → is_ok r ≡ true → (x : A × List ℕ) × (r ≡ Ok x)
+value_of (Ok x) h = (x, refl)
+value_of (Err fault) h = absurd (cc)
+
+-- a chip whose parts stand without a fault
+pub chip_stands : (n cap clock : ℕ) (bytes after behind flags : List ℕ) (listed : List Listed)
+    → flags_part bytes ≡ Ok (flags, after) → memory_part after ≡ Ok (listed, behind)
+    → is_ok (messages_part n cap clock behind) ≡ true → is_ok (chip_part n cap clock bytes) ≡ true
+unfolding chip_part
+chip_stands n cap clock bytes after behind flags listed flags_are memory_is stand =
+    let messages = value_of (messages_part n cap clock behind) stand in
+    rw (flags_are, memory_is, messages.1) refl
 
 pub between_read : (from to count : ℕ) (bytes read behind now : List ℕ) → from ≤ to → to ≤ length bytes
     → count ≤ length read → between from to bytes ≡ now

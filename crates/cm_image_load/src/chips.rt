@@ -1,7 +1,7 @@
 //! The chips of an image.
 
 ghost use Rattle.std.specs.Prelude.{◌≡◌, ◌↔◌, ◌≤◌, ◌<◌, ◌+◌, ◌^◌, ◌++◌, ℕ, List, [], IfOk, IfErr, OnOk, Ok, Err};
-ghost use Rattle.std.specs.Prelude.{length, replicate, slice_index, IfSome, IsNone, IsErrOf, true, false};
+ghost use Rattle.std.specs.Prelude.{length, replicate, slice_index, IfSome, IsNone, IsErrOf, IsOk, true, false};
 ghost use Rattle.cm_image_format.specs.Reading.{made};
 ghost use Rattle.cm_image_format.specs.Image.{flags_part, chip_part};
 ghost use Rattle.cm_image_load.specs.Chips.{with_flags, with_chip_image, IsBlankFrom, chips_onto};
@@ -11,10 +11,10 @@ ghost use Rattle.cm_image_load.specs.WaitingChips.{with_waiting};
 
 use crate::messages::{are_messages, take_messages};
 use crate::pieces::{SourceFault, Window};
-use crate::waiting_chips::{FULL_MEMORY_LEN, WaitingChips};
+use crate::waiting_chips::{FULL_MEMORY_LEN, WaitingChips, lists_all};
 use cm_array::{BuilderOf, Sizes};
 use cm_bits::{FlagNo, Plane, Source};
-use cm_image_fields::{BLANK_CHIP_LEN, take_flags, take_memory};
+use cm_image_fields::{BLANK_CHIP_LEN, behind_memory, take_flags, take_memory};
 use cm_image_format::ImageFault;
 
 /// Puts the flag planes into a chip, but not that of flag 8, which is 0.
@@ -165,9 +165,58 @@ fn take_full_chip<S: Sizes>(
     }
 }
 
-/// Takes in chips whose memory planes are all listed, of bytes and those that a source has behind them, up to the first
-/// that is not so. Which chip that is, and how many bytes may still be read.
-pub(crate) fn take_full_chips<S: Sizes, I: Source>(
+/// Whether a chip stands at the front of bytes without a fault.
+fn is_chip<S: Sizes>(room: u8, chips: u16, clock: u64, bytes: &[u8]) -> bool
+    requires room { room ≡ S.cap }
+    requires cube { chips ≡ 2 ^ S.n }
+    ensures value { result ≡ true → IsOk (chip_part S.n S.cap clock bytes.now) }
+{
+    let Ok((_, rest)) = take_flags(bytes) else {
+        return false;
+    };
+    let Some(rest) = behind_memory(rest) else {
+        return false;
+    };
+    are_messages::<S>(room, chips, clock, rest)
+}
+
+/// Takes in a chip, if all of it stands in these bytes without a fault. How many bytes come after it. A chip that does
+/// not list all its memory planes is read twice: what was put into the machine cannot be taken back.
+fn take_sound_chip<S: Sizes>(
+    builder: &mut BuilderOf<S>,
+    waiting: &mut WaitingChips,
+    chip: u16,
+    chips: u16,
+    clock: u64,
+    bytes: &[u8],
+) -> Option<usize>
+    requires cube { chips ≡ 2 ^ S.n }
+    requires chip { chip < chips }
+    requires waiting { length waiting.old ≤ chip }
+    requires blank { IsBlankFrom S.n chip (with_waiting chip builder.old waiting.old) }
+    requires clock { builder.old.clock ≡ clock }
+    ensures full { IfSome result (λ len. IsTakenIn S.n S.cap clock chip (with_waiting chip builder.old waiting.old)
+        (with_waiting (chip + 1) builder.new waiting.new) len bytes.now) }
+    ensures waiting { IfSome result (λ len. length waiting.new ≤ chip + 1) }
+    ensures other { IsNone result
+        → with_waiting chip builder.new waiting.new ≡ with_waiting chip builder.old waiting.old }
+    ensures few { IsNone result → length waiting.new ≤ chip }
+{
+    if lists_all(bytes) {
+        return take_full_chip(builder, waiting, chip, chips, clock, bytes);
+    }
+    if !is_chip::<S>(builder.room(), chips, clock, bytes) {
+        return None;
+    }
+    match take_chip(builder, waiting, chip, chips, clock, bytes) {
+        Ok(after) => Some(after.len()),
+        Err(_) => unreachable!(),
+    }
+}
+
+/// Takes in chips of bytes and of those that a source has behind them, up to the first that has a fault or is not there
+/// whole. Which chip that is, and how many bytes may still be read.
+pub(crate) fn take_sound_chips<S: Sizes, I: Source>(
     builder: &mut BuilderOf<S>,
     waiting: &mut WaitingChips,
     clock: u64,
@@ -192,7 +241,7 @@ pub(crate) fn take_full_chips<S: Sizes, I: Source>(
     let mut left = most;
     for chip in 0..chips {
         left -= window.fill(source, left)?;
-        let taken = take_full_chip(builder, waiting, chip, chips, clock, window.rest());
+        let taken = take_sound_chip(builder, waiting, chip, chips, clock, window.rest());
         let Some(rest) = taken else {
             return Ok((chip, left));
         };

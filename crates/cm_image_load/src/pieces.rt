@@ -19,11 +19,15 @@ pub const PIECE: usize = 16384;
 /// Room for so many times the bytes that came first is taken with them, so that the list grows seldom.
 const AHEAD: usize = 16;
 
-/// So many bytes stand near at most: a cache holds them beside chips that wait.
-const WIDTH: usize = 262144;
+/// So many bytes stand near at most where chips list all their memory planes: a cache holds them beside chips that
+/// wait.
+pub(crate) const WIDE: usize = 262144;
+
+/// So many stand near at most where chips are smaller.
+pub(crate) const NARROW: usize = 65536;
 
 /// From so many on the next chip stands near whole.
-const ENOUGH: usize = 32768;
+const ENOUGH: usize = 20480;
 
 /// Why no machine was read of a source.
 #[derive(Clone, Copy, Debug, PartialEq, Eq, Error)]
@@ -44,6 +48,8 @@ pub(crate) struct Window {
     bytes: Vec<u8>,
     from: usize,
     to: usize,
+    /// Whether the source had nothing more: then it is not asked again before each of the last chips.
+    ended: bool,
 }
 
 impl Model for Window {
@@ -58,22 +64,24 @@ impl Model for Window {
 }
 
 impl Window {
-    /// Begins with these bytes.
-    pub(crate) fn of(alloc: Global, front: &[u8]) -> Result<Window, SourceFault>
-        requires few { length front.now ≤ 65536 }
+    /// Begins with these bytes, and has room for so many.
+    pub(crate) fn of(alloc: Global, front: &[u8], width: usize) -> Result<Window, SourceFault>
+        requires front { length front.now ≤ width }
+        requires width { width ≤ 262144 }
         ensures value { IfOk result (λ window. window ≡ front.now) }
         ensures refused { IfErr result (λ fault. fault ≡ SourceFault.Image ImageFault.Memory) }
     {
-        let Ok(mut bytes) = held(alloc, front, WIDTH) else {
+        let Ok(mut bytes) = held(alloc, front, width) else {
             return Err(SourceFault::Image(ImageFault::Memory));
         };
-        let Ok(()) = push_zeros(&mut bytes, WIDTH - front.len()) else {
+        let Ok(()) = push_zeros(&mut bytes, width - front.len()) else {
             return Err(SourceFault::Image(ImageFault::Memory));
         };
         Ok(Window {
             bytes,
             from: 0,
             to: front.len(),
+            ended: false,
         })
     }
 
@@ -100,7 +108,7 @@ impl Window {
         ensures refused { IfErr result (IsStopped most (I.left source.old) (I.left source.new) (λ fault more. ⊥)) }
         ensures read { (I.has_failed source.new ≡ true) ↔ IsErrOf result SourceFault.Read }
     {
-        if self.to - self.from >= ENOUGH {
+        if self.ended || self.to - self.from >= ENOUGH {
             return Ok(0);
         }
         self.move_to_front();
@@ -131,6 +139,7 @@ impl Window {
             return Err(SourceFault::TooMuch);
         }
         self.to += count;
+        self.ended = count == 0;
         Ok(count as u64)
     }
 }

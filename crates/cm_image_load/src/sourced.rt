@@ -8,10 +8,10 @@ ghost use Rattle.cm_image_load.specs.Chips.{IsReadTo, IsBlankFrom};
 ghost use Rattle.cm_image_load.specs.Pieces.{GivesRest, IsStopped, ShapesGoOn};
 ghost use Rattle.cm_image_load.specs.WaitingChips.{with_waiting};
 
-use crate::chips::take_full_chips;
+use crate::chips::take_sound_chips;
 use crate::loads::{finish, load_of};
-use crate::pieces::{SourceFault, Window, take_rest};
-use crate::waiting_chips::{WaitingChips, lists_all};
+use crate::pieces::{NARROW, SourceFault, WIDE, Window, take_rest};
+use crate::waiting_chips::{WaitingChips, lists_all, lists_some};
 use cm_array::{BuilderOf, MachineOf, Sizes};
 use cm_bits::Source;
 use cm_image_fields::{Header, take_header, take_routing};
@@ -19,8 +19,8 @@ use cm_image_format::ImageFault;
 use std::alloc::Global;
 
 /// The machine of 2^`n` chips, whose routers have room for `cap` messages each, whose image these bytes are and all
-/// that a source has behind them, at most so many. While all memory planes of chips are listed, bytes are held no
-/// longer than it takes to put them into the machine.
+/// that a source has behind them, at most so many. If the first chip lists a memory plane, bytes are held no longer than
+/// it takes to put them into the machine.
 pub fn load_source<S: Sizes, I: Source>(
     alloc: Global,
     n: usize,
@@ -131,8 +131,8 @@ impl<S: Sizes> Loading<S> {
         }
     }
 
-    /// Takes in chips as their bytes come, as long as all their memory planes are listed. Which chip is next, and its
-    /// bytes with all behind them.
+    /// Takes in chips as their bytes come, as long as these have no fault. Which chip is next, and its bytes with all
+    /// behind them.
     fn take_pieces<I: Source>(
         &mut self,
         alloc: Global,
@@ -159,13 +159,14 @@ impl<S: Sizes> Loading<S> {
         ensures refused { IfErr result (IsStopped most (I.left source.old) (I.left source.new) (λ fault more. ⊥)) }
         ensures read { (I.has_failed source.new ≡ true) ↔ IsErrOf result SourceFault.Read }
     {
-        if !lists_all(chips) {
+        if !lists_some(chips) {
             let all = take_rest(alloc, chips, source, most)?;
             return Ok((0, all));
         }
         let clock = self.header.clock;
-        let mut window = Window::of(alloc, chips)?;
-        let (next, left) = take_full_chips(
+        let width = if lists_all(chips) { WIDE } else { NARROW };
+        let mut window = Window::of(alloc, chips, width)?;
+        let (next, left) = take_sound_chips(
             &mut self.builder,
             &mut self.waiting,
             clock,

@@ -147,6 +147,12 @@ pub(crate) fn lists_all(bytes: &[u8]) -> bool {
     bytes.len() >= flags_len + 2 && count_at(&bytes[flags_len..]) == ADDRESSES
 }
 
+/// Whether the first chip of bytes seems to list some memory plane.
+pub(crate) fn lists_some(bytes: &[u8]) -> bool {
+    let flags_len = 2 * usize::from(FLAGS);
+    bytes.len() >= flags_len + 2 && count_at(&bytes[flags_len..]) > 0
+}
+
 /// The count at the front of bytes.
 #[tactic(auto, unfolding(cm_image_format::specs::Reading::number_at))]
 fn count_at(bytes: &[u8]) -> u16

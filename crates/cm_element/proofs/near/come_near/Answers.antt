@@ -15,5 +15,5 @@ returns-clause-value c =
       some = near.some;
     } in
     come far_new c.args.near.now near_new c.min-first.result c.args.width c.args.chips is c.lay-2.ensures.value
-    ∙ sym (gone_back c.args.far.now c.args.near.now far_new c.args.first c.args.width c.args.chips near
+    ∙ sym (gone_back c.args.far.now c.args.near.now far_new c.args.place.now c.args.width c.args.chips near
     c.lay.ensures.value)

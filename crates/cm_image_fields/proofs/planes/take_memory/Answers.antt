@@ -28,7 +28,7 @@ loop-i-preserved g c =
     number_is in
     memory_on c.args.chip c.in_ok-count.count c.loop-i.i c.loop-i.least c.in_ok-at.at c.in_ok-at.plane
     c.loop-i.builder c.plane.new.self c.args.builder.now c.loop-i.rest.now c.in_ok-at.after.now
-    c.in_ok-count.rest.now (omega arith) c.loop-i.invariant told put
+    c.in_ok-count.rest.now (omega arith) c.loop-i.invariant told c.in_ok-at.ensures.len put
 
 pub returns-clause-ok : goal.returns-clause-ok
 returns-clause-ok g c =
@@ -37,3 +37,11 @@ returns-clause-ok g c =
     memory_all c.args.chip c.in_ok-count.count c.loop-i.i c.loop-i.least c.loop-i.builder c.args.builder.now
     c.loop-i.rest.now c.in_ok-count.rest.now c.args.bytes.now (omega arith) (omega arith) counted
     c.loop-i.invariant
+
+pub returns-then-whole-from-clause-refused : goal.returns-then-whole-from-clause-refused
+returns-then-whole-from-clause-refused g c =
+    let counted : number_at w16 c.args.bytes.now ≡ Ok (c.in_ok-count.count, c.in_ok-count.rest.now) =
+    cc (c.in_ok-count.ensures.value) in
+    memory_err c.args.chip c.in_ok-count.count c.loop-i.i c.loop-i.least c.loop-i.builder c.args.builder.now
+    c.loop-i.rest.now c.in_ok-count.rest.now c.args.bytes.now _ (omega arith) (omega arith)
+    counted c.loop-i.invariant c.short_fault.ensures.value

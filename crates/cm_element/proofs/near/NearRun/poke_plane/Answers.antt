@@ -7,8 +7,8 @@ use Rattle.cm_element.specs.Wide.{with_memory_plane}
 use Rattle.cm_element.proofs.Nearing.{length-with_near, near_put}
 use Rattle.cm_element.proofs.near.NearRun.poke_plane.Goals as goal
 
-pub come_near-first-requires-clause-chip : goal.come_near-first-requires-clause-chip
-come_near-first-requires-clause-chip c =
+pub come_near-requires-clause-chip : goal.come_near-requires-clause-chip
+come_near-requires-clause-chip c =
     let run = c.self.inside in
     let same : with_near run.far run.near run.first ≡ c.args.self.now = c.self.view_is in
     omega (
@@ -21,18 +21,18 @@ come_near-first-requires-clause-chip c =
 pub returns : goal.returns
 returns c =
     let run = c.self.inside in
-    let far : Chips = c.come_near-first.new.far in
-    let near : Chips = c.come_near-first.new.near in
-    let first = c.come_near-first.result in
+    let far : Chips = c.come_near.new.far in
+    let near : Chips = c.come_near.new.near in
+    let first = c.come_near.new.place in
     let chip = c.args.chip in
-    let same : with_near far near first ≡ c.args.self.now = c.come_near-first.ensures.value ∙ c.self.view_is in
-    let place : first + (chip - first) ≡ chip = omega (arith, c.come_near-first.ensures.below) in
+    let same : with_near far near first ≡ c.args.self.now = c.come_near.ensures.value ∙ c.self.view_is in
+    let place : first + (chip - first) ≡ chip = omega (arith, c.come_near.ensures.below) in
     let here : chip - first < run.width =
-    omega (arith, c.come_near-first.ensures.below, c.come_near-first.ensures.above) in
+    omega (arith, c.come_near.ensures.below, c.come_near.ensures.above) in
     record {
       value = near_put far near c.poke_plane.new.self first run.width run.chips (chip - first) chip
           (λ (v : List Processor). with_memory_plane v c.args.at (bit c.args.plane))
-          c.come_near-first.ensures.near here place c.poke_plane.ensures.value
+          c.come_near.ensures.near here place c.poke_plane.ensures.value
           ∙ ap (λ (chips : Chips). set chips chip (with_memory_plane (chip_at chips chip) c.args.at (bit c.args.plane)))
           same;
     }

@@ -7,7 +7,7 @@ use Rattle.cm_image_load.specs.Taken.{IsTakenIn, AreTakenIn}
 use Rattle.cm_image_load.proofs.Loading.{blank_on}
 use Rattle.cm_image_load.proofs.Waiting.{nothing_waits}
 use Rattle.cm_image_load.proofs.Coming.{stopped_after, taken_first, taken_more, taken_on}
-use Rattle.cm_image_load.proofs.chips.take_full_chips.Goals as goal
+use Rattle.cm_image_load.proofs.chips.take_sound_chips.Goals as goal
 
 pub loop-chip-init : goal.loop-chip-init
 loop-chip-init g c =
@@ -56,7 +56,7 @@ loop-chip-preserved g c =
     let less : ℕ = c.loop-chip.left - c.in_ok-left.field-0 in
     let before : Machine = with_waiting c.loop-chip.chip c.loop-chip.builder c.loop-chip.waiting in
     let after : Machine =
-    with_waiting (c.loop-chip.chip + 1) c.take_full_chip-taken.new.builder c.take_full_chip-taken.new.waiting in
+    with_waiting (c.loop-chip.chip + 1) c.take_sound_chip-taken.new.builder c.take_sound_chip-taken.new.waiting in
     let below : c.loop-chip.chip < 2 ^ g.S.Sizes.n = omega (arith, c.chip_count-chips.ensures.value) in
     let now =
     subst (λ (w : List ℕ). AreTakenIn g.S.Sizes.n g.S.Sizes.cap c.args.clock c.loop-chip.chip c.args.builder.now before

@@ -1,7 +1,7 @@
 use Rattle.std.proofs.Common.{◌≡◌, ◌≤◌, false, length}
 use Rattle.cm_image_load.specs.Taken.{AreTakenIn}
 use Rattle.cm_image_load.specs.WaitingChips.{with_waiting}
-use Rattle.cm_image_load.proofs.chips.take_full_chips.Given as goal
+use Rattle.cm_image_load.proofs.chips.take_sound_chips.Given as goal
 
 -- the chips so far are taken in of the bytes that came
 abbrev pub invariant-loop-chip : goal.invariant-loop-chip
