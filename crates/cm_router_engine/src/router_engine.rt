@@ -22,8 +22,8 @@ ghost use Rattle.cm_router.specs.Routes.{routing_of};
 ghost use Rattle.cm_router_engine.specs.Arrived.{HaveArrivedAt};
 
 use crate::ranking::{rearrange, renumber, risen_to, sort_numbers};
-use crate::routed::{cross, leave};
 use crate::reading::{ReadAhead, read_ahead};
+use crate::routed::{cross, leave};
 use crate::row::{collect, compact, deliver_at, read_out, stand, store_injected};
 use cm_bits::{NoMemory, Plane};
 use cm_element::Run;

@@ -59,19 +59,6 @@ pub slot_behind_first : (tile : Tile) (i k : ℕ) → 0 < k
 slot_behind_first tile i zero some = absurd (omega arith)
 slot_behind_first tile i (suc k) some = let e : suc k - 1 ≡ k = omega arith in rw e refl
 
--- the first slot below 65,536 tells it: there a ticket stands whose message has arrived, or nobody any more
-pub first_below : (k : ℕ) (slots : ℕ → ℕ) (xs : List ℕ) → AreSlots slots xs → ((j : ℕ) → j < k → 65536 ≤ slots j)
-    → slots k < 65536 → not (slots k == 0) ≡ list_any is_arrival xs
-first_below k slots xs are above low = ⊎_elim
-    (λ (there : k < length xs).
-    let some : slots k ≢ 0 = λ e. absurd (omega (arith, (ends_at k slots xs are).0 e)) in
-    let here : is_arrival (slots k) ≡ true = rw (ne_eqb (slots k) 0 some, lt-ltb (slots k) 65536 low) refl in
-    rw (list_any_at is_arrival xs k 0 there (rw (← are.each k) here), ne_eqb (slots k) 0 some) refl)
-    (λ (past : length xs ≤ k).
-    let blank : slots k ≡ 0 = (ends_at k slots xs are).1 past in
-    rw blank (sym (none_arrived slots xs are (λ j l. high (slots j) (above j (omega arith))))))
-    (cases_lt k (length xs))
-
 pub same_test : (slot : ℕ) → is_taken slot ≡ true → has_come (ticket_of slot) ≡ is_arrival slot
 same_test slot taken = ⊎_elim
     (λ (low : slot < 65536).

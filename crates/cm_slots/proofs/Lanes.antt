@@ -48,9 +48,9 @@ pub arrivals_found : (row : List ℕ) → length row ≡ 64 → (i : ℕ) → i 
     % 2 ^ 64) i ≡ is_arrival (slice_index row i)
 arrivals_found row long i inside =
     let lanes : zip2 bit_and (zip2 is_other row (replicate 64 0)) (zip2 is_below row (replicate 64 65536))
-        ≡ map (λ slot. bit_and (is_other slot 0) (is_below slot 65536)) row =
-        ap₂ (zip2 bit_and) (zip2_splat is_other row 64 0 long) (zip2_splat is_below row 64 65536 long)
-        ∙ both (λ slot. is_other slot 0) (λ slot. is_below slot 65536) row in
+    ≡ map (λ slot. bit_and (is_other slot 0) (is_below slot 65536)) row =
+    ap₂ (zip2 bit_and) (zip2_splat is_other row 64 0 long) (zip2_splat is_below row 64 65536 long)
+    ∙ both (λ slot. is_other slot 0) (λ slot. is_below slot 65536) row in
     ap (λ l. bit (mask_l (map (top 31) l) % 2 ^ 64) i) lanes
     ∙ ap (λ l. bit (mask_l l % 2 ^ 64) i)
     (map-map (top 31) (λ slot. bit_and (is_other slot 0) (is_below slot 65536)) row ∙ tests row)

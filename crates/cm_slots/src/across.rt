@@ -6,7 +6,7 @@ ghost use Rattle.cm_slots.specs.Slots.{slot_across, leaver_at, is_arrival};
 ghost use Rattle.cm_slots.specs.Runs.{tile_across, place_across};
 ghost use Rattle.cm_slots.specs.Moves.{slot_over};
 
-use crate::rows::{Row, WIDTH, is_arrival};
+use crate::rows::{Row, WIDTH};
 
 /// The tile across a dimension: the same one, where the chips across stand in the same tile.
 pub(crate) fn tile_across(tile: usize, dim: u8) -> usize
@@ -140,7 +140,8 @@ pub(crate) fn has_arrival_over(row: &Row, dims: u16) -> bool
 {
     let mut seen = false;
     for i in 0..WIDTH {
-        seen |= is_arrival(over(row[i], dims));
+        let arriving = over(row[i], dims);
+        seen |= arriving != 0 && arriving < 65536;
     }
     seen
 }

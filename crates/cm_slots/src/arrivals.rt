@@ -18,7 +18,7 @@ pub struct Arrivals {
     /// The number of the tile, once one was looked at.
     tile: Option<usize>,
     /// Bit i is 1 where such a ticket stands at the chip at place i.
-    lanes: u64,
+    pub(crate) lanes: u64,
 }
 
 impl Arrivals {
@@ -45,14 +45,6 @@ impl Arrivals {
             self.tile = Some(tile);
             self.lanes = tiles[tile].arrivals(sizes);
         }
-    }
-
-    /// The first place of the tile, from this one on, at which such a ticket stands.
-    pub(crate) fn next(&self, from: usize) -> Option<usize>
-        ensures none { result ≡ None → (i : ℕ) → from ≤ i → i < 64 → bit self.now.lanes i ≡ false }
-        ensures some { IfSome result (AreLanesFrom self.now.lanes from) }
-    {
-        next_lane(self.lanes, from)
     }
 }
 

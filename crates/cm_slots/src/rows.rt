@@ -193,13 +193,6 @@ pub(crate) fn arrivals(row: &Row) -> u64
     (slots.simd_ne(u32x64::splat(0)) & slots.simd_lt(u32x64::splat(65536))).to_bitmask()
 }
 
-/// Whether a ticket stands in a slot whose message has arrived.
-pub(crate) fn is_arrival(slot: u32) -> bool
-    ensures value { result ≡ is_arrival slot }
-{
-    slot != 0 && slot < 65536
-}
-
 /// Whether the message of a slot's ticket has to cross a dimension.
 #[tactic(auto, using(std::proofs::lemmas::Nat::Bits::shr_and_one))]
 pub(crate) fn has_to_cross(slot: u32, dim: u8) -> bool

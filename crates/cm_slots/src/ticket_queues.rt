@@ -19,7 +19,7 @@ use crate::departing::{take_out, write_down};
 use crate::moving::{have_arrival_over, settle};
 use crate::order::Order;
 use crate::passes::cross;
-use crate::rows::{Row, WIDTH};
+use crate::rows::{Row, WIDTH, arrivals};
 use crate::shape::Shape;
 use crate::ticket::{Ticket, slot_with};
 use crate::tile::Tile;
@@ -213,7 +213,12 @@ impl TicketQueues {
         if self.noted != 0 || self.tiles.is_empty() {
             return 0;
         }
-        self.tiles[first / WIDTH].arrivals_in(place)
+        let tile = &self.tiles[first / WIDTH];
+        if place == 0 {
+            arrivals(&tile.first)
+        } else {
+            arrivals(&tile.rest[place - 1])
+        }
     }
 
     /// The same chip by chip, where one ticket at most stands at each.

@@ -25,9 +25,9 @@ use crate::ticket::{Ticket, ticket_in};
 #[derive(Debug, Drop)]
 pub(crate) struct Tile {
     /// Slot 0 of each chip.
-    first: Row,
+    pub(crate) first: Row,
     /// The other slots.
-    rest: [Row; 14],
+    pub(crate) rest: [Row; 14],
     /// Whether a ticket may stand there.
     awake: bool,
 }
@@ -245,8 +245,8 @@ impl Tile {
         !self.awake || is_blank(&self.first)
     }
 
-    /// At which chips, where there is room for so many tickets, one stands whose message has arrived: bit i is 1 for the
-    /// chip at place i.
+    /// At which chips, where there is room for so many tickets, one stands whose message has arrived: bit i is 1 for
+    /// the chip at place i.
     pub fn arrivals(&self, sizes: Shape) -> u64
         requires whole { IsTile self.now }
         requires within { (i : ℕ) → i < 64 → length (numbers_standing_at self.now i) ≤ sizes.room }
@@ -261,19 +261,6 @@ impl Tile {
             lanes |= arrivals(&self.rest[k - 1]);
         }
         lanes
-    }
-
-    /// At which chips a ticket stands in a slot whose message has arrived: bit i is 1 for the chip at place i.
-    pub fn arrivals_in(&self, slot: usize) -> u64
-        requires slot { slot < 15 }
-        requires whole { IsTile self.now }
-        ensures value { (i : ℕ) → i < 64 → bit result i ≡ is_arrival (slots_of self.now i slot) }
-    {
-        if slot == 0 {
-            arrivals(&self.first)
-        } else {
-            arrivals(&self.rest[slot - 1])
-        }
     }
 
     /// Whether at some chip the first ticket is one whose message arrives across these dimensions.

@@ -7,7 +7,7 @@ ghost use Rattle.cm_slots.specs.Arrivals.{has_come_at, AreArrivals};
 ghost use Rattle.cm_slots.specs.Tiles.{IsTile};
 ghost use Rattle.cm_slots.specs.Runs.{AreEmptyTiles, AreKept, AreWithin, queues_in, tickets_of};
 
-use crate::arrivals::Arrivals;
+use crate::arrivals::{Arrivals, next_lane};
 use crate::rows::{Row, WIDTH};
 use crate::shape::Shape;
 use crate::tile::Tile;
@@ -135,7 +135,7 @@ pub(crate) fn next_arrived(
     while chip < chips {
         let tile = chip / WIDTH;
         known.look(tiles, tile, sizes);
-        match known.next(chip % WIDTH) {
+        match next_lane(known.lanes, chip % WIDTH) {
             Some(place) => return tile * WIDTH + place,
             None => chip = (tile + 1) * WIDTH,
         }

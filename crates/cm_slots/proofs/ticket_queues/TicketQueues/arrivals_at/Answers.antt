@@ -1,28 +1,26 @@
-use Rattle.std.proofs.Common.{◌≡◌, ◌+◌, ◌/◌, ◌%◌, ◌<◌, ◌∙◌, sym, arith, ap, List, length}
-use Rattle.std.proofs.lemmas.List.{get_or_read}
-use Rattle.std.specs.List.{slice_get}
-use Rattle.std.specs.Option.{option_map}
-use Rattle.cm_slots.specs.declared.ticket.Ticket.{Ticket}
-use Rattle.cm_slots.specs.Tickets.{has_come}
-use Rattle.cm_slots.specs.Runs.{no_tile, tile_at}
-use Rattle.cm_slots.proofs.Arriving.{come_at}
-use Rattle.cm_slots.proofs.Queues.{some_tiles, chip_count, unmoved}
+use Rattle.std.proofs.Common.{ℕ, ◌≡◌, ◌∙◌, sym, arith, ap}
+use Rattle.cm_slots.specs.Slots.{is_arrival}
+use Rattle.cm_slots.specs.Tiles.{slots_of}
+use Rattle.cm_slots.proofs.Arriving.{slot_behind_first}
+use Rattle.cm_slots.proofs.Queues.{some_tiles, arrived_there}
 use Rattle.cm_slots.proofs.ticket_queues.TicketQueues.arrivals_at.Goals as goal
 
-pub returns : goal.returns
-returns c = record {
+pub returns-then-place-eq0 : goal.returns-then-place-eq0
+returns-then-place-eq0 c = record {
   value = λ i inside below is.
-      let tiles = c.self.inside.tiles in
-      let kept = c.self.invariant.kept.are in
-      let made = some_tiles tiles c.is_empty.result c.is_empty.ensures c.if-is_empty.false in
-      let many = chip_count c.self.invariant c.self.view_is in
-      let at : (c.args.first + i) / 64 ≡ c.args.first / 64 = omega (arith, c.requires.tile, inside) in
-      let lane : (c.args.first + i) % 64 ≡ i = omega (arith, c.requires.tile, inside) in
-      let there : (c.args.first + i) / 64 < length tiles.items = omega (arith, kept.count made, below, many) in
-      let tile : c.index.result.now ≡ tile_at tiles.items ((c.args.first + i) / 64) =
-      rw at (get_or_read tiles.items (c.args.first / 64) c.index.result.now (omega (arith, at, there)) c.index.ensures no_tile) in
-      ap (λ (ts : List Ticket). option_map has_come (slice_get ts c.args.place))
-      (unmoved c.self.invariant c.self.view_is (omega (arith, c.if-self-ne0.false)) (c.args.first + i) below)
-      ∙ come_at tiles.items (c.args.first + i) there kept.whole c.args.place
-      (rw (← tile, lane) (sym (c.arrivals_in.ensures.value i inside) ∙ is));
+      let none : c.args.place ≡ 0 = omega (arith, c.if-place-eq0.true) in
+      arrived_there c.self.invariant c.self.view_is (omega (arith, c.if-self-ne0.false))
+      (some_tiles c.self.inside.tiles c.is_empty.result c.is_empty.ensures c.if-is_empty.false)
+      c.args.first c.args.place i c.requires.tile inside below c.index-tile.result.now c.index-tile.ensures
+      (ap (λ (k : ℕ). is_arrival (slots_of c.index-tile.result.now i k)) none
+      ∙ sym (c.arrivals.ensures.value i inside) ∙ is);
+}
+
+pub returns-else-place-eq0 : goal.returns-else-place-eq0
+returns-else-place-eq0 c = record {
+  value = λ i inside below is. arrived_there c.self.invariant c.self.view_is (omega (arith, c.if-self-ne0.false))
+      (some_tiles c.self.inside.tiles c.is_empty.result c.is_empty.ensures c.if-is_empty.false)
+      c.args.first c.args.place i c.requires.tile inside below c.index-tile.result.now c.index-tile.ensures
+      (ap is_arrival (slot_behind_first c.index-tile.result.now i c.args.place (omega (arith, c.if-place-eq0.false)))
+      ∙ sym (c.arrivals-else-place-eq0.ensures.value i inside) ∙ is);
 }

@@ -34,12 +34,13 @@ loop-k-preserved c =
     record {
       some = λ i inside is. either_bit was more i is (c.loop-k.invariant.some i inside)
           (λ set. one_arrived _ _ (c.requires.whole.queues i inside) k
-          (ap is_arrival (slot_behind_first c.args.self.now i k (omega (arith, c.loop-k.auto.k))) ∙ sym (c.arrivals-lanes-in-loop-k.ensures.value i inside) ∙ set));
+          (ap is_arrival (slot_behind_first c.args.self.now i k (omega (arith, c.loop-k.auto.k)))
+          ∙ sym (c.arrivals-lanes-in-loop-k.ensures.value i inside) ∙ set));
       none = λ i j inside below is. ⊎_elim
           (λ (earlier : j < k). c.loop-k.invariant.none i j inside earlier (neither_bit was more i is).0)
           (λ (l : k ≤ j). let last : j ≡ k = omega arith in
-          rw last (ap is_arrival (slot_behind_first c.args.self.now i k (omega (arith, c.loop-k.auto.k))) ∙ sym (c.arrivals-lanes-in-loop-k.ensures.value i inside)
-          ∙ (neither_bit was more i is).1))
+          rw last (ap is_arrival (slot_behind_first c.args.self.now i k (omega (arith, c.loop-k.auto.k)))
+          ∙ sym (c.arrivals-lanes-in-loop-k.ensures.value i inside) ∙ (neither_bit was more i is).1))
           (cases_lt j k);
     }
 
