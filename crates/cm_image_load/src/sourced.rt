@@ -19,8 +19,8 @@ use cm_image_format::ImageFault;
 use std::alloc::Global;
 
 /// The machine of 2^`n` chips, whose routers have room for `cap` messages each, whose image these bytes are and all
-/// that a source has behind them, at most so many. If the first chip lists a memory plane, bytes are held no longer than
-/// it takes to put them into the machine.
+/// that a source has behind them, at most so many. If the first chip lists a memory plane, bytes are held no longer
+/// than it takes to put them into the machine.
 pub fn load_source<S: Sizes, I: Source>(
     alloc: Global,
     n: usize,
