@@ -1,12 +1,12 @@
 -- The order of age in the row: lower numbers are those of older messages; and messages that move into it.
 use Rattle.std.proofs.Common.{◌≡◌, ◌≢◌, ◌⊎◌, ℕ, zero, suc, ◌+◌, ◌-◌, ◌^◌, ◌<◌, ◌≤◌, ◌++◌, true, false}
-use Rattle.std.proofs.Common.{List, [], ◌∷◌, length, map, get_or, Option, Some, None, refl, sym, ap, ap₂, ◌∙◌, ⊎_elim, arith}
+use Rattle.std.proofs.Common.{List, [], ◌∷◌, length, map, get_or, Option, Some, None, refl, sym, ap, ◌∙◌, ⊎_elim, arith}
 use Rattle.std.specs.Prelude.{nat_lt, bit_xor}
 use Rattle.std.specs.List.{All}
 use Rattle.std.specs.Option.{option_map}
 use Rattle.std.proofs.lemmas.Bool.{cases_eq, cases_lt, lt-ltb, le-ltb}
 use Rattle.std.proofs.lemmas.Bool.Decides.{nat_tests}
-use Rattle.std.proofs.lemmas.List.{length-map, length-append, get_or_append_left}
+use Rattle.std.proofs.lemmas.List.{length-map}
 use Rattle.std.proofs.lemmas.List.Elements.{All-tail, All-cons}
 use Rattle.cm_model.specs.declared.message.Message.{Message}
 use Rattle.cm_model.specs.declared.message.Tag.{Tag}
@@ -22,7 +22,7 @@ use Rattle.cm_model.proofs.Preferring.{older_itself, not_both_older}
 use Rattle.cm_slots.specs.declared.ticket.Ticket.{Ticket}
 use Rattle.cm_slots.specs.Choice.{is_lower_one, is_lower_or_none, lowest_place, highest_place, exchanged_by_number}
 use Rattle.cm_router_engine.specs.Standing.{message_of_ticket, standing, all_standing, HaveMessages, HasMessage}
-use Rattle.cm_router_engine.specs.Standing.{no_message, tag_at, AreByAge}
+use Rattle.cm_router_engine.specs.Standing.{tag_at, AreByAge}
 use Rattle.cm_router_engine.specs.Ranking.{moved_ticket, HaveMoved}
 use Rattle.cm_router_engine.specs.Routed.{tickets_crossed}
 use Rattle.cm_router_engine.proofs.Carrying.{all_at}
@@ -34,17 +34,6 @@ older_transitive s t u h k = grind (arith, nat_tests)
 
 pub none_rising : (row : List Message) → AreByAge row 0
 none_rising row = record { within = omega arith; each = λ i j h l. absurd (omega (arith, l)) }
-
--- messages behind them change nothing
-pub rising_longer : (row more : List Message) (n : ℕ) → AreByAge row n → AreByAge (row ++ more) n
-rising_longer row more n was = record {
-  within = omega (arith, was.within, length-append row more);
-  each = λ i j h l. ap₂ is_older (tag_low i (omega (arith, h, l, was.within))) (tag_low j (omega (arith, l, was.within)))
-      ∙ was.each i j h l;
-}
-  where
-    tag_low : (k : ℕ) → k < length row → tag_at (row ++ more) k ≡ tag_at row k
-    tag_low k below = ap (λ (m : Message). m.tag) (get_or_append_left row more no_message k below)
 
 pub rising_more : (row : List Message) (n : ℕ) → n < length row
     → (n ≡ 0) ⊎ (is_older (tag_at row (n - 1)) (tag_at row n) ≡ true) → AreByAge row n → AreByAge row (n + 1)

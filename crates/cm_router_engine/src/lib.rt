@@ -4,7 +4,6 @@
 
 mod choosing;
 mod ranking;
-mod reading;
 mod routed;
 mod router_engine;
 mod row;

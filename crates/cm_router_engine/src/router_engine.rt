@@ -22,7 +22,6 @@ ghost use Rattle.cm_router.specs.Routes.{routing_of};
 ghost use Rattle.cm_router_engine.specs.Arrived.{HaveArrivedAt};
 
 use crate::ranking::{rearrange, renumber, risen_to, sort_numbers};
-use crate::reading::{ReadAhead, read_ahead};
 use crate::routed::{cross, leave};
 use crate::row::{collect, compact, deliver_at, read_out, stand, store_injected};
 use cm_bits::{NoMemory, Plane};
@@ -71,8 +70,6 @@ pub struct RouterEngine {
     keys: Vec<u128>,
     /// Room for where each message goes when they are put in order.
     moved: Vec<u16>,
-    /// What was read last of messages that are about to be delivered.
-    ahead: ReadAhead,
 }
 
 impl Model for RouterEngine {
@@ -118,7 +115,6 @@ impl RouterEngine {
             waited: 0,
             keys,
             moved,
-            ahead: ReadAhead::new(),
         })
     }
 
@@ -144,7 +140,6 @@ impl RouterEngine {
             waited: 0,
             keys,
             moved,
-            ahead: ReadAhead::new(),
         })
     }
 
@@ -562,7 +557,6 @@ impl RouterEngine {
         ensures capacity { vec_capacity log.old ≤ vec_capacity log.new }
         ensures within { All (λ ms. length ms ≤ sizes.room) self.new.buffers }
     {
-        read_ahead(&mut self.ahead, &self.row, &self.slots, chip, sizes.room);
         deliver_at(&self.row, &mut self.slots, run, deliveries, chip, here, log);
         self.gathered = false;
     }

@@ -2,10 +2,6 @@
 use Rattle.std.proofs.Common.{◌≡◌, ◌≢◌, ℕ, ◌<◌, ◌≤◌, ◌==◌, ◌/◌, ◌%◌, not, true, false, List, [], ◌∷◌, length, map, refl}
 use Rattle.std.proofs.Common.{Bool, ◌||◌, bit_or, zero, suc, ◌-◌, slice_index, slice_index_or, sym, ◌∙◌, ⊎_elim, arith}
 use Rattle.std.specs.List.{All, list_any}
-use Rattle.std.proofs.Common.{Option, Some, get_or, ap}
-use Rattle.std.specs.List.{slice_get}
-use Rattle.std.specs.Option.{option_map}
-use Rattle.std.proofs.lemmas.Option.{slice_get-map, slice_get-get_or}
 use Rattle.std.proofs.lemmas.Bool.{cases_lt, ne_eqb, lt-ltb, le-ltb}
 use Rattle.std.proofs.lemmas.List.Folds.{list_any_at, list_any_none}
 use Rattle.std.proofs.lemmas.List.Elements.{All-from_get_or, All-tail}
@@ -76,18 +72,6 @@ same_tests [] all = refl
 same_tests (x ∷ xs) all =
     rw (same_tests xs (All-tail (λ y. is_taken y ≡ true) x xs all), same_test x (all 0 0 (omega arith))) refl
 
--- a slot whose message has arrived is that of the ticket at its place
-ticket_arrived : (slots : ℕ → ℕ) (xs : List ℕ) → AreSlots slots xs → (j : ℕ) → is_arrival (slots j) ≡ true
-    → option_map has_come (slice_get (map ticket_of xs) j) ≡ Some true
-ticket_arrived slots xs are j here = ⊎_elim
-    (λ (there : j < length xs).
-    let is : get_or xs j 0 ≡ slots j = sym (are.each j) in
-    ap (option_map has_come) (slice_get-map ticket_of xs j)
-    ∙ ap (λ (o : Option ℕ). option_map has_come (option_map ticket_of o)) (slice_get-get_or xs j 0 there)
-    ∙ ap Some (same_test (get_or xs j 0) (are.taken j there) ∙ ap is_arrival is ∙ here))
-    (λ (past : length xs ≤ j). absurd (grind (arith, here, (ends_at j slots xs are).1 past)))
-    (cases_lt j (length xs))
-
 module _ (tiles : List Tile) (c : ℕ) (inside : c / 64 < length tiles) (whole : All IsTile tiles) where
   are : AreSlots (slots_of (tile_at tiles (c / 64)) (c % 64)) (numbers_at tiles c)
   are = (whole (c / 64) no_tile inside).queues (c % 64) (omega arith)
@@ -102,8 +86,3 @@ module _ (tiles : List Tile) (c : ℕ) (inside : c / 64 < length tiles) (whole :
       → list_any has_come (tickets_of tiles c) ≡ false
   none_at room within none = tests_at ∙ none_arrived _ (numbers_at tiles c) are
       (λ j l. none (c % 64) j (omega arith) (omega (arith, l, within (c / 64) (c % 64) inside (omega arith))))
-
-  -- in a slot of the chip the ticket stands whose place that is
-  pub come_at : (j : ℕ) → is_arrival (slots_of (tile_at tiles (c / 64)) (c % 64) j) ≡ true
-      → option_map has_come (slice_get (tickets_of tiles c) j) ≡ Some true
-  come_at j here = ticket_arrived _ _ are j here

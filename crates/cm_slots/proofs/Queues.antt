@@ -16,14 +16,12 @@ use Rattle.cm_model.proofs.Each.{length-tabulate, get_or-each_below}
 use Rattle.cm_slots.specs.declared.ticket.Ticket.{Ticket}
 use Rattle.cm_slots.specs.declared.tile.Tile.{Tile}
 use Rattle.cm_slots.specs.Tickets.{ticket_of, has_come}
-use Rattle.cm_slots.specs.Tiles.{slots_of, numbers_standing_at, IsTile, HasChanged}
+use Rattle.cm_slots.specs.Tiles.{numbers_standing_at, IsTile, HasChanged}
 use Rattle.cm_slots.specs.Runs.{no_tile, tile_at, tickets_of, queues_in, AreTiles, AreKept, AreWithin}
 use Rattle.cm_slots.specs.Moves.{ticket_over, queues_over, AreQueues, AreSettled}
 use Rattle.cm_slots.proofs.Changing.{IsChanged, chip_changed, nobody_past}
 use Rattle.cm_slots.proofs.Views.{as_many, ticket_list, nobody_yet, tiles_kept, changed_queues, within_view}
 use Rattle.cm_slots.proofs.Views.{within_everywhere}
-use Rattle.cm_slots.specs.Slots.{is_arrival}
-use Rattle.cm_slots.proofs.Arriving.{come_at}
 use Rattle.cm_slots.proofs.Moves.{length-over, nth_or_nil-over, queues_over-none, as_long, queue_at, within_is}
 
 -- what is read of a list that a function makes
@@ -99,20 +97,6 @@ module _ {noted chips : ℕ} {tiles : Vec Tile} {leaving : Vec (Option (List ℕ
   pub unmoved : noted ≡ 0 → (c : ℕ) → c < length q → nth_or_nil q c ≡ tickets_of tiles.items c
   unmoved none c h = ap (λ (qs : List (List Ticket)). nth_or_nil qs c) (sym view ∙ over_none_noted were none refl)
       ∙ sym (ticket_list are refl c (omega (arith, h, chip_count)))
-
-  -- what has arrived in a slot of a tile is the ticket at that place of its chip
-  pub arrived_there : noted ≡ 0 → 0 < length tiles.items → (first place i : ℕ) → first % 64 ≡ 0 → i < 64
-      → first + i < length q → (tile : Tile) → tile ≡ get_or tiles.items (first / 64) tile
-      → is_arrival (slots_of tile i place) ≡ true → option_map has_come (slice_get (nth_or_nil q (first + i)) place) ≡ Some true
-  arrived_there none made first place i begins inside below tile read here =
-      let many = chip_count in
-      let at : (first + i) / 64 ≡ first / 64 = omega (arith, begins, inside) in
-      let lane : (first + i) % 64 ≡ i = omega (arith, begins, inside) in
-      let there : (first + i) / 64 < length tiles.items = omega (arith, are.count made, below, many) in
-      let is : tile ≡ tile_at tiles.items ((first + i) / 64) =
-      rw at (get_or_read tiles.items (first / 64) tile (omega (arith, at, there)) read no_tile) in
-      ap (λ (ts : List Ticket). option_map has_come (slice_get ts place)) (unmoved none (first + i) below)
-      ∙ come_at tiles.items (first + i) there are.whole place (rw (← is, lane) here)
 
   module _ (c : ℕ) (h : c < length q) where
     standing : map (ticket_over noted) (tickets_of tiles.items (bit_xor c noted)) ≡ nth_or_nil q c

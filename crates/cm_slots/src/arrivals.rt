@@ -49,7 +49,7 @@ impl Arrivals {
 }
 
 /// The first of 64 lanes, from one on, whose bit is 1.
-pub fn next_lane(lanes: u64, from: usize) -> Option<usize>
+pub(crate) fn next_lane(lanes: u64, from: usize) -> Option<usize>
     ensures none { result ≡ None → (i : ℕ) → from ≤ i → i < 64 → bit lanes i ≡ false }
     ensures some { IfSome result (AreLanesFrom lanes from) }
 {

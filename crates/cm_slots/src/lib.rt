@@ -16,7 +16,7 @@ mod ticket_queues;
 mod tile;
 mod tiles;
 
-pub use arrivals::{Arrivals, next_lane};
+pub use arrivals::Arrivals;
 pub use shape::Shape;
 pub use ticket::Ticket;
 pub use ticket_queues::TicketQueues;

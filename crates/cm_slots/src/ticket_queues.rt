@@ -1,9 +1,7 @@
 //! The queues of a run of chips.
 
-ghost use Rattle.std.specs.Prelude.{◌≡◌, ◌↔◌, ℕ, ◌+◌, ◌%◌, ◌^◌, ◌<◌, ◌≤◌, ◌++◌, [], ◌∷◌, IfOk, IfSome};
-ghost use Rattle.std.specs.Prelude.{IsTrue, Some, bit_xor, length, true, false};
-ghost use Rattle.std.specs.Option.{option_map};
-ghost use Rattle.cm_bits.specs.Bit.{bit};
+ghost use Rattle.std.specs.Prelude.{◌≡◌, ◌↔◌, ℕ, ◌^◌, ◌<◌, ◌≤◌, ◌++◌, [], ◌∷◌, IfOk, IfSome};
+ghost use Rattle.std.specs.Prelude.{IsTrue, bit_xor, length, true, false};
 ghost use Rattle.std.specs.Prelude.{map, remove, slice_set};
 ghost use Rattle.std.specs.List.{All, list_any, slice_get};
 ghost use Rattle.cm_model.specs.Each.{tabulate};
@@ -19,7 +17,7 @@ use crate::departing::{take_out, write_down};
 use crate::moving::{have_arrival_over, settle};
 use crate::order::Order;
 use crate::passes::cross;
-use crate::rows::{Row, WIDTH, arrivals};
+use crate::rows::{Row, WIDTH};
 use crate::shape::Shape;
 use crate::ticket::{Ticket, slot_with};
 use crate::tile::Tile;
@@ -198,26 +196,6 @@ impl TicketQueues {
         } else {
             self.chips
                 .min(next_arrived(&self.tiles, self.chips, known, from, sizes))
-        }
-    }
-
-    /// At which of 64 chips, from a multiple of 64 on, the ticket at a place is one whose message has arrived: bit i is
-    /// 1 only for such a chip. Where tickets have crossed dimensions that are noted, all bits are 0.
-    pub fn arrivals_at(&self, first: usize, place: usize) -> u64
-        requires chips { first < length self.now }
-        requires tile { first % 64 ≡ 0 }
-        requires place { place < 15 }
-        ensures value { (i : ℕ) → i < 64 → first + i < length self.now → bit result i ≡ true
-            → option_map has_come (slice_get (nth_or_nil self.now (first + i)) place) ≡ Some true }
-    {
-        if self.noted != 0 || self.tiles.is_empty() {
-            return 0;
-        }
-        let tile = &self.tiles[first / WIDTH];
-        if place == 0 {
-            arrivals(&tile.first)
-        } else {
-            arrivals(&tile.rest[place - 1])
         }
     }
 

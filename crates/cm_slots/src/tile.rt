@@ -25,9 +25,9 @@ use crate::ticket::{Ticket, ticket_in};
 #[derive(Debug, Drop)]
 pub(crate) struct Tile {
     /// Slot 0 of each chip.
-    pub(crate) first: Row,
+    first: Row,
     /// The other slots.
-    pub(crate) rest: [Row; 14],
+    rest: [Row; 14],
     /// Whether a ticket may stand there.
     awake: bool,
 }

@@ -1,7 +1,7 @@
 //! Tickets of a run of chips beside plain lists: who comes, crosses and is taken out.
 
 use crate::bands::sizes;
-use cm_slots::{Shape, Ticket, TicketQueues, next_lane};
+use cm_slots::{Shape, Ticket, TicketQueues};
 use std::alloc::Global;
 use std::test::Fail;
 
@@ -229,44 +229,5 @@ fn tickets_go_as_plain_lists_do(rt: HostRuntime) -> Result<(), Fail> {
     for case in &CASES {
         assert!(&rt; go_alike(rt.alloc(), *case)?, "{case:?}");
     }
-    Ok(())
-}
-
-// A ticket comes to a chip, if there is such a chip.
-fn come(slots: &mut TicketQueues, chip: usize, rel: u16) {
-    if chip < slots.chips() && slots.len(chip) < 15 {
-        slots.arrive(chip, Ticket { rel, number: 5 });
-    }
-}
-
-fn arrivals_at(slots: &TicketQueues, first: usize, place: usize) -> u64 {
-    if first < slots.chips() && first % 64 == 0 && place < 15 {
-        slots.arrivals_at(first, place)
-    } else {
-        0
-    }
-}
-
-#[test]
-fn bits_tell_at_which_of_64_chips_a_message_has_arrived(rt: HostRuntime) -> Result<(), Fail> {
-    let mut slots = TicketQueues::new(rt.alloc(), 128)?;
-    come(&mut slots, 1, 0);
-    come(&mut slots, 2, 4);
-    come(&mut slots, 2, 0);
-    come(&mut slots, 127, 0);
-    assert!(&rt; arrivals_at(&slots, 0, 0) == 1 << 1);
-    assert!(&rt; arrivals_at(&slots, 0, 1) == 1 << 2);
-    assert!(&rt; arrivals_at(&slots, 64, 0) == 1 << 63);
-    assert!(&rt; arrivals_at(&slots, 64, 1) == 0);
-    Ok(())
-}
-
-#[test]
-fn lanes_are_told_one_after_another(rt: HostRuntime) -> Result<(), Fail> {
-    let lanes = 1 << 63 | 1 << 5 | 1;
-    assert!(&rt; next_lane(lanes, 0) == Some(0));
-    assert!(&rt; next_lane(lanes, 1) == Some(5));
-    assert!(&rt; next_lane(lanes, 6) == Some(63));
-    assert!(&rt; next_lane(lanes, 64) == None);
     Ok(())
 }

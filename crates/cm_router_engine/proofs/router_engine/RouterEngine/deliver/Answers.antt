@@ -27,12 +27,12 @@ returns c =
     let within = rw (← c.self.view_is) at c.requires.within in
     let few = few_at room row slots c.args.chip within in
     let given = c.deliver_at.ensures in
-    let here = rw c.deref-2.ensures.value at given.value in
+    let here = rw c.deref.ensures.value at given.value in
     record {
       value = rw (← c.self.view_is, given.others, map-set, standing_at, here);
-      chip = rw (← c.self.view_is, standing_at) (rw c.deref-2.ensures.value at given.chip);
+      chip = rw (← c.self.view_is, standing_at) (rw c.deref.ensures.value at given.chip);
       before = given.before;
-      log = rw (← c.self.view_is, standing_at) (rw c.deref-2.ensures.value at given.log);
+      log = rw (← c.self.view_is, standing_at) (rw c.deref.ensures.value at given.log);
       len = omega (arith, given.len, few);
       capacity = given.capacity;
       within = rw given.others ((as_many (λ n. n ≤ room) row _).0 (All-set (λ ts. length ts ≤ room) slots c.args.chip _

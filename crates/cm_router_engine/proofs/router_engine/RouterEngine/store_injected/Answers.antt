@@ -1,9 +1,7 @@
-use Rattle.std.proofs.Common.{rules, arith}
 use Rattle.std.proofs.lemmas.List.{map-set}
 use Rattle.cm_model.specs.Letters.{messages_sent}
 use Rattle.cm_router_engine.proofs.Carrying.{standing_at}
 use Rattle.cm_router_engine.proofs.Keeping.{all_standing_kept}
-use Rattle.cm_router_engine.proofs.Rising.{rising_longer}
 use Rattle.cm_router_engine.proofs.router_engine.RouterEngine.store_injected.Goals as goal
 
 pub returns : goal.returns
@@ -18,21 +16,4 @@ returns c =
       log = stood.log;
       len = stood.log_len;
       capacity = stood.log_capacity;
-    }
-
-pub invariant_of-self : goal.invariant_of-self
-invariant_of-self c =
-    let was = c.self.invariant in
-    let stood = c.store_injected.ensures in
-    record {
-      few = search rules;
-      enough = search rules;
-      most = was.most;
-      capacity = omega (arith, was.capacity, stood.capacity);
-      spare_capacity = was.spare_capacity;
-      filled = search rules;
-      rows = search rules;
-      kept = search rules;
-      together = search rules;
-      rising = rw stood.items (rising_longer c.self.inside.row.items _ c.self.inside.risen was.rising);
     }
