@@ -17,7 +17,7 @@ use std::alloc::Global;
 const GATHERED_LIMIT: usize = 65536;
 
 /// A write failed, or took no byte, after so many bytes of all answers went out.
-#[derive(Clone, Copy, Debug, PartialEq, Eq)]
+#[derive(Clone, Copy)]
 pub struct CutOff(pub u128);
 
 /// The answers that are not written yet, and how many bytes went out before them.

@@ -11,7 +11,7 @@ ghost use Rattle.cm_session.specs.Answer.{line, buffer_lines, log_lines, found_l
 ghost use Rattle.cm_session.specs.Bounds.{IsFor};
 ghost use Rattle.cm_session.specs.Session.{answered, obeyed};
 ghost use Rattle.cm_debug.specs.State.{session_of, state, Goes, IsDone};
-ghost use Rattle.cm_debug.specs.Telling.{asks_for_acts, runs_acts};
+ghost use Rattle.cm_debug.specs.Telling.{asks_for_acts, only_asks, runs_acts};
 
 use crate::answers::{push_bit, push_buffer, push_found, push_log, push_number, push_word};
 use crate::debugger::{Debugger, Stops};
@@ -88,9 +88,6 @@ impl Debugger<'_> {
                 self.trace = false;
                 push_wire(text, b"off")
             }
-            Command::WireShow => push_bit(text, b"wire", machine.wire()),
-            Command::Field(place, field) => push_field(text, machine, place, field),
-            Command::Flag(place, number) => push_flag(text, machine, place, number),
             Command::Poke(place, at, bit) => {
                 push_word(text, b"ok")?;
                 machine.poke(place.chip, place.proc, at, bit);
@@ -101,6 +98,43 @@ impl Debugger<'_> {
                 poke_flag(machine, place, number, bit);
                 Ok(())
             }
+            Command::WireShow
+            | Command::Field(..)
+            | Command::Flag(..)
+            | Command::Buffer(_)
+            | Command::Find(_)
+            | Command::Events(_)
+            | Command::Rule => self.tell(machine, command, text),
+        }
+    }
+
+    /// Tells what a command asks that leaves all as it is.
+    fn tell<S: Sizes>(
+        &self,
+        machine: &mut MachineOf<S>,
+        command: Command,
+        text: &mut Vec<u8>,
+    ) -> Result<(), AllocError>
+        requires operands { IsFor S.n (length self.now.acts.now) command }
+        requires asks { IsTrue (only_asks command) }
+        ensures ok { OnOk result (IsDone
+            (obeyed S.n S.cap self.now.acts.now (session_of machine.old.machine self.now) command)
+            (state machine.old.machine self.now text.old.items 0)
+            (state machine.new.machine self.now text.new.items 0)) }
+        ensures same { machine.new.machine ≡ machine.old.machine }
+    {
+        match command {
+            Command::Step
+            | Command::Run
+            | Command::Break(_)
+            | Command::Clear(_)
+            | Command::WireOn
+            | Command::WireOff
+            | Command::Poke(..)
+            | Command::PokeFlag(..) => unreachable!(),
+            Command::WireShow => push_bit(text, b"wire", machine.wire()),
+            Command::Field(place, field) => push_field(text, machine, place, field),
+            Command::Flag(place, number) => push_flag(text, machine, place, number),
             Command::Buffer(chip) => push_buffer(text, machine.buffer(chip)),
             Command::Find(tag) => push_found(text, whereabouts(machine, tag)),
             Command::Events(chip) => push_events(text, machine, chip),

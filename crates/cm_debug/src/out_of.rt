@@ -3,7 +3,7 @@
 use std::alloc::AllocError;
 
 /// Why a line is not answered.
-#[derive(Clone, Copy, Debug, PartialEq, Eq)]
+#[derive(Clone, Copy)]
 pub enum OutOf {
     Memory,
     Thread,

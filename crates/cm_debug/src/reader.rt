@@ -1,10 +1,12 @@
 //! What a line of a session asks for.
 
-ghost use Rattle.std.specs.Prelude.{◌≡◌, ◌≤◌, IfOk, IfSome};
+ghost use Rattle.std.specs.Prelude.{◌≡◌, ◌≤◌, bytes_eq, IfOk, IfSome};
 ghost use Rattle.cm_bits.specs.Text.{words_left, words_of};
 ghost use Rattle.cm_session.specs.Bounds.{IsFor};
-ghost use Rattle.cm_session.specs.Commands.{command_alone, index_of, wire_operand, field_operands, flag_of, poke_of};
-ghost use Rattle.cm_session.specs.Commands.{poke_flag_of, chip_operand, find_of, command_named, command_of};
+ghost use Rattle.cm_session.specs.Operands.{three_numbers, four_numbers};
+ghost use Rattle.cm_session.specs.Commands.{command_alone, index_of, wire_operand, field_operands};
+ghost use Rattle.cm_session.specs.Commands.{flag_operands, poke_operands, poke_flag_operands, chip_operand};
+ghost use Rattle.cm_session.specs.Commands.{find_operands, command_at_chip, command_named, command_of};
 
 use crate::reader_operands::{address, bit, chip, field, flag, index, number, place, pokeable};
 use cm_bits::Words;
@@ -42,36 +44,46 @@ fn read_named(
     requires dimension { dimensions ≤ 12 }
     ensures value { result ≡ command_named dimensions count name.now (words_left words.entry) }
 {
-    if name == b"step".as_slice() {
+    if is(name, b"step") {
         alone(Command::Step, words)
-    } else if name == b"run".as_slice() {
+    } else if is(name, b"run") {
         alone(Command::Run, words)
-    } else if name == b"break".as_slice() {
+    } else if is(name, b"break") {
         let index = read_index(words, count)?;
         Ok(Command::Break(index))
-    } else if name == b"clear".as_slice() {
+    } else if is(name, b"clear") {
         let index = read_index(words, count)?;
         Ok(Command::Clear(index))
-    } else if name == b"wire".as_slice() {
+    } else if is(name, b"wire") {
         read_wire(words)
-    } else if name == b"field".as_slice() {
+    } else if is(name, b"rule") {
+        alone(Command::Rule, words)
+    } else {
+        read_at_chip(name, words, dimensions)
+    }
+}
+
+/// The same, where the first operand is a chip.
+fn read_at_chip(name: &[u8], words: Words, dimensions: usize) -> Result<Command, Refusal>
+    requires dimension { dimensions ≤ 12 }
+    ensures value { result ≡ command_at_chip dimensions name.now (words_left words.entry) }
+{
+    if is(name, b"field") {
         read_field(words, dimensions)
-    } else if name == b"flag".as_slice() {
+    } else if is(name, b"flag") {
         read_flag(words, dimensions)
-    } else if name == b"poke".as_slice() {
+    } else if is(name, b"poke") {
         read_poke(words, dimensions)
-    } else if name == b"pokeflag".as_slice() {
+    } else if is(name, b"pokeflag") {
         read_poke_flag(words, dimensions)
-    } else if name == b"buf".as_slice() {
+    } else if is(name, b"buf") {
         let chip = read_chip(words, dimensions)?;
         Ok(Command::Buffer(chip))
-    } else if name == b"find".as_slice() {
+    } else if is(name, b"find") {
         read_find(words, dimensions)
-    } else if name == b"events".as_slice() {
+    } else if is(name, b"events") {
         let chip = read_chip(words, dimensions)?;
         Ok(Command::Events(chip))
-    } else if name == b"rule".as_slice() {
-        alone(Command::Rule, words)
     } else {
         Err(Refusal::Word)
     }
@@ -105,68 +117,42 @@ fn read_wire(mut words: Words) -> Result<Command, Refusal>
     let (Some(word), None) = (words.next(), words.next()) else {
         return Err(Refusal::Operands);
     };
-    if word == b"on".as_slice() {
+    if is(word, b"on") {
         Ok(Command::WireOn)
-    } else if word == b"off".as_slice() {
+    } else if is(word, b"off") {
         Ok(Command::WireOff)
-    } else if word == b"show".as_slice() {
+    } else if is(word, b"show") {
         Ok(Command::WireShow)
     } else {
         Err(Refusal::Operands)
     }
 }
 
-fn read_field(mut words: Words, dimensions: usize) -> Result<Command, Refusal>
+fn read_field(words: Words, dimensions: usize) -> Result<Command, Refusal>
     requires dimension { dimensions ≤ 12 }
     ensures value { result ≡ field_operands dimensions (words_left words.entry) }
 {
-    let (Some(c), Some(p), Some(at)) = (words.next(), words.next(), words.next()) else {
-        return Err(Refusal::Operands);
-    };
-    let (Some(len), None) = (words.next(), words.next()) else {
-        return Err(Refusal::Operands);
-    };
-    let c = number(c)?;
-    let p = number(p)?;
-    let at = number(at)?;
-    let len = number(len)?;
+    let (c, p, at, len) = four_numbers(words)?;
     let place = place(c, p, dimensions)?;
     let field = field(at, len)?;
     Ok(Command::Field(place, field))
 }
 
-fn read_flag(mut words: Words, dimensions: usize) -> Result<Command, Refusal>
+fn read_flag(words: Words, dimensions: usize) -> Result<Command, Refusal>
     requires dimension { dimensions ≤ 12 }
-    ensures value { result ≡ flag_of dimensions (words_left words.entry) }
+    ensures value { result ≡ flag_operands dimensions (words_left words.entry) }
 {
-    let (Some(c), Some(p), Some(f)) = (words.next(), words.next(), words.next()) else {
-        return Err(Refusal::Operands);
-    };
-    if words.next().is_some() {
-        return Err(Refusal::Operands);
-    }
-    let c = number(c)?;
-    let p = number(p)?;
-    let f = number(f)?;
+    let (c, p, f) = three_numbers(words)?;
     let place = place(c, p, dimensions)?;
     let flag = flag(f)?;
     Ok(Command::Flag(place, flag))
 }
 
-fn read_poke(mut words: Words, dimensions: usize) -> Result<Command, Refusal>
+fn read_poke(words: Words, dimensions: usize) -> Result<Command, Refusal>
     requires dimension { dimensions ≤ 12 }
-    ensures value { result ≡ poke_of dimensions (words_left words.entry) }
+    ensures value { result ≡ poke_operands dimensions (words_left words.entry) }
 {
-    let (Some(c), Some(p), Some(at)) = (words.next(), words.next(), words.next()) else {
-        return Err(Refusal::Operands);
-    };
-    let (Some(b), None) = (words.next(), words.next()) else {
-        return Err(Refusal::Operands);
-    };
-    let c = number(c)?;
-    let p = number(p)?;
-    let at = number(at)?;
-    let b = number(b)?;
+    let (c, p, at, b) = four_numbers(words)?;
     let place = place(c, p, dimensions)?;
     let address = address(at)?;
     let bit = bit(b)?;
@@ -174,20 +160,11 @@ fn read_poke(mut words: Words, dimensions: usize) -> Result<Command, Refusal>
 }
 
 /// That the flag is not flag 8 is asked last.
-fn read_poke_flag(mut words: Words, dimensions: usize) -> Result<Command, Refusal>
+fn read_poke_flag(words: Words, dimensions: usize) -> Result<Command, Refusal>
     requires dimension { dimensions ≤ 12 }
-    ensures value { result ≡ poke_flag_of dimensions (words_left words.entry) }
+    ensures value { result ≡ poke_flag_operands dimensions (words_left words.entry) }
 {
-    let (Some(c), Some(p), Some(f)) = (words.next(), words.next(), words.next()) else {
-        return Err(Refusal::Operands);
-    };
-    let (Some(b), None) = (words.next(), words.next()) else {
-        return Err(Refusal::Operands);
-    };
-    let c = number(c)?;
-    let p = number(p)?;
-    let f = number(f)?;
-    let b = number(b)?;
+    let (c, p, f, b) = four_numbers(words)?;
     let place = place(c, p, dimensions)?;
     let flag = flag(f)?;
     let bit = bit(b)?;
@@ -207,23 +184,55 @@ fn read_chip(mut words: Words, dimensions: usize) -> Result<u16, Refusal>
 }
 
 /// The processor that sent a message, and the message's birth, which is any number.
-fn read_find(mut words: Words, dimensions: usize) -> Result<Command, Refusal>
+fn read_find(words: Words, dimensions: usize) -> Result<Command, Refusal>
     requires dimension { dimensions ≤ 12 }
-    ensures value { result ≡ find_of dimensions (words_left words.entry) }
+    ensures value { result ≡ find_operands dimensions (words_left words.entry) }
 {
-    let (Some(c), Some(p), Some(b)) = (words.next(), words.next(), words.next()) else {
-        return Err(Refusal::Operands);
-    };
-    if words.next().is_some() {
-        return Err(Refusal::Operands);
-    }
-    let c = number(c)?;
-    let p = number(p)?;
-    let birth = number(b)?;
+    let (c, p, birth) = three_numbers(words)?;
     let origin = place(c, p, dimensions)?;
     Ok(Command::Find(Tag {
         chip: origin.chip,
         proc: origin.proc,
         birth,
     }))
+}
+
+/// The numbers of three words, of which there are no more.
+fn three_numbers(mut words: Words) -> Result<(u64, u64, u64), Refusal>
+    ensures value { result ≡ three_numbers (words_left words.entry) }
+{
+    let (Some(a), Some(b), Some(c)) = (words.next(), words.next(), words.next()) else {
+        return Err(Refusal::Operands);
+    };
+    if words.next().is_some() {
+        return Err(Refusal::Operands);
+    }
+    let a = number(a)?;
+    let b = number(b)?;
+    let c = number(c)?;
+    Ok((a, b, c))
+}
+
+/// The numbers of four words, of which there are no more.
+fn four_numbers(mut words: Words) -> Result<(u64, u64, u64, u64), Refusal>
+    ensures value { result ≡ four_numbers (words_left words.entry) }
+{
+    let (Some(a), Some(b), Some(c)) = (words.next(), words.next(), words.next()) else {
+        return Err(Refusal::Operands);
+    };
+    let (Some(d), None) = (words.next(), words.next()) else {
+        return Err(Refusal::Operands);
+    };
+    let a = number(a)?;
+    let b = number(b)?;
+    let c = number(c)?;
+    let d = number(d)?;
+    Ok((a, b, c, d))
+}
+
+/// Whether a word is this one.
+fn is(word: &[u8], other: &[u8]) -> bool
+    ensures value { result ≡ bytes_eq word.now other.now }
+{
+    word == other
 }

@@ -9,9 +9,10 @@ use Rattle.cm_session.specs.declared.command.Command.{Command}
 use Rattle.cm_session.specs.declared.command.Command.TheVariants as command
 use Rattle.cm_session.specs.declared.command.Refusal.{Refusal}
 use Rattle.cm_session.specs.declared.command.Refusal.TheVariants.{Range, ZeroFlag}
-use Rattle.cm_session.specs.Operands.{◌>>=◌, number_in_word, below_limit, one_bit, place, command_field_unless, pokeable}
-use Rattle.cm_session.specs.Commands.{command_alone, index_of, wire_operand, field_operands, flag_of, poke_of, poke_flag_of}
-use Rattle.cm_session.specs.Commands.{chip_operand, find_of, command_named}
+use Rattle.cm_session.specs.Operands.{◌>>=◌, number_in_word, three_numbers, four_numbers, below_limit, one_bit, place}
+use Rattle.cm_session.specs.Operands.{command_field_unless, pokeable}
+use Rattle.cm_session.specs.Commands.{command_alone, index_of, wire_operand, field_at, flag_at, poke_at, poke_flag_at}
+use Rattle.cm_session.specs.Commands.{chip_operand, find_by, command_at_chip, command_named}
 use Rattle.cm_session.specs.Bounds.{IsFor}
 
 -- ---- one step after another
@@ -75,68 +76,53 @@ wire_is_for n count (word ∷ []) =
     (if_either (bytes_eq word (codes "show")) _ _ _ tt tt))
 wire_is_for n count (word ∷ next ∷ words) = tt
 
-field_is_for : (n count : ℕ) (words : List (List ℕ)) → IfOk (field_operands n words) (IsFor n count)
-field_is_for n count [] = tt
-field_is_for n count (c ∷ []) = tt
-field_is_for n count (c ∷ p ∷ []) = tt
-field_is_for n count (c ∷ p ∷ a ∷ []) = tt
-field_is_for n count (c ∷ p ∷ a ∷ l ∷ []) =
-    then_any (number_in_word c) _ _ (λ c'. then_any (number_in_word p) _ _ (λ p'.
-    then_any (number_in_word a) _ _ (λ a'. then_any (number_in_word l) _ _ (λ l'.
-    then_by (place n c' p') _ (λ there. there.chip < 2 ^ n) _ (place_is_inside n c' p') (λ there is.
-    then_any (command_field_unless a' l' (field_fault a' l')) _ _ (λ bits. is))))))
-field_is_for n count (c ∷ p ∷ a ∷ l ∷ next ∷ words) = tt
+field_is_for : (n count : ℕ) (numbers : ℕ × ℕ × ℕ × ℕ) → IfOk (field_at n numbers) (IsFor n count)
+field_is_for n count (c, p, a, l) =
+    then_by (place n c p) _ (λ there. there.chip < 2 ^ n) _ (place_is_inside n c p) (λ there is.
+    then_any (command_field_unless a l (field_fault a l)) _ _ (λ bits. is))
 
-flag_is_for : (n count : ℕ) (words : List (List ℕ)) → IfOk (flag_of n words) (IsFor n count)
-flag_is_for n count [] = tt
-flag_is_for n count (c ∷ []) = tt
-flag_is_for n count (c ∷ p ∷ []) = tt
-flag_is_for n count (c ∷ p ∷ f ∷ []) =
-    then_any (number_in_word c) _ _ (λ c'. then_any (number_in_word p) _ _ (λ p'. then_any (number_in_word f) _ _ (λ f'.
-    then_by (place n c' p') _ (λ there. there.chip < 2 ^ n) _ (place_is_inside n c' p') (λ there is.
-    then_any (below_limit 16 f') _ _ (λ flag. is)))))
-flag_is_for n count (c ∷ p ∷ f ∷ next ∷ words) = tt
+flag_is_for : (n count : ℕ) (numbers : ℕ × ℕ × ℕ) → IfOk (flag_at n numbers) (IsFor n count)
+flag_is_for n count (c, p, f) =
+    then_by (place n c p) _ (λ there. there.chip < 2 ^ n) _ (place_is_inside n c p) (λ there is.
+    then_any (below_limit 16 f) _ _ (λ flag. is))
 
-poke_is_for : (n count : ℕ) (words : List (List ℕ)) → IfOk (poke_of n words) (IsFor n count)
-poke_is_for n count [] = tt
-poke_is_for n count (c ∷ []) = tt
-poke_is_for n count (c ∷ p ∷ []) = tt
-poke_is_for n count (c ∷ p ∷ a ∷ []) = tt
-poke_is_for n count (c ∷ p ∷ a ∷ b ∷ []) =
-    then_any (number_in_word c) _ _ (λ c'. then_any (number_in_word p) _ _ (λ p'.
-    then_any (number_in_word a) _ _ (λ a'. then_any (number_in_word b) _ _ (λ b'.
-    then_by (place n c' p') _ (λ there. there.chip < 2 ^ n) _ (place_is_inside n c' p') (λ there is.
-    then_any (below_limit 4096 a') _ _ (λ address. then_any (one_bit b') _ _ (λ bit. is)))))))
-poke_is_for n count (c ∷ p ∷ a ∷ b ∷ next ∷ words) = tt
+poke_is_for : (n count : ℕ) (numbers : ℕ × ℕ × ℕ × ℕ) → IfOk (poke_at n numbers) (IsFor n count)
+poke_is_for n count (c, p, a, b) =
+    then_by (place n c p) _ (λ there. there.chip < 2 ^ n) _ (place_is_inside n c p) (λ there is.
+    then_any (below_limit 4096 a) _ _ (λ address. then_any (one_bit b) _ _ (λ bit. is)))
 
-poke_flag_is_for : (n count : ℕ) (words : List (List ℕ)) → IfOk (poke_flag_of n words) (IsFor n count)
-poke_flag_is_for n count [] = tt
-poke_flag_is_for n count (c ∷ []) = tt
-poke_flag_is_for n count (c ∷ p ∷ []) = tt
-poke_flag_is_for n count (c ∷ p ∷ f ∷ []) = tt
-poke_flag_is_for n count (c ∷ p ∷ f ∷ b ∷ []) =
-    then_any (number_in_word c) _ _ (λ c'. then_any (number_in_word p) _ _ (λ p'.
-    then_any (number_in_word f) _ _ (λ f'. then_any (number_in_word b) _ _ (λ b'.
-    then_by (place n c' p') _ (λ there. there.chip < 2 ^ n) _ (place_is_inside n c' p') (λ there is.
-    then_any (below_limit 16 f') _ _ (λ flag. then_any (one_bit b') _ _ (λ bit.
-    then_by (pokeable flag) _ (λ poked. poked ≢ ZERO) _ (pokeable_is_not_zero flag) (λ poked other. (is, other)))))))))
-poke_flag_is_for n count (c ∷ p ∷ f ∷ b ∷ next ∷ words) = tt
+poke_flag_is_for : (n count : ℕ) (numbers : ℕ × ℕ × ℕ × ℕ) → IfOk (poke_flag_at n numbers) (IsFor n count)
+poke_flag_is_for n count (c, p, f, b) =
+    then_by (place n c p) _ (λ there. there.chip < 2 ^ n) _ (place_is_inside n c p) (λ there is.
+    then_any (below_limit 16 f) _ _ (λ flag. then_any (one_bit b) _ _ (λ bit.
+    then_by (pokeable flag) _ (λ poked. poked ≢ ZERO) _ (pokeable_is_not_zero flag) (λ poked other. (is, other)))))
+
+find_is_for : (n count : ℕ) (numbers : ℕ × ℕ × ℕ) → IfOk (find_by n numbers) (IsFor n count)
+find_is_for n count (c, p, b) =
+    then_by (place n c p) _ (λ there. there.chip < 2 ^ n) _ (place_is_inside n c p) (λ there is. is)
 
 chip_is_inside : (n : ℕ) (words : List (List ℕ)) → IfOk (chip_operand n words) (λ c. c < 2 ^ n)
 chip_is_inside n [] = tt
 chip_is_inside n (c ∷ []) = then_any (number_in_word c) _ _ (λ c'. below_is_below (2 ^ n) c')
 chip_is_inside n (c ∷ next ∷ words) = tt
 
-find_is_for : (n count : ℕ) (words : List (List ℕ)) → IfOk (find_of n words) (IsFor n count)
-find_is_for n count [] = tt
-find_is_for n count (c ∷ []) = tt
-find_is_for n count (c ∷ p ∷ []) = tt
-find_is_for n count (c ∷ p ∷ b ∷ []) =
-    then_any (number_in_word c) _ _ (λ c'. then_any (number_in_word p) _ _ (λ p'. then_any (number_in_word b) _ _ (λ b'.
-    then_by (place n c' p') _ (λ there. there.chip < 2 ^ n) _ (place_is_inside n c' p') (λ there is. is))))
-find_is_for n count (c ∷ p ∷ b ∷ next ∷ words) = tt
-
 -- ---- a line
+
+-- what a first word and its operands ask for is for the cube, where the first operand is a chip
+at_chip_is_for : (n count : ℕ) (name : List ℕ) (operands : List (List ℕ))
+    → IfOk (command_at_chip n name operands) (IsFor n count)
+at_chip_is_for n count name operands =
+    if_either (bytes_eq name (codes "field")) _ _ _ (then_any (four_numbers operands) _ _ (field_is_for n count))
+    (if_either (bytes_eq name (codes "flag")) _ _ _ (then_any (three_numbers operands) _ _ (flag_is_for n count))
+    (if_either (bytes_eq name (codes "poke")) _ _ _ (then_any (four_numbers operands) _ _ (poke_is_for n count))
+    (if_either (bytes_eq name (codes "pokeflag")) _ _ _
+    (then_any (four_numbers operands) _ _ (poke_flag_is_for n count))
+    (if_either (bytes_eq name (codes "buf")) _ _ _
+    (then_by (chip_operand n operands) _ (λ c. c < 2 ^ n) _ (chip_is_inside n operands) (λ c is. is))
+    (if_either (bytes_eq name (codes "find")) _ _ _ (then_any (three_numbers operands) _ _ (find_is_for n count))
+    (if_either (bytes_eq name (codes "events")) _ _ _
+    (then_by (chip_operand n operands) _ (λ c. c < 2 ^ n) _ (chip_is_inside n operands) (λ c is. is))
+    tt))))))
 
 -- what a first word and its operands ask for is for the cube and the program
 pub named_is_for : (n count : ℕ) (name : List ℕ) (operands : List (List ℕ))
@@ -149,14 +135,5 @@ named_is_for n count name operands =
     (if_either (bytes_eq name (codes "clear")) _ _ _
     (then_by (index_of count operands) _ (λ i. i < count) _ (index_is_below count operands) (λ i is. is))
     (if_either (bytes_eq name (codes "wire")) _ _ _ (wire_is_for n count operands)
-    (if_either (bytes_eq name (codes "field")) _ _ _ (field_is_for n count operands)
-    (if_either (bytes_eq name (codes "flag")) _ _ _ (flag_is_for n count operands)
-    (if_either (bytes_eq name (codes "poke")) _ _ _ (poke_is_for n count operands)
-    (if_either (bytes_eq name (codes "pokeflag")) _ _ _ (poke_flag_is_for n count operands)
-    (if_either (bytes_eq name (codes "buf")) _ _ _
-    (then_by (chip_operand n operands) _ (λ c. c < 2 ^ n) _ (chip_is_inside n operands) (λ c is. is))
-    (if_either (bytes_eq name (codes "find")) _ _ _ (find_is_for n count operands)
-    (if_either (bytes_eq name (codes "events")) _ _ _
-    (then_by (chip_operand n operands) _ (λ c. c < 2 ^ n) _ (chip_is_inside n operands) (λ c is. is))
     (if_either (bytes_eq name (codes "rule")) _ _ _ (alone_is_for n count command.Rule operands tt)
-    tt))))))))))))
+    (at_chip_is_for n count name operands))))))

@@ -1,5 +1,6 @@
 -- The operands of a session's commands, and the order in which they are judged: ours.
-use Rattle.std.specs.Prelude.{ℕ, ◌^◌, ◌==◌, Bool, nat_lt, if◌then◌else◌, Option, Some, None, Result, Ok, Err, List}
+use Rattle.std.specs.Prelude.{ℕ, ◌^◌, ◌==◌, Bool, nat_lt, if◌then◌else◌, Option, Some, None, Result, Ok, Err}
+use Rattle.std.specs.Prelude.{List, [], ◌∷◌}
 use Rattle.std.specs.Option.{ok_or}
 use Rattle.cm_bits.specs.Span.{Span}
 use Rattle.cm_bits.specs.Text.{number_of}
@@ -8,7 +9,7 @@ use Rattle.cm_bits.specs.declared.field.FieldFault.TheVariants as field
 use Rattle.cm_bits.specs.declared.place.Place.{Place}
 use Rattle.cm_model.specs.Processor.{ZERO}
 use Rattle.cm_session.specs.declared.command.Refusal.{Refusal}
-use Rattle.cm_session.specs.declared.command.Refusal.TheVariants.{Width, Range, ZeroFlag, Number}
+use Rattle.cm_session.specs.declared.command.Refusal.TheVariants.{Operands, Width, Range, ZeroFlag, Number}
 
 infixl 10 ◌>>=◌
 -- what comes after, unless a fault came before
@@ -16,11 +17,26 @@ abbrev pub ◌>>=◌ : {A B : Type 0} → Result A Refusal → (A → Result B R
 (Ok x) >>= f = f x
 (Err refusal) >>= f = Err refusal
 
--- ---- one operand
-
 -- the number that a word writes
 abbrev pub number_in_word : List ℕ → Result ℕ Refusal
 number_in_word word = ok_or (number_of word) Number
+
+-- ---- all operands of a command: each is a number before one is judged by its range
+
+-- the numbers of three words, of which there are no more
+abbrev pub three_numbers : List (List ℕ) → Result (ℕ × ℕ × ℕ) Refusal
+three_numbers (a ∷ b ∷ c ∷ []) =
+    number_in_word a >>= λ a'. number_in_word b >>= λ b'. number_in_word c >>= λ c'. Ok (a', b', c')
+three_numbers _ = Err Operands
+
+-- the numbers of four words, of which there are no more
+abbrev pub four_numbers : List (List ℕ) → Result (ℕ × ℕ × ℕ × ℕ) Refusal
+four_numbers (a ∷ b ∷ c ∷ d ∷ []) =
+    number_in_word a >>= λ a'. number_in_word b >>= λ b'. number_in_word c >>= λ c'. number_in_word d >>= λ d'.
+    Ok (a', b', c', d')
+four_numbers _ = Err Operands
+
+-- ---- one operand by its number
 
 -- a number below a limit
 abbrev pub below_limit : ℕ → ℕ → Result ℕ Refusal

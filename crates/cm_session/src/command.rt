@@ -10,7 +10,7 @@ use cm_model::Tag;
 pub const CLOCK: u64 = 7;
 
 /// What a line asks for.
-#[derive(Clone, Copy, Debug, PartialEq, Eq)]
+#[derive(Clone, Copy, Debug)]
 pub enum Command {
     /// The next act is run.
     Step,
@@ -45,7 +45,7 @@ pub enum Command {
 }
 
 /// Why a line is refused: it changes nothing then, and is answered by the refusal's number.
-#[derive(Clone, Copy, Debug, PartialEq, Eq)]
+#[derive(Clone, Copy, Debug)]
 pub enum Refusal {
     /// A field has 1 to 64 bits.
     Width,
