@@ -83,10 +83,17 @@ bare a b c d new flag help asks =
     (ap app_of_fields help ∙ ap (on_top (λ (s : Shape). record s { disable_help_subcommand = true }))
     (ap app_of_fields flag ∙ ap without_help_flag new))
 
--- the rules of operands, of further ones and of options that are added to none
-pub leaf_rules : (none some more all : List Arg) (operands further options : List Rule) → none ≡ []
-    → map rule_of some ≡ map rule_of none ++ operands → map rule_of more ≡ map rule_of some ++ further
-    → map rule_of all ≡ map rule_of more ++ options → map rule_of all ≡ (operands ++ further) ++ options
-leaf_rules none some more all operands further options empty first second third =
-    third ∙ ap (λ (l : List Rule). l ++ options) (second ∙ ap (λ (l : List Rule). l ++ further)
-    (first ∙ ap (λ (l : List Arg). map rule_of l ++ operands) empty))
+-- the rules of operands, of further ones and of options that are added in turn
+pub leaf_rules : (none some more all operands further options : List Rule) → some ≡ none ++ operands
+    → more ≡ some ++ further → all ≡ more ++ options → all ≡ none ++ ((operands ++ further) ++ options)
+leaf_rules none some more all operands further options first second third =
+    rw (third, second, first) (simp append_assoc)
+
+-- lists that are added to in turn
+pub append-two : {X : Type 0} (none one two : List X) (a b : X) → one ≡ none ++ a ∷ [] → two ≡ one ++ b ∷ []
+    → two ≡ none ++ a ∷ b ∷ []
+append-two none one two a b first second = rw (second, first) (simp append_assoc)
+
+pub append-three : {X : Type 0} (none one two three : List X) (a b c : X) → one ≡ none ++ a ∷ []
+    → two ≡ one ++ b ∷ [] → three ≡ two ++ c ∷ [] → three ≡ none ++ a ∷ b ∷ c ∷ []
+append-three none one two three a b c first second third = rw (third, second, first) (simp append_assoc)

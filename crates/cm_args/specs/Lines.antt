@@ -10,6 +10,8 @@ use Rattle.clap.specs.declared.builder.arg.Arg.{Arg}
 use Rattle.clap.specs.declared.builder.command.Command.{Command}
 use Rattle.clap.specs.declared.parser.matches.ArgMatches.{ArgMatches}
 use Rattle.clap.specs.declared.builder.command.Command.TheViews.{out-Command as fields_of}
+use Rattle.cm_args.specs.declared.app.ArgKind.{ArgKind}
+use Rattle.cm_args.specs.declared.app.ArgKind.TheVariants as kind
 use Rattle.cm_args.specs.declared.line.Line.{Line}
 use Rattle.cm_args.specs.declared.line.Line.TheVariants as line
 
@@ -29,6 +31,17 @@ optional_operand name = new_rule name
 abbrev pub option_with_value : Text → Rule
 option_with_value name = record (new_rule name) { long = Some name }
 
+-- the argument of this kind and this name
+abbrev pub rule_of_kind : ArgKind → Text → Rule
+rule_of_kind kind.Operand = required_operand
+rule_of_kind kind.Further = optional_operand
+rule_of_kind kind.Valued = option_with_value
+
+-- these operands, these that may stand behind them, and these options
+abbrev pub rules_of_leaf : List Text → List Text → List Text → List Rule
+rules_of_leaf operands further options =
+    (map required_operand operands ++ map optional_operand further) ++ map option_with_value options
+
 -- the command with these arguments more, in turn
 abbrev pub with_rules : App → List Rule → App
 with_rules app [] = app
@@ -37,8 +50,7 @@ with_rules app (rule ∷ rules) = with_rules (with_rule app rule) rules
 -- a subcommand of this name, with these operands, these that may stand behind them, and these options
 abbrev pub leaf_app : Text → List Text → List Text → List Text → App
 leaf_app name operands further options =
-    with_rules (without_help_flag (new_app name))
-    ((map required_operand operands ++ map optional_operand further) ++ map option_with_value options)
+    with_rules (without_help_flag (new_app name)) (rules_of_leaf operands further options)
 
 -- the subcommand `chip`, which has no operands and no options
 abbrev pub chip_app : App

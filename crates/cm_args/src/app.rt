@@ -7,10 +7,11 @@ ghost use Rattle.std.specs.Prelude.{◌≡◌, ◌++◌, ◌∷◌, [], map, IfO
 ghost use Rattle.std.specs.List.{All};
 ghost use Rattle.clap.specs.Walk.{rule_of, texts};
 ghost use Rattle.clap.specs.Simple.{app_of, shape_of};
+ghost use Rattle.clap.specs.declared.error.kind.ErrorKind.TheVariants.{OutOfMemory};
 ghost use Rattle.clap.specs.declared.builder.command.Command.TheViews.{out-Command as fields_of};
-ghost use Rattle.cm_args.specs.Lines.{IsTaken, IsRead, IsLocal, IsLocalArg, required_operand, optional_operand};
-ghost use Rattle.cm_args.specs.Lines.{option_with_value};
-ghost use Rattle.cm_args.specs.Lines.{leaf_app, program_app, with_subcommands, bare_app};
+ghost use Rattle.cm_args.specs.Lines.{IsTaken, IsRead, IsLocal, IsLocalArg, rule_of_kind, rules_of_leaf, leaf_app};
+ghost use Rattle.cm_args.specs.Lines.{chip_app, list_app, fresh_app, run_app, weave_app};
+ghost use Rattle.cm_args.specs.Lines.{program_app, with_subcommands, bare_app};
 
 use crate::fault::LineFault;
 use clap::error::ErrorKind;
@@ -38,6 +39,20 @@ pub(crate) const WORKERS: &str = "workers";
 
 pub(crate) const OUT: &str = "out";
 
+/// The names of the arguments of a kind of which a subcommand has none.
+const NONE: &[&str] = &[];
+
+/// The kinds of the arguments of a subcommand.
+#[derive(Clone, Copy)]
+enum ArgKind {
+    /// An operand that must stand there.
+    Operand,
+    /// An operand that may stand there.
+    Further,
+    /// An option that has a value.
+    Valued,
+}
+
 /// What clap finds in the words, by the rules of the program.
 pub(crate) fn matches<'a>(alloc: Global, words: &'a [&'a str]) -> Result<ArgMatches<'a>, LineFault>
     ensures found { IfOk result (IsRead (texts words.now)) }
@@ -45,8 +60,18 @@ pub(crate) fn matches<'a>(alloc: Global, words: &'a [&'a str]) -> Result<ArgMatc
 {
     match program(alloc)?.try_get_matches_from(words) {
         Ok(found) => Ok(found),
-        Err(error) if error.kind() == ErrorKind::OutOfMemory => Err(LineFault::Memory),
-        Err(_) => Err(LineFault::BadLine),
+        Err(error) => Err(fault_of_kind(error.kind())),
+    }
+}
+
+/// The fault of a line in which clap finds an error of this kind.
+fn fault_of_kind(kind: ErrorKind) -> LineFault
+    ensures { result ≡ LineFault.BadLine → ¬ (kind ≡ OutOfMemory) }
+{
+    if kind == ErrorKind::OutOfMemory {
+        LineFault::Memory
+    } else {
+        LineFault::BadLine
     }
 }
 
@@ -55,33 +80,47 @@ pub(crate) fn program<'a>(alloc: Global) -> Result<Command<'a>, AllocError>
     ensures { IfOk result (λ made. app_of made ≡ program_app) }
 {
     let mut leaves = Vec::new(alloc);
-    add_leaf(alloc, &mut leaves, "chip", &[], &[], &[])?;
-    add_leaf(alloc, &mut leaves, "list", &[PROGRAM], &[], &[])?;
+    add_leaves_without_image(alloc, &mut leaves)?;
+    add_leaves_of_image(alloc, &mut leaves)?;
+    program_of(alloc, leaves)
+}
+
+/// Adds the subcommands that read no image.
+fn add_leaves_without_image<'a>(
+    alloc: Global,
+    leaves: &mut Vec<Command<'a>>,
+) -> Result<(), AllocError>
+    ensures added { IfOk result (λ _. map shape_of leaves.new.items
+        ≡ map shape_of leaves.old.items ++ chip_app.top ∷ list_app.top ∷ fresh_app.top ∷ []) }
+    ensures local { All IsLocal leaves.old.items → IfOk result (λ _. All IsLocal leaves.new.items) }
+{
+    add_leaf(alloc, leaves, "chip", NONE, NONE, NONE)?;
+    add_leaf(alloc, leaves, "list", &[PROGRAM], NONE, NONE)?;
+    add_leaf(alloc, leaves, "fresh", &[DIMENSION, ROOM, FILE], NONE, NONE)
+}
+
+/// Adds the subcommands that read an image.
+fn add_leaves_of_image<'a>(alloc: Global, leaves: &mut Vec<Command<'a>>) -> Result<(), AllocError>
+    ensures added { IfOk result (λ _. map shape_of leaves.new.items
+        ≡ map shape_of leaves.old.items ++ run_app.top ∷ weave_app.top ∷ []) }
+    ensures local { All IsLocal leaves.old.items → IfOk result (λ _. All IsLocal leaves.new.items) }
+{
     add_leaf(
         alloc,
-        &mut leaves,
-        "fresh",
-        &[DIMENSION, ROOM, FILE],
-        &[],
-        &[],
-    )?;
-    add_leaf(
-        alloc,
-        &mut leaves,
+        leaves,
         "run",
         &[IMAGE, PROGRAM],
-        &[],
+        NONE,
         &[SPLIT, WORKERS, OUT],
     )?;
     add_leaf(
         alloc,
-        &mut leaves,
+        leaves,
         "weave",
         &[IMAGE, PROGRAM],
         &[STEPS],
         &[SPLIT, OUT],
-    )?;
-    program_of(alloc, leaves)
+    )
 }
 
 /// The program with these subcommands.
@@ -127,58 +166,55 @@ fn leaf<'a>(
     ensures local { IfOk result IsLocal }
 {
     let mut arguments = Vec::new(alloc);
-    add_operands(alloc, &mut arguments, operands)?;
-    add_further(alloc, &mut arguments, further)?;
-    add_options(alloc, &mut arguments, options)?;
+    add_arguments(alloc, &mut arguments, operands, further, options)?;
     Command::new(alloc, name)
         .disable_help_flag(true)
         .args(arguments)
 }
 
-/// Adds operands, which must stand there.
-fn add_operands<'a>(
+/// Adds these operands, these that may stand behind them, and these options.
+fn add_arguments<'a>(
+    alloc: Global,
+    arguments: &mut Vec<Arg<'a>>,
+    operands: &[&'a str],
+    further: &[&'a str],
+    options: &[&'a str],
+) -> Result<(), AllocError>
+    ensures rules { IfOk result (λ _. map rule_of arguments.new.items ≡ map rule_of arguments.old.items
+        ++ rules_of_leaf (texts operands.now) (texts further.now) (texts options.now)) }
+    ensures local { All IsLocalArg arguments.old.items → IfOk result (λ _. All IsLocalArg arguments.new.items) }
+{
+    add_each(alloc, arguments, operands, ArgKind::Operand)?;
+    add_each(alloc, arguments, further, ArgKind::Further)?;
+    add_each(alloc, arguments, options, ArgKind::Valued)
+}
+
+/// Adds an argument of this kind for each of these names.
+fn add_each<'a>(
     alloc: Global,
     arguments: &mut Vec<Arg<'a>>,
     names: &[&'a str],
+    kind: ArgKind,
 ) -> Result<(), AllocError>
     ensures rules { IfOk result (λ _. map rule_of arguments.new.items
-        ≡ map rule_of arguments.old.items ++ map required_operand (texts names.now)) }
+        ≡ map rule_of arguments.old.items ++ map (rule_of_kind kind) (texts names.now)) }
     ensures local { All IsLocalArg arguments.old.items → IfOk result (λ _. All IsLocalArg arguments.new.items) }
 {
     for name in names {
-        arguments.push(Arg::new(alloc, *name).required(true))?;
+        arguments.push(argument(alloc, *name, kind))?;
     }
     Ok(())
 }
 
-/// Adds operands, which may stand there.
-fn add_further<'a>(
-    alloc: Global,
-    arguments: &mut Vec<Arg<'a>>,
-    names: &[&'a str],
-) -> Result<(), AllocError>
-    ensures rules { IfOk result (λ _. map rule_of arguments.new.items
-        ≡ map rule_of arguments.old.items ++ map optional_operand (texts names.now)) }
-    ensures local { All IsLocalArg arguments.old.items → IfOk result (λ _. All IsLocalArg arguments.new.items) }
+/// An argument of this name and this kind.
+fn argument<'a>(alloc: Global, name: &'a str, kind: ArgKind) -> Arg<'a>
+    ensures rule { rule_of result ≡ rule_of_kind kind name.entry.now }
+    ensures local { IsLocalArg result }
 {
-    for name in names {
-        arguments.push(Arg::new(alloc, *name))?;
+    let argument = Arg::new(alloc, name);
+    match kind {
+        ArgKind::Operand => argument.required(true),
+        ArgKind::Further => argument,
+        ArgKind::Valued => argument.long(name),
     }
-    Ok(())
-}
-
-/// Adds options, which have a value each.
-fn add_options<'a>(
-    alloc: Global,
-    arguments: &mut Vec<Arg<'a>>,
-    names: &[&'a str],
-) -> Result<(), AllocError>
-    ensures rules { IfOk result (λ _. map rule_of arguments.new.items
-        ≡ map rule_of arguments.old.items ++ map option_with_value (texts names.now)) }
-    ensures local { All IsLocalArg arguments.old.items → IfOk result (λ _. All IsLocalArg arguments.new.items) }
-{
-    for name in names {
-        arguments.push(Arg::new(alloc, *name).long(*name))?;
-    }
-    Ok(())
 }

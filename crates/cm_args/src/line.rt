@@ -1,4 +1,4 @@
-ghost use Rattle.std.specs.Prelude.{◌≡◌, ℕ, List, Option, None, IfOk, IfSome, IsErrOf};
+ghost use Rattle.std.specs.Prelude.{◌≡◌, ◌⊎◌, ℕ, List, Option, Some, None, IfOk, IfSome, IsErrOf};
 ghost use Rattle.std.specs.Prelude.{codes, option_map, string_bytes};
 ghost use Rattle.clap.specs.Walk.{first_of, rows_of, texts};
 ghost use Rattle.clap.specs.Matches.{found_of};
@@ -11,7 +11,7 @@ use clap::ArgMatches;
 use std::alloc::{AllocError, Global};
 
 /// What the program is asked to do.
-#[derive(Debug, PartialEq, Eq, Drop)]
+#[derive(Debug, Drop)]
 pub enum Line {
     /// `chip`: reads the text of one chip from standard input, and writes its answers to standard
     /// output.
@@ -59,11 +59,23 @@ pub fn command<'a>(alloc: Global, words: &'a [&'a str]) -> Result<Line, LineFaul
 {
     let matches = matches(alloc, words)?;
     match matches.subcommand() {
-        Some(("chip", _)) => Ok(Line::Chip),
-        Some(("list", operands)) => list_line(alloc, operands),
-        Some(("fresh", operands)) => fresh_line(alloc, operands),
-        Some(("run", operands)) => run_line(alloc, operands),
-        Some(("weave", operands)) => weave_line(alloc, operands),
+        Some((name, operands)) => line_of(alloc, name, operands),
+        None => Err(LineFault::BadLine),
+    }
+}
+
+/// The line of the subcommand of this name, by what was found for its arguments.
+fn line_of(alloc: Global, name: &str, operands: &ArgMatches) -> Result<Line, LineFault>
+    ensures value { IfOk result (λ line. IsLine line (name.now, rows_of (found_of operands.now))) }
+    ensures none { IsErrOf result LineFault.BadLine
+        → (line : Line) → ¬ IsLine line (name.now, rows_of (found_of operands.now)) }
+{
+    match name {
+        "chip" => Ok(Line::Chip),
+        "list" => list_line(alloc, operands),
+        "fresh" => fresh_line(alloc, operands),
+        "run" => run_line(alloc, operands),
+        "weave" => weave_line(alloc, operands),
         _ => Err(LineFault::BadLine),
     }
 }
@@ -74,12 +86,9 @@ fn list_line(alloc: Global, operands: &ArgMatches) -> Result<Line, LineFault>
     ensures none { IsErrOf result LineFault.BadLine
         → first_of (codes "program") (rows_of (found_of operands.now)) ≡ None }
 {
-    match operands.get_str(PROGRAM) {
-        Some(program) => Ok(Line::List {
-            program: String::from_str(alloc, program)?,
-        }),
-        None => Err(LineFault::BadLine),
-    }
+    Ok(Line::List {
+        program: file_operand(alloc, operands, PROGRAM)?,
+    })
 }
 
 /// The line of `fresh`, by what was found for its operands.
@@ -94,13 +103,10 @@ fn fresh_line(alloc: Global, operands: &ArgMatches) -> Result<Line, LineFault>
     let Some(cap) = number_operand(operands, ROOM, 1, 15) else {
         return Err(LineFault::BadLine);
     };
-    let Some(file) = operands.get_str(FILE) else {
-        return Err(LineFault::BadLine);
-    };
     Ok(Line::Fresh {
         n,
         cap,
-        file: String::from_str(alloc, file)?,
+        file: file_operand(alloc, operands, FILE)?,
     })
 }
 
@@ -111,21 +117,16 @@ fn run_line(alloc: Global, operands: &ArgMatches) -> Result<Line, LineFault>
         → (image : List ℕ) (program : List ℕ) (split : ℕ) (workers : ℕ) (out : Option (List ℕ))
         → ¬ IsRunLine image program split workers out (rows_of (found_of operands.now)) }
 {
-    let Some(image) = operands.get_str(IMAGE) else {
-        return Err(LineFault::BadLine);
-    };
-    let Some(program) = operands.get_str(PROGRAM) else {
-        return Err(LineFault::BadLine);
-    };
     let Some(split) = number_option(operands, SPLIT, 0, 6, 0) else {
         return Err(LineFault::BadLine);
     };
     let Some(workers) = number_option(operands, WORKERS, 1, 64, 1) else {
         return Err(LineFault::BadLine);
     };
+    let (image, program) = image_and_program(alloc, operands)?;
     Ok(Line::Run {
-        image: String::from_str(alloc, image)?,
-        program: String::from_str(alloc, program)?,
+        image,
+        program,
         split,
         workers,
         out: file_if_named(alloc, operands, OUT)?,
@@ -139,22 +140,39 @@ fn weave_line(alloc: Global, operands: &ArgMatches) -> Result<Line, LineFault>
         → (image : List ℕ) (program : List ℕ) (steps : Option (List ℕ)) (split : ℕ) (out : Option (List ℕ))
         → ¬ IsWeaveLine image program steps split out (rows_of (found_of operands.now)) }
 {
-    let Some(image) = operands.get_str(IMAGE) else {
-        return Err(LineFault::BadLine);
-    };
-    let Some(program) = operands.get_str(PROGRAM) else {
-        return Err(LineFault::BadLine);
-    };
     let Some(split) = number_option(operands, SPLIT, 0, 6, 0) else {
         return Err(LineFault::BadLine);
     };
+    let (image, program) = image_and_program(alloc, operands)?;
     Ok(Line::Weave {
-        image: String::from_str(alloc, image)?,
-        program: String::from_str(alloc, program)?,
+        image,
+        program,
         steps: file_if_named(alloc, operands, STEPS)?,
         split,
         out: file_if_named(alloc, operands, OUT)?,
     })
+}
+
+/// The names of the files of an image and of a program that were found for two operands.
+fn image_and_program(alloc: Global, operands: &ArgMatches) -> Result<(String, String), LineFault>
+    ensures value { IfOk result (λ files.
+        (first_of (codes "image") (rows_of (found_of operands.now)) ≡ Some (string_bytes files.0))
+        × (first_of (codes "program") (rows_of (found_of operands.now)) ≡ Some (string_bytes files.1))) }
+    ensures none { IsErrOf result LineFault.BadLine
+        → (first_of (codes "image") (rows_of (found_of operands.now)) ≡ None)
+        ⊎ (first_of (codes "program") (rows_of (found_of operands.now)) ≡ None) }
+{
+    let image = file_operand(alloc, operands, IMAGE)?;
+    Ok((image, file_operand(alloc, operands, PROGRAM)?))
+}
+
+/// The name of a file that was found for an operand.
+fn file_operand(alloc: Global, operands: &ArgMatches, name: &str) -> Result<String, LineFault>
+    ensures value { IfOk result
+        (λ file. first_of name.now (rows_of (found_of operands.now)) ≡ Some (string_bytes file)) }
+    ensures none { IsErrOf result LineFault.BadLine → first_of name.now (rows_of (found_of operands.now)) ≡ None }
+{
+    file_if_named(alloc, operands, name)?.ok_or(LineFault::BadLine)
 }
 
 /// The name of a file that was found, if one was.

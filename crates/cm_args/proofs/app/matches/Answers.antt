@@ -1,16 +1,14 @@
-use Rattle.std.proofs.Common.{◌≡◌, List, [], true, false, refl, subst, ap, ◌∙◌, inl, inr}
-use denote.Enum.Bare.{sameb}
+use Rattle.std.proofs.Common.{◌≡◌, List, [], true, refl, subst, ◌∙◌, inl, inr}
 use Rattle.clap.specs.Walk.{Text, texts}
 use Rattle.clap.specs.Simple.{App, HasMatchesOf, is_simple}
 use Rattle.clap.specs.Faults.{fault_of, is_simple_and_free}
 use Rattle.clap.specs.Kinds.{HasKind, IsAmong, Kinds}
 use Rattle.clap.specs.Values.{kind_of}
 use Rattle.clap.specs.declared.error.Error.{Error}
-use Rattle.clap.specs.contracts.error.kind.ErrorKind.{the_type}
-use Rattle.clap.specs.declared.error.kind.ErrorKind.{ErrorKind}
 use Rattle.clap.specs.declared.error.kind.ErrorKind.TheVariants as kind
 use Rattle.clap.specs.declared.parser.matches.ArgMatches.{ArgMatches}
 use Rattle.clap.proofs.OnLiterals.{clap_on_literals}
+use Rattle.cm_args.specs.declared.fault.LineFault.TheVariants as fault
 use Rattle.cm_args.specs.Lines.{IsRead, IsTaken, program_app}
 use Rattle.cm_args.proofs.app.matches.Goals as goal
 
@@ -46,9 +44,8 @@ pub returns-in-Ok-clause-found : goal.returns-in-Ok-clause-found
 returns-in-Ok-clause-found c =
     read _ (texts c.args.words.now) c.in-Ok.found c.in_ok-program.ensures c.in-Ok.ensures.kinds c.in-Ok.ensures.matches
 
-pub returns-clause-bad_line : goal.returns-clause-bad_line
-returns-clause-bad_line c = λ e taken.
-    let memory : kind_of c.in-Err.error ≡ kind.OutOfMemory =
-    not_taken _ (texts c.args.words.now) c.in-Err.error c.in_ok-program.ensures c.in-Err.ensures.kinds taken in
-    let wrong : false ≡ true = c.if-eq.ensures
-    ∙ ap (λ (k : ErrorKind). sameb the_type k kind.OutOfMemory) (c.kind.ensures ∙ memory) in absurd (cc)
+pub returns-in-Err-clause-bad_line : goal.returns-in-Err-clause-bad_line
+returns-in-Err-clause-bad_line c = λ e taken.
+    let bad : c.fault_of_kind.result ≡ fault.BadLine = cc in
+    c.fault_of_kind.ensures bad (c.kind.ensures
+    ∙ not_taken _ (texts c.args.words.now) c.in-Err.error c.in_ok-program.ensures c.in-Err.ensures.kinds taken)

@@ -1,0 +1,9 @@
+use Rattle.std.proofs.lemmas.Result.{IfOk-weaker}
+use Rattle.cm_args.proofs.Rules.{append-three}
+use Rattle.cm_args.proofs.app.add_leaves_without_image.Goals as goal
+
+pub returns-clause-added : goal.returns-clause-added
+returns-clause-added c =
+    IfOk-weaker c.add_leaf-3.result _ _
+    (λ u added. append-three _ _ _ _ _ _ _ c.in_ok-add_leaf.ensures.added c.in_ok-add_leaf-2.ensures.added added)
+    c.add_leaf-3.ensures.added
