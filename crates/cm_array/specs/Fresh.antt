@@ -1,11 +1,26 @@
 -- The state of chips that are blank, and a copy of a state. Ours.
 use Rattle.std.specs.Prelude.{◌≡◌, ℕ, IsTrue, [], length}
 use Rattle.cm_model.specs.Chip.{blank_chip}
+use Rattle.cm_model.specs.Array.{Chips}
 use Rattle.cm_model.specs.Each.{tabulate}
 use Rattle.cm_model.specs.Wiring.{plain_routing}
 use Rattle.cm_router.specs.Routes.{routing_of}
+use Rattle.cm_router.specs.declared.routing.Routing.{Routing}
+use Rattle.cm_router_engine.specs.Standing.{InFlight}
 use Rattle.cm_petit.specs.Routers.{events_of}
 use Rattle.cm_array.specs.declared.chip_state.ChipState.{ChipState}
+
+-- these chips and messages at a count of petit cycles, with working room for each chip, and without a log or an event
+pub record IsStateOf (these : Chips) (cycles : ℕ) (messages : InFlight) (wires : Routing)
+    (state : ChipState) : Type 0 where
+  pub chips : state.run ≡ these
+  pub logs : state.logs.items ≡ []
+  pub row : state.row.items ≡ []
+  pub clock : state.clock ≡ cycles
+  pub sent : length state.sent.items ≡ length these
+  pub incoming : length state.incoming.items ≡ length these
+  pub crossing : state.crossing ≡ messages
+  pub routing : state.routing ≡ wires
 
 -- so many blank chips of a machine of n dimensions and room cap, after so many petit cycles
 pub record IsBlankState (n cap count cycles : ℕ) (state : ChipState) : Type 0 where

@@ -10,7 +10,7 @@ use std::marker::{Model, PhantomData};
 /// A machine of any sizes, of which its type tells nothing.
 ///
 /// Contracts see its sizes beside the machine.
-#[derive(Debug, Drop)]
+#[derive(Drop)]
 pub struct AnyMachine {
     state: ChipState,
 }

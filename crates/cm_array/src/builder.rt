@@ -1,13 +1,15 @@
 //! A machine that is built of planes and messages.
 
 ghost use Rattle.std.specs.Prelude.{◌≡◌, ◌≢◌, ℕ, ◌+◌, ◌*◌, ◌^◌, ◌<◌, ◌≤◌, ◌↔◌, IfOk, IfErr, IfSome, IsErrOf, IsOk};
-ghost use Rattle.std.specs.Prelude.{IsOkUnless, IsTrue, None, Some, length, slice_index};
+ghost use Rattle.std.specs.Prelude.{IsOkUnless, IsTrue, OnOk, None, Some, false, length, slice_index};
 ghost use Rattle.cm_model.specs.Processor.{ZERO};
 ghost use Rattle.cm_model.specs.Array.{nth_or_nil};
 ghost use Rattle.cm_model.specs.Machine.{blank_machine};
 ghost use Rattle.cm_model.specs.Keeping.{IsMessage, AreSizes};
+ghost use Rattle.cm_model.specs.Unlogged.{standing_messages, has_tag_twice};
 ghost use Rattle.cm_element.specs.Runs.{chips_beside};
 ghost use Rattle.cm_array.specs.Faults.{size_fault, build_fault};
+ghost use Rattle.cm_array.specs.Parts.{machine_of};
 ghost use Rattle.cm_array.specs.Pokes.{machine_with_plane, machine_with_flag_plane, machine_with_chips};
 ghost use Rattle.cm_array.specs.Pokes.{machine_with_message, machine_with_cut, machine_with_rule};
 
@@ -51,7 +53,7 @@ pub type Builder<const N: usize, const CAP: usize> = BuilderOf<Fixed<N, CAP>>;
 /// tag.
 ///
 /// Contracts see the machine that it is so far.
-#[derive(Debug, Drop)]
+#[derive(Drop)]
 pub struct BuilderOf<S: Sizes> {
     /// The chips, by number.
     run: NearRun,
@@ -99,8 +101,7 @@ impl<S: Sizes> BuilderOf<S> {
     {
         let machine = MachineOf::<S>::blank_at(alloc, n, cap, clock)?;
         let mut state = machine.state;
-        let far = mem::replace(&mut state.run, Run::blank(alloc, 0)?);
-        let run = NearRun::of(alloc, far, 1 << n)?;
+        let run = take_near(alloc, &mut state.run, 1 << n)?;
         Ok(BuilderOf {
             run,
             state,
@@ -215,15 +216,35 @@ impl<S: Sizes> BuilderOf<S> {
         let mut state = self.state;
         state.run = self.run.into_run();
         state.crossing.gather();
-        let alloc = *state.logs.allocator();
-        if has_tag_twice(alloc, &state.crossing)? {
-            return Err(BuildFault::TagTwice);
-        }
+        refuse_tag_twice(&state)?;
         Ok(MachineOf {
             state,
             sizes: PhantomData,
         })
     }
+}
+
+/// Refuses messages of which two have one tag.
+fn refuse_tag_twice(state: &ChipState) -> Result<(), BuildFault>
+    requires gathered { IsTrue state.now.crossing.gathered }
+    ensures ok { OnOk result (has_tag_twice (standing_messages (machine_of state.now)) ≡ false) }
+    ensures refused { IfErr result (λ fault. fault ≢ BuildFault.Memory
+        → build_fault (machine_of state.now) ≡ Some fault) }
+{
+    let alloc = *state.logs.allocator();
+    if has_tag_twice(alloc, &state.crossing)? {
+        return Err(BuildFault::TagTwice);
+    }
+    Ok(())
+}
+
+/// Takes so many chips, which are all, out of a run, to fill them near.
+fn take_near(alloc: Global, run: &mut Run, chips: u16) -> Result<NearRun, NoMemory>
+    requires all { chips ≡ length run.old }
+    ensures value { IfOk result (λ near. near ≡ run.old) }
+{
+    let far = mem::replace(run, Run::blank(alloc, 0)?);
+    NearRun::of(alloc, far, chips)
 }
 
 /// Nothing is done: a message between chips of the cube is one of the cube, since its other numbers cannot be

@@ -10,7 +10,7 @@ ghost use Rattle.cm_model.specs.Buffers.{after_act};
 ghost use Rattle.cm_router.specs.Logs.{log_room, log_rooms_of, HaveLogRoom};
 ghost use Rattle.cm_petit.specs.Routers.{events_of};
 ghost use Rattle.cm_array.specs.Acts.{cycles_in, is_instruction};
-ghost use Rattle.cm_array.specs.Fresh.{IsBlankState, IsCopy};
+ghost use Rattle.cm_array.specs.Fresh.{IsBlankState, IsCopy, IsStateOf};
 ghost use Rattle.cm_array.specs.Parts.{machine_of, view_of, AreParts, AreUnderWay, LacksLogRoom};
 
 use crate::stepping::step;
@@ -25,7 +25,6 @@ use std::alloc::Global;
 
 /// The state of some chips of a machine, or of all, and the working room of instructions and petit cycles, so that
 /// these take no memory.
-#[derive(Debug)]
 pub(crate) struct ChipState {
     /// Of which machine the chips are.
     pub(crate) shape: Shape,
@@ -79,43 +78,47 @@ impl ChipState {
     {
         let count = usize::from(chips);
         let run = Run::blank(alloc, chips)?;
-        let logs = blank_logs(alloc, count)?;
-        let row = Vec::new(alloc);
-        let sent = blank_planes(alloc, count)?;
-        let incoming = blank_planes(alloc, count)?;
         let crossing = RouterEngine::new(alloc, count)?;
         let routing = Routing::plain(alloc, shape.dims)?;
-        Ok(ChipState {
-            shape,
-            run,
-            logs,
-            row,
-            clock,
-            sent,
-            incoming,
-            crossing,
-            routing,
-        })
+        let mut state = ChipState::of(alloc, shape, run, clock, crossing, routing)?;
+        state.logs = blank_logs(alloc, count)?;
+        Ok(state)
     }
 
     /// The same once more, with working room of its own.
     pub(crate) fn copy(&self, alloc: Global) -> Result<ChipState, NoMemory>
         ensures value { IfOk result (λ copy. IsCopy self.now copy) }
     {
-        let count = self.run.chips();
         let run = self.run.copy(alloc)?;
-        let logs = copied_logs(alloc, &self.logs)?;
-        let row = self.row.to_vec(alloc)?;
-        let sent = blank_planes(alloc, count)?;
-        let incoming = blank_planes(alloc, count)?;
         let crossing = self.crossing.copy(alloc)?;
         let routing = self.routing.copy()?;
+        let mut copy = ChipState::of(alloc, self.shape, run, self.clock, crossing, routing)?;
+        copy.logs = copied_logs(alloc, &self.logs)?;
+        copy.row = self.row.to_vec(alloc)?;
+        Ok(copy)
+    }
+
+    /// The state of these chips and messages, with working room, and without a log or an event.
+    fn of(
+        alloc: Global,
+        shape: Shape,
+        run: Run,
+        clock: u64,
+        crossing: RouterEngine,
+        routing: Routing,
+    ) -> Result<ChipState, NoMemory>
+        ensures value { IfOk result (λ state. IsStateOf run clock crossing routing state) }
+        ensures shape { IfOk result (λ state. state.shape ≡ shape) }
+    {
+        let count = run.chips();
+        let sent = blank_planes(alloc, count)?;
+        let incoming = blank_planes(alloc, count)?;
         Ok(ChipState {
-            shape: self.shape,
+            shape,
             run,
-            logs,
-            row,
-            clock: self.clock,
+            logs: Vec::new(alloc),
+            row: Vec::new(alloc),
+            clock,
             sent,
             incoming,
             crossing,

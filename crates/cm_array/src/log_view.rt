@@ -12,7 +12,7 @@ use std::marker::Model;
 /// dealt out yet.
 ///
 /// Contracts see its events, the oldest first.
-#[derive(Debug, Drop)]
+#[derive(Drop)]
 pub struct Log<'a> {
     chip: u16,
     dealt: &'a [Event],

@@ -25,7 +25,7 @@ use crate::chip_state::{ChipState, blank_logs};
 use crate::finding::{delivered_to, router_of, told_in};
 use crate::limits::{MOST_DIMENSIONS, MOST_ROOM};
 use crate::log_view::Log;
-use crate::part::{Part, room_for};
+use crate::part::{Part, exchange_all, room_for};
 use crate::put::{IntoPart, keep};
 use crate::row::{deal_out, has_events};
 use crate::saved_logs::{InTurn, LogAppender, SavedLogs};
@@ -74,7 +74,7 @@ pub type Machine<const N: usize, const CAP: usize> = MachineOf<Fixed<N, CAP>>;
 /// Contracts see its chips by number, the buffer and the log of each, wherever its events lie, and the count of its
 /// petit cycles; beside these, by chip its share of how many events more the row takes before it has to grow. No tag
 /// stands twice in its account, and each message whose injection a log tells of stands there once.
-#[derive(Debug, Drop)]
+#[derive(Drop)]
 pub struct MachineOf<S: Sizes> {
     pub(crate) state: ChipState,
     pub(crate) sizes: PhantomData<S>,
@@ -222,8 +222,8 @@ impl<S: Sizes> MachineOf<S> {
     {
         let state = &mut self.state;
         deal_out(&mut state.logs, &mut state.row)?;
-        let none = blank_logs(alloc, state.run.chips())?;
         state.reserve_logs(cycles)?;
+        let none = blank_logs(alloc, state.run.chips())?;
         Ok(SavedLogs {
             logs: mem::replace(&mut state.logs, none),
         })
@@ -256,9 +256,7 @@ impl<S: Sizes> MachineOf<S> {
         let mut logs = earlier.logs;
         by.append_logs(&mut logs, &self.state.logs);
         let mut told = mem::replace(&mut self.state.logs, logs);
-        for i in 0..used.len() {
-            used[i].exchange_logs(&mut told);
-        }
+        exchange_all(used, &mut told);
     }
 
     /// The chip of that number, to be read.

@@ -31,7 +31,7 @@ use std::mem;
 ///
 /// Contracts see of which cube they are, the part, how many events more each log takes before it has to
 /// grow, and whether the messages can be read.
-#[derive(Debug, Drop)]
+#[derive(Drop)]
 pub struct Part {
     /// The number of the first chip.
     pub(crate) first: u16,
@@ -256,6 +256,13 @@ pub(crate) fn lay_buffers(
 {
     for i in 0..count {
         arrive_all(to, at + i, from.buffer(first + i));
+    }
+}
+
+/// Exchanges the logs of parts for those of their chips in a list by number.
+pub(crate) fn exchange_all(parts: &mut [Part], logs: &mut [Vec<Event>]) {
+    for part in parts {
+        part.exchange_logs(logs);
     }
 }
 

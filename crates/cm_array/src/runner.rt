@@ -75,7 +75,7 @@ pub fn wants_change_their_count()
 {}
 
 /// The runner of one thread: one act after another, in the machine itself.
-#[derive(Clone, Copy, Debug, PartialEq, Eq)]
+#[derive(Clone, Copy)]
 pub struct Plain;
 
 impl<S: Sizes> Runner<S> for Plain {

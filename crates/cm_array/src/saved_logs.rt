@@ -13,7 +13,7 @@ use std::marker::Model;
 /// The logs of a machine that goes on without them: what it tells meanwhile comes to stand behind their events.
 ///
 /// Contracts see the logs by chip, and how many events more each takes before it has to grow.
-#[derive(Debug, Drop)]
+#[derive(Drop)]
 pub struct SavedLogs {
     pub(crate) logs: Vec<Vec<Event>>,
 }
@@ -53,7 +53,7 @@ pub trait LogAppender {
 }
 
 /// Who takes one log after another.
-#[derive(Clone, Copy, Debug, PartialEq, Eq)]
+#[derive(Clone, Copy)]
 pub struct InTurn;
 
 impl LogAppender for InTurn {

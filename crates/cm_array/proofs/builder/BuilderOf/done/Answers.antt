@@ -19,6 +19,6 @@ invariant_of-result g c =
     let apart : has_tag_twice (standing_messages (machine_of state)) ≡ false =
     ap (λ (buffers : List (List Message)). has_tag_twice (flat_map (λ buffer. buffer) buffers))
     (sym c.gather.ensures.value)
-    ∙ (sym c.in_ok-has_tag_twice.ensures.value ∙ c.if-branch.false) in
+    ∙ c.in_ok-refuse_tag_twice.ensures.ok in
     AreParts-finished g.S.Sizes.n g.S.Sizes.cap state c.gather.new.self unfinished c.gather.ensures.value
     c.gather.ensures.gathered apart

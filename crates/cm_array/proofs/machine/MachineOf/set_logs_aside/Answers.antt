@@ -22,7 +22,8 @@ told_by_none : (g : Over) (c : After-replace g) → with_row (events_of c.replac
 told_by_none g c =
     (λ i. with_row (events_of (c.replace.ensures.after i).items) (c.in_ok-deal_out.ensures.ok i))
     ∙ with_row-nil (events_of c.in_ok-none.none.items) ∙ c.in_ok-none.ensures.value
-    ∙ ap (λ k. tabulate {X = List Event} 0 k (λ b. [])) (c.chips.ensures.value ∙ c.self.invariant.machine.chip_count)
+    ∙ ap (λ k. tabulate {X = List Event} 0 k (λ b. [])) (c.chips.ensures.value
+    ∙ ap (λ (s : ChipState). length s.run) c.reserve_logs.ensures.value ∙ c.self.invariant.machine.chip_count)
 
 -- what is kept then
 kept_aside : (g : Over) → After-replace g → ChipState
