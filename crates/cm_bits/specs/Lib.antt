@@ -1,5 +1,4 @@
 pub mod Bit
-pub mod Doubles
 pub mod Ends
 pub mod Field
 pub mod Span

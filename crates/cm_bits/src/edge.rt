@@ -7,7 +7,7 @@ use std::marker::Model;
 
 /// An edge of a cube of twelve dimensions, over which two chips are joined whose numbers differ in one bit. It is
 /// named by that bit and by the chip where it is 0.
-#[derive(Clone, Copy, Debug, PartialEq, Eq)]
+#[derive(Clone, Copy, PartialEq, Eq)]
 pub struct Edge {
     lower: u16,
     over: u8,

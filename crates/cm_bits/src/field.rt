@@ -89,7 +89,7 @@ impl Field {
 }
 
 /// How two fields meet.
-#[derive(Clone, Copy, Debug, PartialEq, Eq)]
+#[derive(Clone, Copy)]
 pub enum Meets {
     /// They are equal.
     Same,

@@ -2,7 +2,6 @@
 //! go, and the lines, words and numbers of texts.
 #![tactic(auto)]
 
-pub mod doubles;
 mod edge;
 mod ends;
 mod field;

@@ -14,7 +14,7 @@ pub const FLAGS: u8 = 16;
 pub const PROCESSORS: u8 = 16;
 
 /// The address of a memory bit of a processor, 0 to 4095 (Hillis 1985).
-#[derive(Clone, Copy, Debug, Default, PartialEq, Eq)]
+#[derive(Clone, Copy, Debug, PartialEq, Eq)]
 pub struct Addr {
     address: u16,
 }
@@ -52,7 +52,7 @@ impl Addr {
 }
 
 /// The number of a flag of a processor, 0 to 15 (Hillis 1985; which flag is which is ours).
-#[derive(Clone, Copy, Debug, Default, PartialEq, Eq)]
+#[derive(Clone, Copy, Debug, PartialEq, Eq)]
 pub struct FlagNo {
     flag: u8,
 }

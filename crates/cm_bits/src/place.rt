@@ -3,7 +3,7 @@
 use crate::number::Proc;
 
 /// A processor of the whole machine: the number of its chip, 0 to 4095, and its own number there.
-#[derive(Clone, Copy, Debug, Default, PartialEq, Eq)]
+#[derive(Clone, Copy, Debug, PartialEq, Eq)]
 pub struct Place {
     pub chip: u16,
     pub proc: Proc,

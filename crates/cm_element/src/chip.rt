@@ -19,7 +19,7 @@ use std::marker::Model;
 /// Sixteen processors with 4,096 memory bits and sixteen flags each (Hillis 1985): a run of one chip.
 ///
 /// Contracts see the list of its processors.
-#[derive(Debug, Drop)]
+#[derive(Drop)]
 pub struct Chip {
     run: Run,
 }

@@ -21,7 +21,7 @@ const WIDTH: u16 = 64;
 /// kept in a small run of their own, and go back when another chip is filled.
 ///
 /// Contracts see the list of the chips, as of a run.
-#[derive(Debug, Drop)]
+#[derive(Drop)]
 pub struct NearRun {
     far: Run,
     near: Run,

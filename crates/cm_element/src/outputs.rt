@@ -3,7 +3,7 @@
 use cm_bits::Plane;
 
 /// The two outputs of an instruction in each processor of a chip, and where its condition holds.
-#[derive(Clone, Copy, Debug, PartialEq, Eq)]
+#[derive(Clone, Copy, PartialEq, Eq)]
 pub struct Outputs {
     pub mem: Plane,
     pub flag: Plane,

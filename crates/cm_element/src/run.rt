@@ -49,7 +49,7 @@ pub const FIELD_PITCH: usize = 64;
 /// Chips with consecutive numbers, kept as one row of planes for each address and for each flag.
 ///
 /// Contracts see the list of the chips, each the list of its processors.
-#[derive(Debug, Drop)]
+#[derive(Drop)]
 pub struct Run {
     memory: MemoryRows,
     flags: Vec<Plane>,

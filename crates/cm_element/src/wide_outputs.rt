@@ -8,7 +8,7 @@ use std::alloc::Global;
 
 /// The two outputs of an instruction in each processor of each chip of a run, and where its condition
 /// holds: a plane for each chip in each list.
-#[derive(Debug, Drop)]
+#[derive(Drop)]
 pub struct WideOutputs {
     pub mem: Vec<Plane>,
     pub flag: Vec<Plane>,

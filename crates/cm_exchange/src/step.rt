@@ -4,7 +4,7 @@ ghost use Rattle.std.specs.Prelude.{◌≡◌, ◌<◌};
 ghost use Rattle.cm_exchange.specs.Steps.{block_of, stage_of, step_at};
 
 /// A step of an exchange: what a block does with a lane, its own or that of the block from which it gets (ours).
-#[derive(Clone, Copy, Debug, PartialEq, Eq)]
+#[derive(Clone, Copy, PartialEq, Eq)]
 pub enum Step {
     /// The block takes its own lane, which is empty.
     Grip(u16),

@@ -18,7 +18,7 @@ pub enum ForkFault {
 }
 
 /// Into 2^`k` blocks a machine is cut, for so many workers.
-#[derive(Clone, Copy, Debug, PartialEq, Eq)]
+#[derive(Clone, Copy)]
 pub struct Share {
     pub k: u8,
     pub workers: u16,

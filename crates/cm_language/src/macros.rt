@@ -3,7 +3,7 @@
 use cm_bits::{Field, FlagNo};
 
 /// What a macro does in each selected processor, in whole numbers. Right sides are over old values.
-#[derive(Clone, Copy, Debug, PartialEq, Eq)]
+#[derive(Clone, Copy)]
 pub enum Macro {
     /// d := d + s, cut to the bits of d; flag 7 := the carry out.
     Add(Field, Field),
@@ -30,7 +30,7 @@ pub enum Macro {
 }
 
 /// Which processors a macro is carried out in.
-#[derive(Clone, Copy, Debug, PartialEq, Eq)]
+#[derive(Clone, Copy)]
 pub enum Context {
     /// All.
     Always,

@@ -4,7 +4,7 @@ use crate::macros::{Context, Macro};
 use cm_model::Act;
 
 /// What the first word of a line asks for.
-#[derive(Clone, Copy, Debug, PartialEq, Eq)]
+#[derive(Clone, Copy)]
 pub enum Verb {
     Nano,
     Add,
@@ -26,7 +26,7 @@ pub enum Verb {
 }
 
 /// What a line says.
-#[derive(Clone, Copy, Debug, PartialEq, Eq)]
+#[derive(Clone, Copy)]
 pub enum Statement {
     /// The macros that follow stand under this context.
     Context(Context),

@@ -14,7 +14,7 @@ const CARRY_FLAG: u8 = 7;
 const FACTOR_FLAG: u8 = 6;
 
 /// The truth table of memory and that of the flag.
-#[derive(Clone, Copy, Debug, PartialEq, Eq)]
+#[derive(Clone, Copy)]
 pub struct Tables {
     pub memory: u8,
     pub flag: u8,

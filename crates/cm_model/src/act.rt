@@ -8,7 +8,7 @@ use cm_bits::{Addr, Dir, FlagNo};
 /// entry `4 * A + 2 * B + F` of its truth table, where entry 0 is the lowest bit of the table's byte.
 /// Where flag `cond` equals `sense`, the output of `mem_table` goes to memory bit `a`, and that of
 /// `flag_table` to flag `write`, over NEWS from the direction that `dir` leads away from.
-#[derive(Clone, Copy, Debug, PartialEq, Eq)]
+#[derive(Clone, Copy, PartialEq, Eq)]
 pub struct Nano {
     pub a: Addr,
     pub b: Addr,
@@ -22,7 +22,7 @@ pub struct Nano {
 }
 
 /// What the machine does at one place of a program.
-#[derive(Clone, Copy, Debug, PartialEq, Eq)]
+#[derive(Clone, Copy, PartialEq, Eq)]
 pub enum Act {
     /// One instruction in every processor.
     Nano(Nano),

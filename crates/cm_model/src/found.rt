@@ -3,7 +3,7 @@
 use cm_bits::Proc;
 
 /// What is known of the message of a tag.
-#[derive(Clone, Copy, Debug, PartialEq, Eq)]
+#[derive(Clone, Copy, PartialEq, Eq)]
 pub enum Found {
     /// It stands in the router of this chip.
     Router(u16),

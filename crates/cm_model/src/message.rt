@@ -22,7 +22,7 @@ pub struct Message {
 }
 
 /// What a chip's log tells: a message that its router took in, or one that it delivered.
-#[derive(Clone, Copy, Debug, PartialEq, Eq)]
+#[derive(Clone, Copy, PartialEq, Eq)]
 pub enum Event {
     Injected(Message),
     Delivered { chip: u16, message: Message },

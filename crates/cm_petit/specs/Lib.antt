@@ -1,2 +1,1 @@
 pub mod Routers
-pub mod Nodes

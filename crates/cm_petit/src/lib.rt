@@ -2,11 +2,9 @@
 #![tactic(auto)]
 
 mod machine;
-mod nodes;
 mod phases;
 mod ready;
 
 pub use machine::cycle;
-pub use nodes::cycle_of_nodes;
 pub use phases::{cross_all, deliver, inject};
-pub use ready::{are_nodes, are_routers, has_log_room, has_space, is_at_rest};
+pub use ready::{are_routers, has_log_room, has_space, is_at_rest};

@@ -12,11 +12,10 @@ ghost use Rattle.cm_model.specs.Buffers.{after_act};
 ghost use Rattle.cm_model.specs.Wiring.{Routing as Routes};
 ghost use Rattle.cm_router.specs.Logs.{log_rooms_of, HaveLogRoom};
 ghost use Rattle.cm_petit.specs.Routers.{machine_from, AreRouters, HaveBuffers};
-ghost use Rattle.cm_petit.specs.Nodes.{AreNodes};
 
 use cm_element::Run;
 use cm_message::{Event, Message};
-use cm_router::{Node, is_idle, pass_over};
+use cm_router::{is_idle, pass_over};
 use cm_router_engine::{RouterEngine, Shape};
 
 /// Whether there are as many buffers and logs as chips, with no more messages at a chip than there is room for.
@@ -25,17 +24,6 @@ pub fn are_routers(sizes: Shape, run: &Run, crossing: &RouterEngine, logs: &[Vec
 {
     let chips = run.chips();
     crossing.chips() == chips && logs.len() == chips && crossing.is_within(sizes.room)
-}
-
-/// Whether there are as many chips, nodes and logs as the sizes tell, and each node has that room.
-pub fn are_nodes(sizes: Shape, run: &Run, nodes: &[Node], logs: &[Vec<Event>]) -> bool
-    ensures nodes { IsTrue result ↔ AreNodes sizes.dims sizes.room run.now nodes.now logs.now }
-{
-    let chips = 1 << sizes.dims;
-    run.chips() == chips
-        && nodes.len() == chips
-        && logs.len() == chips
-        && nodes.iter().all(|node| node.room() == sizes.room)
 }
 
 /// Whether each log takes so many events more.

@@ -17,7 +17,7 @@ use std::alloc::Global;
 use std::marker::Model;
 
 /// The messages that stand at a chip, from the front.
-#[derive(Debug, Drop)]
+#[derive(Drop)]
 pub(crate) struct PlainBuffer {
     pub(crate) messages: Vec<Message>,
 }
@@ -32,7 +32,7 @@ impl Model for PlainBuffer {
 }
 
 /// The events of a chip, the oldest first.
-#[derive(Debug, Drop)]
+#[derive(Drop)]
 pub(crate) struct PlainLog {
     pub(crate) events: Vec<Event>,
 }
@@ -47,7 +47,7 @@ impl Model for PlainLog {
 }
 
 /// The messages of a buffer that are delivered, and those that it keeps.
-#[derive(Debug, Drop)]
+#[derive(Drop)]
 pub(crate) struct Sorted {
     pub(crate) delivered: Vec<Message>,
     pub(crate) kept: Vec<Message>,

@@ -16,7 +16,7 @@ use std::marker::Model;
 /// A machine of `2 ^ N` chips, kept bit by bit.
 ///
 /// Contracts see the list of its chips, each the list of its processors.
-#[derive(Debug, Drop)]
+#[derive(Drop)]
 pub struct PlainMachine<const N: usize> {
     pub(crate) chips: Vec<PlainChip>,
 }
@@ -29,7 +29,7 @@ impl<const N: usize> Model for PlainMachine<N> {
     ghost invariant = { λ machine. (N ≤ 12) × (length machine.chips.items ≡ 2 ^ N) };
 }
 
-#[derive(Debug, Drop)]
+#[derive(Drop)]
 pub(crate) struct PlainChip {
     pub(crate) processors: Vec<PlainProcessor>,
 }
@@ -42,7 +42,7 @@ impl Model for PlainChip {
     ghost invariant = { λ chip. length chip.processors.items ≡ 16 };
 }
 
-#[derive(Debug, Drop)]
+#[derive(Drop)]
 pub(crate) struct PlainProcessor {
     pub(crate) memory: Vec<bool>,
     pub(crate) flags: Vec<bool>,

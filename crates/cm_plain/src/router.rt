@@ -31,7 +31,7 @@ use std::marker::Model;
 ///
 /// Contracts see its chips, each the list of its processors, the messages and the events of each
 /// chip, and the count of petit cycles.
-#[derive(Debug, Drop)]
+#[derive(Drop)]
 pub struct PlainRouter<const N: usize, const CAP: usize> {
     chips: PlainMachine<N>,
     buffers: Vec<PlainBuffer>,

@@ -13,7 +13,7 @@ use std::marker::Model;
 /// Which wires of a cube are cut (ours).
 ///
 /// Contracts see the cube's dimensions and the wires, each once and in their order.
-#[derive(Debug, Drop)]
+#[derive(Drop)]
 pub struct Cuts {
     dims: u8,
     /// In their order, with places for all wires of the cube.

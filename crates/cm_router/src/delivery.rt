@@ -27,7 +27,7 @@ const MOST: usize = 128;
 const MOST_OF_A_CHIP: usize = 15;
 
 /// A message that is delivered, and the place in its run of the chip at which it is to be put down.
-#[derive(Clone, Copy, Debug, Default, PartialEq, Eq)]
+#[derive(Clone, Copy, Default)]
 pub struct Delivery {
     pub place: u16,
     pub message: Message,
@@ -37,7 +37,7 @@ pub struct Delivery {
 /// is kept far from the others, until the bits of this one are put.
 ///
 /// Contracts see the list of them.
-#[derive(Debug, Drop)]
+#[derive(Drop)]
 pub struct Deliveries {
     items: ArrayVec<Delivery, MOST>,
 }

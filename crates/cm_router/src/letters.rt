@@ -67,7 +67,7 @@ pub fn asking(run: &Run, chip: u16) -> Plane
 }
 
 /// What the record of a processor tells: where a message is to go, and its payload.
-#[derive(Clone, Copy, Debug, PartialEq, Eq)]
+#[derive(Clone, Copy)]
 pub(crate) struct Record {
     /// The relative address, of which a machine takes as many bits as its cube has dimensions.
     pub(crate) rel: u16,

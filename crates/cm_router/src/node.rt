@@ -24,7 +24,7 @@ use cm_message::{Event, Message, Rule};
 use std::marker::Model;
 
 /// The buffer of one chip of the router (Hillis 1985; how large it is, is ours).
-#[derive(Debug, Drop)]
+#[derive(Drop)]
 pub struct Node {
     room: u8,
     messages: ArrayVec<Message, 15>,

@@ -29,7 +29,7 @@ const FEW: u32 = 3;
 /// records stay as they are, since this changes flags alone.
 ///
 /// Contracts see which chips these are, and their planes.
-#[derive(Debug, Drop)]
+#[derive(Drop)]
 pub struct Records {
     /// The place of the first of these chips, once they were read.
     first: Option<u16>,
@@ -108,7 +108,7 @@ impl Records {
 /// The records of the processors of one chip (ours): their planes, if these were read, and else the chip itself.
 ///
 /// Contracts see the list of its processors.
-#[derive(Debug, Drop)]
+#[derive(Drop)]
 pub struct ChipRecords<'a> {
     chip: ChipView<'a>,
     planes: &'a [Plane],

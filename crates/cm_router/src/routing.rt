@@ -11,7 +11,7 @@ use cm_message::Rule;
 use std::alloc::Global;
 
 /// How the routers of a machine route (ours): which wires of its cube are cut, and by which rule they choose.
-#[derive(Debug, Drop)]
+#[derive(Drop)]
 pub struct Routing {
     pub cuts: Cuts,
     pub rule: Rule,

@@ -15,7 +15,7 @@ pub const MOST_INJECTED: usize = 4;
 /// The processors of a chip whose messages are still to be taken in.
 ///
 /// Contracts see the list of them, by number.
-#[derive(Debug, Drop)]
+#[derive(Drop)]
 pub struct Senders {
     /// Who asks to send and was not gone through.
     asking: Plane,

@@ -47,7 +47,7 @@ const PATIENCE: u8 = 12;
 /// crosses is a ticket, the relative address and the place of the message. Where its chip's messages are to
 /// be read as one slice, and where places run out, all are gathered into a second row, which takes the
 /// place of the first.
-#[derive(Debug, Drop)]
+#[derive(Drop)]
 pub struct RouterEngine {
     /// The messages as they were when they got their tickets; some may have been delivered.
     row: Vec<Message>,

@@ -2,7 +2,7 @@
 
 /// The first words of the rows that an instruction reads and writes: `a` and `b` among those of
 /// memory, the others among those of the flags.
-#[derive(Clone, Copy, Debug, PartialEq, Eq)]
+#[derive(Clone, Copy)]
 pub struct Places {
     pub a: usize,
     pub b: usize,

@@ -21,7 +21,7 @@ use std::marker::Brand;
 
 /// What is asked to be run: the files of an image and of a program, how the session is shared out, and the file, if one
 /// is named, into which the image goes of the machine that is left.
-#[derive(Debug, PartialEq, Eq, Drop)]
+#[derive(Drop)]
 pub struct RunLine {
     pub image: String,
     pub program: String,

@@ -39,7 +39,7 @@ pub trait SessionRunner: Drop {
 }
 
 /// One worker, which needs no thread and waits for nobody.
-#[derive(Clone, Copy, Debug, PartialEq, Eq)]
+#[derive(Clone, Copy)]
 pub struct Alone;
 
 impl SessionRunner for Alone {

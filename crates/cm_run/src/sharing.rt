@@ -6,7 +6,7 @@ ghost use Rattle.cm_run.specs.Sharing.{sharing_fault};
 use cm_system::ProgramFault;
 
 /// Into how many blocks a machine is cut, and among how many workers they are dealt out.
-#[derive(Clone, Copy, Debug, PartialEq, Eq)]
+#[derive(Clone, Copy)]
 pub struct Sharing {
     /// There are 2^`split` blocks.
     pub split: u8,

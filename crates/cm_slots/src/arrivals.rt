@@ -13,7 +13,7 @@ use crate::tile::Tile;
 
 /// The chips of one tile at which a ticket stands whose message has arrived, once they were looked for (ours). Whoever
 /// goes through all chips keeps this from chip to chip.
-#[derive(Debug, Drop)]
+#[derive(Drop)]
 pub struct Arrivals {
     /// The number of the tile, once one was looked at.
     tile: Option<usize>,

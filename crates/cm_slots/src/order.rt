@@ -1,7 +1,7 @@
 //! Which tickets of a chip go before others.
 
 /// Who goes first of those that have to cross, and who goes last of all (ours).
-#[derive(Clone, Copy, Debug, PartialEq, Eq)]
+#[derive(Clone, Copy)]
 pub(crate) enum Order {
     /// Who came first; who came last.
     Arrival,

@@ -3,7 +3,7 @@
 ghost use Rattle.cm_model.specs.Keeping.{AreSizes};
 
 /// The machine that a run of chips belongs to, as far as its router has to know it (ours).
-#[derive(Clone, Copy, Debug, PartialEq, Eq)]
+#[derive(Clone, Copy)]
 pub struct Shape {
     /// Dimensions of the cube of all chips.
     pub dims: u8,

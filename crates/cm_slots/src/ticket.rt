@@ -5,7 +5,7 @@ ghost use Rattle.cm_slots.specs.Slots.{is_taken};
 ghost use Rattle.cm_slots.specs.Tickets.{ticket_of, ticket_in, slot_of};
 
 /// Crosses in the place of a message: which dimensions that has still to cross, and where it is kept.
-#[derive(Clone, Copy, Debug, Default, PartialEq, Eq)]
+#[derive(Clone, Copy, PartialEq, Eq)]
 pub struct Ticket {
     /// The message's relative address by now.
     pub rel: u16,

@@ -32,7 +32,7 @@ use std::marker::Model;
 ///
 /// Where there is room for one at each chip, whoever stands there leaves it in every dimension: such dimensions
 /// are noted, and the tickets move over all of them at once when one is to be changed.
-#[derive(Debug, Drop)]
+#[derive(Drop)]
 pub struct TicketQueues {
     /// How many chips there are.
     chips: usize,

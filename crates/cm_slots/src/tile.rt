@@ -22,7 +22,7 @@ use crate::shape::Shape;
 use crate::ticket::{Ticket, ticket_in};
 
 /// 64 chips that stand side by side, and their tickets slot by slot: the one that came first in slot 0.
-#[derive(Debug, Drop)]
+#[derive(Drop)]
 pub(crate) struct Tile {
     /// Slot 0 of each chip.
     first: Row,

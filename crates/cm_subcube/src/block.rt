@@ -40,7 +40,7 @@ impl From<NoMemory> for SplitFault {
 /// stands at them and room to go through a run by themselves.
 ///
 /// Contracts see the number `k` and what a part of a machine keeps.
-#[derive(Debug, Drop)]
+#[derive(Drop)]
 pub struct Block {
     pub(crate) k: u8,
     pub(crate) part: Part,

@@ -15,12 +15,12 @@ use std::marker::Model;
 /// What one block sends another in a round.
 ///
 /// Contracts see a parcel of cm_blocks: by place of a chip a message or none, or by column of the grid a bit.
-#[derive(Debug, Drop)]
+#[derive(Drop)]
 pub struct Parcel {
     pub(crate) load: Load,
 }
 
-#[derive(Debug, Drop)]
+#[derive(Drop)]
 pub(crate) enum Load {
     /// By place of a chip of the sender, what leaves it.
     Mail(Vec<Option<Message>>),

@@ -10,7 +10,7 @@ use cm_model::{Act, Nano};
 use std::alloc::Global;
 
 /// Over what blocks exchange in a round (ours).
-#[derive(Clone, Copy, Debug, PartialEq, Eq)]
+#[derive(Clone, Copy)]
 pub enum Kind {
     /// The NEWS grid, from each block to the one north of it.
     North,
@@ -21,7 +21,7 @@ pub enum Kind {
 }
 
 /// A step of a run at which blocks exchange.
-#[derive(Clone, Copy, Debug, PartialEq, Eq)]
+#[derive(Clone, Copy)]
 pub struct Round {
     /// The place of its act among those of the run.
     pub at: usize,

@@ -21,7 +21,7 @@ use std::marker::Brand;
 
 /// What is asked of an exchange: the files of an image, of a program and of the steps, if one is named, into 2^`split`
 /// blocks how the machine is cut, and the file, if one is named, into which the image goes of the machine that is left.
-#[derive(Debug, PartialEq, Eq, Drop)]
+#[derive(Drop)]
 pub struct WeaveLine {
     pub image: String,
     pub program: String,

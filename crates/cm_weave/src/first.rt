@@ -45,7 +45,7 @@ impl From<NoMemory> for WorldFault {
 }
 
 /// A machine of which no world was made, as it was, and why.
-#[derive(Debug, Drop)]
+#[derive(Drop)]
 pub struct Refused<S: Sizes> {
     pub fault: WorldFault,
     pub machine: MachineOf<S>,

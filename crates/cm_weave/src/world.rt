@@ -35,7 +35,7 @@ pub struct NotNow;
 ///
 /// Contracts see into how many blocks it was cut, the machine and the acts, the world of their exchange, and what each
 /// block has.
-#[derive(Debug, Drop)]
+#[derive(Drop)]
 pub struct World<S: Sizes> {
     pub(crate) k: u8,
     pub(crate) machine: MachineOf<S>,

@@ -8,7 +8,7 @@ use cm_subcube::{Kind, Parcel};
 use std::alloc::Global;
 
 /// A parcel of each sort: what a block sends in a round goes in one of them, and what comes for it.
-#[derive(Debug, Drop)]
+#[derive(Drop)]
 pub struct Post {
     /// For the rounds over a dimension.
     pub(crate) mail: Parcel,

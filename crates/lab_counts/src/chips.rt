@@ -10,7 +10,7 @@ use cm_bits::NoMemory;
 use std::alloc::Global;
 
 /// What messages did at each chip under a load.
-#[derive(Debug, Drop)]
+#[derive(Drop)]
 pub struct ChipCrossings {
     /// Hundredths of a message that a chip was to offer in a petit cycle.
     pub rate: u16,

@@ -22,7 +22,7 @@ pub enum Form {
 }
 
 /// Dots in rows, the upper row first, each from the left: as many as the height times the width.
-#[derive(Debug, Drop)]
+#[derive(Drop)]
 pub struct Picture {
     width: u16,
     height: u16,

@@ -23,7 +23,7 @@ use cm_router_engine::{RouterEngine, Shape};
 use lab_counts::{Counts, Crossings, watched_cycle};
 
 /// What was told so far.
-#[derive(Debug, Drop)]
+#[derive(Drop)]
 pub(crate) struct Told {
     /// The most offers that waited at one processor, behind the one that it asked for.
     pub(crate) deepest: u32,

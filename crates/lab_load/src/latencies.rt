@@ -14,7 +14,7 @@ use lab_digits::{push_byte, push_piece, push_words};
 use std::alloc::Global;
 
 /// How many messages took how long under a load.
-#[derive(Debug, Drop)]
+#[derive(Drop)]
 pub struct Latencies {
     /// Hundredths of a message that a chip was to offer in a petit cycle.
     pub rate: u16,

@@ -26,7 +26,7 @@ pub enum Pattern {
 }
 
 /// What is offered to a machine.
-#[derive(Debug, Drop)]
+#[derive(Drop)]
 pub struct Load {
     /// Of how many dimensions its cube is.
     pub dims: u8,

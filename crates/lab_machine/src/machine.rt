@@ -51,7 +51,7 @@ impl From<NoMemory> for RoomFault {
 /// A machine of a cube of some dimensions, whose routers have some room.
 ///
 /// Contracts see both, and the machine.
-#[derive(Debug, Drop)]
+#[derive(Drop)]
 pub struct LabMachine {
     shape: Shape,
     routing: Routing,

@@ -2,11 +2,11 @@
 
 use cm_args::{Line, LineFault, command};
 use cm_bits::NoMemory;
-use cm_bits::doubles::{Bytes, Room};
 use cm_element::{Chip, NearRun, Run, WideOutputs};
 use cm_system::{AsmKind, ChipFault, TakeFault, take};
 use cm_tools::chip_session;
 use std::alloc::{AllocError, Global};
+use test_doubles::{Bytes, Room};
 use test_generators::{Call, address, first_not_so, flag, processor};
 
 /// What takes memory.

@@ -1,14 +1,14 @@
 //! Sinks: those in memory, those of std, and writing all of some bytes.
 
 ghost use Rattle.std.specs.Prelude.{◌≡◌, false, IfOk};
-ghost use Rattle.cm_bits.specs.Doubles.{room_has_failed};
+ghost use Rattle.test_doubles.specs.Doubles.{room_has_failed};
 
 use crate::cases::{Case, first_not_so};
 use crate::scripted::{Answer, Scripted};
-use cm_bits::doubles::Room;
 use cm_bits::{Failed, Sink, Std, WriteFault, write_all};
 use std::alloc::{AllocError, Global};
 use std::test::Fail;
+use test_doubles::Room;
 
 /// Bytes that a sink is given, and what it answers.
 struct Call(&'static [u8], Result<usize, Failed>);

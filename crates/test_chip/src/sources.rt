@@ -4,11 +4,11 @@ ghost use Rattle.std.specs.Prelude.{◌<◌};
 
 use crate::cases::{Case, first_not_so};
 use crate::scripted::{Answer, Scripted};
-use cm_bits::doubles::Bytes;
 use cm_bits::{Failed, Source, Std};
 use cm_system::{TakeFault, take};
 use std::alloc::Global;
 use std::test::Fail;
+use test_doubles::Bytes;
 
 const ROOM: usize = 32;
 

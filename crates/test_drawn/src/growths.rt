@@ -4,9 +4,9 @@ ghost use Rattle.std.specs.Prelude.{◌≡◌, false};
 
 use cm_array::{Machine, Plain};
 use cm_asm::{Program, assemble};
-use cm_bits::doubles::{Bytes, Room};
 use cm_debug::{SessionFault, session};
 use std::alloc::Global;
+use test_doubles::{Bytes, Room};
 
 /// The processor whose flag 0 is 1 sends a message to processor 5 of the other of two chips.
 static PROGRAM: &[u8] = b"field rel 3968 16\nfield proc 3984 4\nfield data 3988 32\n\

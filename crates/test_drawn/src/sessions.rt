@@ -9,10 +9,10 @@ use crate::plain::Debugger;
 use crate::texts::{program, push_line};
 use cm_array::{Machine, Plain};
 use cm_asm::{Program, assemble};
-use cm_bits::doubles::{Bytes, Room};
 use cm_debug::session;
 use cm_image_dump::dump;
 use std::alloc::{AllocError, Global};
+use test_doubles::{Bytes, Room};
 
 const ROOM: usize = 65_536;
 

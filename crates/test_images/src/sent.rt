@@ -1,14 +1,14 @@
 //! Images that go into a sink piece by piece, where it has room for all of their bytes, or for some.
 
 ghost use Rattle.std.specs.Prelude.{◌≡◌, false};
-ghost use Rattle.cm_bits.specs.Doubles.{room_has_failed};
+ghost use Rattle.test_doubles.specs.Doubles.{room_has_failed};
 
 use crate::growths::TWO_CHIPS;
 use cm_array::Machine;
-use cm_bits::doubles::Room;
 use cm_image_dump::{DumpFault, DumpRoom, dump_into};
 use cm_image_load::load;
 use std::alloc::Global;
+use test_doubles::Room;
 
 /// How a machine's image goes into a sink.
 fn sent<const N: usize, const CAP: usize>(

@@ -2,12 +2,12 @@
 //! does.
 
 use crate::growths::BLANK;
-use cm_bits::doubles::{Bytes, Room};
 use cm_bits::{Field, write_all};
 use cm_system::{TakeFault, take};
 use lab_data::{LabFault, NumbersFault, Order, Task, perform};
 use std::alloc::Global;
 use std::test::Fail;
+use test_doubles::{Bytes, Room};
 
 /// A number for each processor of one chip.
 static NUMBERS: &str = "1 2 3 4\n5 6 7 0\n1 2 3 4\n5 6 7 0\n";

@@ -1,10 +1,10 @@
 //! A front end whose ends fail.
 
 use crate::growths::BLANK;
-use cm_bits::doubles::{Bytes, Room};
 use lab_front::{FrontFault, SessionFault, front_image};
 use std::alloc::Global;
 use std::test::Fail;
+use test_doubles::{Bytes, Room};
 
 /// Lines of which the third is asked for last, and their answers.
 static SENT: &str = "set 9\nsense\nfield 0 0 0 8\n";

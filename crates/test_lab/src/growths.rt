@@ -1,7 +1,6 @@
 //! Growths of memory that are refused: while numbers, pictures, studies, blank machines and loads are made, a source is
 //! expanded, and at a front end.
 
-use cm_bits::doubles::{Bytes, Room};
 use cm_bits::{Field, NoMemory};
 use lab_data::{
     Form, Format, LabFault, Look, NumbersFault, Order, Palette, Shown, Table, Task, perform,
@@ -15,6 +14,7 @@ use lab_load::{
 };
 use lab_source::{AsmKind, SourceKind, expand};
 use std::alloc::Global;
+use test_doubles::{Bytes, Room};
 use test_generators::{Call, first_not_so};
 
 /// One chip, room for seven messages, nothing in it.

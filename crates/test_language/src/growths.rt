@@ -4,13 +4,13 @@
 use cm_array::{Machine, Plain, RunFault};
 use cm_asm::{AsmFault, AsmKind, Program, assemble};
 use cm_bits::Field;
-use cm_bits::doubles::{Bytes, Room};
 use cm_language::{Context, Macro, MacroFault};
 use cm_macros::expand;
 use cm_model::Act;
 use cm_system::ProgramFault;
 use cm_tools::list;
 use std::alloc::{AllocError, Global};
+use test_doubles::{Bytes, Room};
 use test_generators::{Call, first_not_so, flag, processor, run_beside_plain};
 
 /// What takes memory.

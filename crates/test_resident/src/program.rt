@@ -6,7 +6,6 @@ ghost use Rattle.std.specs.Thread.{IsSync};
 use crate::meeting::{Cut, FOUR, Meeting, Notes, Waits, no_notes};
 use cm_array::AnyMachine;
 use cm_asm::{Program, assemble};
-use cm_bits::doubles::{Bytes, Room};
 use cm_bits::{Sink, Source};
 use cm_cli::Several;
 use cm_image_dump::dump;
@@ -19,6 +18,7 @@ use std::alloc::Global;
 use std::sync::{Arc, Wait};
 use std::test::Fail;
 use std::thread::Threads;
+use test_doubles::{Bytes, Room};
 use test_generators::cut_in_two_places;
 
 /// All processors send to the chip across all of four dimensions, and across all of twelve.

@@ -2,13 +2,13 @@
 
 ghost use Rattle.std.specs.Prelude.{◌≡◌, false};
 
-use cm_bits::doubles::{Bytes, Room};
 use cm_bits::{Failed, Sink};
 use cm_cli::perform;
 use cm_system::{LineFault, PutFault, System, Written};
 use std::alloc::{AllocError, Global};
 use std::sync::Wait;
 use std::thread::Threads;
+use test_doubles::{Bytes, Room};
 
 /// So many bytes come at a read of a file.
 const STEP: usize = 4096;

@@ -2,10 +2,10 @@
 
 use crate::files::{files_of, run, with_cycles};
 use crate::runs::{Given, bytes_of};
-use cm_bits::doubles::{Bytes, Room};
 use std::alloc::Global;
 use std::sync::Wait;
 use std::thread::Threads;
+use test_doubles::{Bytes, Room};
 
 /// So many petit cycles are enough for 512 chips to be shared out among threads.
 const CYCLES: usize = 64;

@@ -2,7 +2,6 @@
 
 use crate::files::{Files, files_of, run};
 use crate::runs::{Given, bytes_of};
-use cm_bits::doubles::{Bytes, Room};
 use cm_cli::Several;
 use cm_gates::Passage;
 use cm_run::{Alone, RunLine, Sharing, run_files};
@@ -10,6 +9,7 @@ use cm_system::ProgramFault;
 use std::alloc::Global;
 use std::sync::Wait;
 use std::thread::Threads;
+use test_doubles::{Bytes, Room};
 
 /// Most bytes of a program's file.
 const MOST: usize = 16_777_216;

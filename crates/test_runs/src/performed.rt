@@ -1,12 +1,12 @@
 //! The whole program over what lies outside in memory: which files it touches, in which order, what it tells.
 
-use cm_bits::doubles::{Bytes, Room};
 use cm_bits::{Failed, Sink};
 use cm_cli::perform;
 use cm_system::{LineFault, PutFault, System, Written};
 use std::alloc::{AllocError, Global};
 use std::sync::Wait;
 use std::thread::Threads;
+use test_doubles::{Bytes, Room};
 
 /// How many bytes of standard input come before a read fails, how many standard output and standard error take, and
 /// whether what standard output has taken goes out.

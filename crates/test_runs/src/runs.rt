@@ -1,11 +1,11 @@
 //! Runs of images: what is answered, what is kept, and how they end.
 
 use crate::files::{Files, Text, run};
-use cm_bits::doubles::{Bytes, Room};
 use cm_tools::fresh;
 use std::alloc::Global;
 use std::sync::Wait;
 use std::thread::Threads;
+use test_doubles::{Bytes, Room};
 
 /// The image that is given: that of a blank machine, or one that is damaged.
 #[derive(Clone, Copy)]

@@ -1,10 +1,10 @@
 //! Runs that are shared out in several ways, on whole machines, over cut wires and by either rule: the same bytes.
 
 use crate::files::{files_of, run, with_cycles};
-use cm_bits::doubles::{Bytes, Room};
 use std::alloc::{AllocError, Global};
 use std::sync::Wait;
 use std::thread::Threads;
+use test_doubles::{Bytes, Room};
 
 /// An image, the lines of a program with so many petit cycles behind them, commands, and what is answered.
 struct Run {

@@ -1,10 +1,10 @@
 //! How bytes come and go, and where that fails.
 
 ghost use Rattle.std.specs.Prelude.{◌≡◌, false, IfOk};
-ghost use Rattle.cm_bits.specs.Doubles.{bytes_has_failed, room_has_failed};
+ghost use Rattle.test_doubles.specs.Doubles.{bytes_has_failed, room_has_failed};
 
-use cm_bits::doubles::{Bytes, Room};
 use std::alloc::{AllocError, Global};
+use test_doubles::{Bytes, Room};
 
 /// In what pieces bytes come and go, after how many reading fails, and for how many there is room.
 #[derive(Clone, Copy)]

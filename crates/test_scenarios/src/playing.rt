@@ -1,7 +1,7 @@
 //! What comes of a scene.
 
 ghost use Rattle.std.specs.Prelude.{◌≡◌, false};
-ghost use Rattle.cm_bits.specs.Doubles.{room_has_failed};
+ghost use Rattle.test_doubles.specs.Doubles.{room_has_failed};
 
 use crate::images::{tell_image, tell_loaded};
 use crate::refusing::Refusing;
@@ -9,11 +9,11 @@ use crate::scene::Scene;
 use crate::weaving::{Steps, play_exchange};
 use cm_array::{Builder, Machine};
 use cm_asm::{Program, assemble};
-use cm_bits::doubles::Room;
 use cm_bits::read_number;
 use cm_debug::{SessionFault, read_command, session};
 use cm_image_load::load;
 use std::alloc::{AllocError, Global};
+use test_doubles::Room;
 
 /// Tells a line.
 pub(crate) fn tell(told: &mut Vec<u8>, line: &[u8]) -> Result<(), AllocError> {

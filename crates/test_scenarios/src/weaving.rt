@@ -1,18 +1,18 @@
 //! What comes of an exchange of blocks.
 
 ghost use Rattle.std.specs.Prelude.{◌≡◌, false};
-ghost use Rattle.cm_bits.specs.Doubles.{room_has_failed};
+ghost use Rattle.test_doubles.specs.Doubles.{room_has_failed};
 
 use crate::images::{tell_image, tell_refused};
 use crate::playing::{Trial, first_trial, tell};
 use crate::scene::Scene;
 use cm_array::{Fixed, Machine};
-use cm_bits::doubles::Room;
 use cm_model::Act;
 use cm_system::ProgramFault;
 use cm_weave::World;
 use cm_weave_text::{weave_self, weave_session};
 use std::alloc::{AllocError, Global};
+use test_doubles::Room;
 
 /// Which steps an exchange takes.
 #[derive(Clone, Copy)]

@@ -1,17 +1,17 @@
 //! What comes of a text from bytes to bytes, and what is told of refusals and command lines, as by the program.
 
 ghost use Rattle.std.specs.Prelude.{◌≡◌, false, IfOk};
-ghost use Rattle.cm_bits.specs.Doubles.{bytes_has_failed, room_has_failed};
+ghost use Rattle.test_doubles.specs.Doubles.{bytes_has_failed, room_has_failed};
 
 use crate::ends::{Ends, WHOLE};
 use crate::playing::{tell, tell_made};
 use crate::scene::Scene;
 use cm_args::command;
-use cm_bits::doubles::{Bytes, Room};
 use cm_bits::{Words, read_number};
 use cm_system::{ProgramFault, report};
 use cm_tools::{chip_session, list};
 use std::alloc::{AllocError, Global};
+use test_doubles::{Bytes, Room};
 
 /// What is done with the bytes of a text.
 #[derive(Clone, Copy)]

@@ -1,16 +1,16 @@
 //! Growths of memory that are refused while a world is made, and while its steps are told.
 
 ghost use Rattle.std.specs.Prelude.{◌≡◌, false};
-ghost use Rattle.cm_bits.specs.Doubles.{room_has_failed};
+ghost use Rattle.test_doubles.specs.Doubles.{room_has_failed};
 
 use crate::machines::kept;
 use cm_array::{Fixed, Machine, Plain, Runner};
 use cm_bits::FlagNo;
-use cm_bits::doubles::{Bytes, Room};
 use cm_model::Act;
 use cm_weave::{Refused, World, WorldFault};
 use cm_weave_text::{WeaveFault, weave_self, weave_session};
 use std::alloc::Global;
+use test_doubles::{Bytes, Room};
 use test_generators::{Call, are_same, first_not_so, poke_plane};
 
 /// What takes memory.

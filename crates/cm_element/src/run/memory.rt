@@ -36,7 +36,7 @@ const GROUPS: usize = ADDRESSES / EIGHT;
 /// written: until then its address shares a row of zeros. Room that is never written costs nothing.
 ///
 /// Contracts see all rows one after another, as one list of words.
-#[derive(Debug, Drop)]
+#[derive(Drop)]
 pub(crate) struct MemoryRows {
     words: Vec<Plane>,
     slots: Vec<u16>,

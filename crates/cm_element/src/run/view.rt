@@ -14,7 +14,7 @@ use std::marker::Model;
 /// A chip of a run, which is read as a chip by itself.
 ///
 /// Contracts see the list of its processors.
-#[derive(Debug, Drop)]
+#[derive(Drop)]
 pub struct ChipView<'a> {
     run: &'a Run,
     chip: u16,
