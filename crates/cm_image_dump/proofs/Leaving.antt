@@ -3,7 +3,7 @@ use Rattle.std.proofs.Common.{◌≡◌, ℕ, zero, suc, ◌+◌, ◌-◌, ◌�
 use Rattle.std.proofs.Common.{arith, append_assoc, take, drop, take-append-drop}
 use Rattle.std.specs.Int.{w64}
 use Rattle.std.proofs.lemmas.List.{append-nil}
-use Rattle.std.specs.Prelude.{Some, Result, Ok, Err, OnOk, IfErr}
+use Rattle.std.specs.Prelude.{Some, Result, Ok, Err, OnOk, OnErr, IfErr}
 use Rattle.std.proofs.KnownBytes.{Appends-nil, Appends-trans}
 use Rattle.std.specs.Io.KnownBytes.{Appends}
 use Rattle.cm_model.specs.Machine.{Machine}
@@ -156,9 +156,17 @@ pub on_both : {T E P Q R : Type 0} (result : Result T E) → OnOk result P → O
 on_both (Ok x) p q f = f p q
 on_both (Err e) p q f = tt
 
+pub on_ok : {T E P Q : Type 0} (result : Result T E) → OnOk result P → (P → Q) → OnOk result Q
+on_ok (Ok x) p f = f p
+on_ok (Err e) p f = tt
+
 pub on_err : {T E P Q : Type 0} (result : Result T E) → IfErr result (λ e. P) → (P → Q) → IfErr result (λ e. Q)
 on_err (Ok x) p f = tt
 on_err (Err e) p f = f p
+
+pub on_error : {T E P Q : Type 0} (result : Result T E) → OnErr result P → (P → Q) → OnErr result Q
+on_error (Ok x) p f = tt
+on_error (Err e) p f = f p
 
 -- where nothing went out all waits
 pub nothing_out : {bytes left : List ℕ} → GoesOut (Some []) (Some []) bytes left → left ≡ bytes

@@ -60,8 +60,7 @@ pub(crate) fn push_dense_chip(
     push_u16(text, listed)?;
     push_memory(text, listed, planes)?;
     push_u8(text, buffer.len() as u8)?;
-    push_messages(text, buffer)?;
-    Ok(())
+    push_messages(text, buffer)
 }
 
 /// The planes of all addresses that are not 0, of which there are so many: together, if none is 0.

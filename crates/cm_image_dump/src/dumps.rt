@@ -16,7 +16,7 @@ ghost use Rattle.cm_image_dump.specs.Planes.{AreCounted, AreInUse, chips_text, f
 ghost use Rattle.cm_image_dump.specs.Planes.{listed_below, planes_below};
 ghost use Rattle.cm_image_dump.specs.Sending.{front_text, GoesOut, GoesOutInPart, is_dump_write};
 
-use crate::sending::{DumpRoom, ListedMachine, sizes};
+use crate::sending::{DumpRoom, sizes};
 use cm_array::{MachineOf, Sizes};
 use cm_bits::{Addr, FLAGS, Failed, FlagNo, NoMemory, Plane, Sink};
 use cm_element::ChipView;
@@ -28,6 +28,7 @@ use cm_image_format::texts_leave_out_logs;
 use cm_message::{Message, bytes};
 use cm_model::cuts_are_few;
 use std::alloc::Global;
+use std::mem;
 
 const HEADER_LEN: usize = 16;
 
@@ -38,24 +39,12 @@ pub fn dump<S: Sizes>(alloc: Global, machine: &MachineOf<S>) -> Result<Vec<u8>, 
     ensures value { IfOk result (λ text. text.items ≡ text_of S.n S.cap machine.now.machine) }
     ensures read { IfOk result (λ text. read_image S.n S.cap text.items ≡ Ok (without_logs S.n machine.now.machine)) }
 {
-    sizes(machine);
     text_is_read(machine);
-    let DumpRoom {
-        counts,
-        addresses,
-        mut near,
-        ..
-    } = DumpRoom::without_text(alloc, machine)?;
-    let mut text = Vec::with_capacity(alloc, text_len(machine, &counts))?;
-    push_front(&mut text, machine)?;
+    let mut room = DumpRoom::without_text(alloc, machine)?;
+    room.text = Vec::with_capacity(alloc, text_len(machine, &room.counts))?;
     let mut nowhere = Nowhere { failed: false };
-    let listed = ListedMachine {
-        machine,
-        counts: &counts,
-        addresses: &addresses,
-    };
-    match listed.send_chips(&mut text, &mut nowhere, &mut near, usize::MAX) {
-        Ok(()) => Ok(text),
+    match room.send_text(machine, &mut nowhere, usize::MAX) {
+        Ok(()) => Ok(mem::replace(&mut room.text, Vec::new(alloc))),
         Err(_) => Err(NoMemory),
     }
 }
@@ -104,8 +93,7 @@ pub(crate) fn push_front<S: Sizes>(
     let cap = usize::from(machine.room());
     push_head(text, version, n, cap, routing.rule)?;
     push_u64(text, cycles)?;
-    push_cuts(text, version, cuts)?;
-    Ok(())
+    push_cuts(text, version, cuts)
 }
 
 /// How many bytes the image has, so that its list need not grow.
@@ -170,8 +158,7 @@ pub(crate) fn push_sparse_chip(
     push_u16(text, planes)?;
     push_planes(text, chip, addresses)?;
     push_u8(text, buffer.len() as u8)?;
-    push_messages(text, buffer)?;
-    Ok(())
+    push_messages(text, buffer)
 }
 
 pub(crate) fn push_flags(text: &mut Vec<u8>, chip: &ChipView<'_>) -> Result<(), NoMemory>

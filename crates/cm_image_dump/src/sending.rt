@@ -43,12 +43,24 @@ pub enum DumpFault {
 
 /// What writing the image of a machine takes of memory: how many planes of each chip are listed and at which addresses,
 /// where some chips stand near, and the bytes that wait.
-#[derive(Drop)]
 pub struct DumpRoom {
     pub(crate) counts: Vec<u16>,
-    pub(crate) addresses: Vec<u16>,
-    pub(crate) near: Near,
-    text: Vec<u8>,
+    addresses: Vec<u16>,
+    near: Near,
+    pub(crate) text: Vec<u8>,
+}
+
+impl Drop for DumpRoom {
+    /// Frees all lists. A derived `drop` would be compiled and proved anew wherever they are freed.
+    #[inline(never)]
+    fn drop(self) {
+        let DumpRoom {
+            counts: _,
+            addresses: _,
+            near: _,
+            text: _,
+        } = self;
+    }
 }
 
 /// A copy of up to 64 chips, which a cache holds while they are written.
@@ -63,19 +75,9 @@ impl DumpRoom {
     pub fn of<S: Sizes>(alloc: Global, machine: &MachineOf<S>) -> Result<DumpRoom, NoMemory>
         ensures value { IfOk result (IsRoomOf S.n machine.now.machine) }
     {
-        let DumpRoom {
-            counts,
-            addresses,
-            near,
-            ..
-        } = DumpRoom::without_text(alloc, machine)?;
-        let text = Vec::with_capacity(alloc, WAITING)?;
-        Ok(DumpRoom {
-            counts,
-            addresses,
-            near,
-            text,
-        })
+        let mut room = DumpRoom::without_text(alloc, machine)?;
+        room.text = Vec::with_capacity(alloc, WAITING)?;
+        Ok(room)
     }
 
     /// The same, but none for bytes that wait.
@@ -95,6 +97,35 @@ impl DumpRoom {
             near,
             text: Vec::new(alloc),
         })
+    }
+
+    /// Writes the image of a machine, where no byte waits yet. So many bytes go out at a time, and the last ones wait.
+    pub(crate) fn send_text<S: Sizes, O: Sink>(
+        &mut self,
+        machine: &MachineOf<S>,
+        sink: &mut O,
+        piece: usize,
+    ) -> Result<(), DumpFault>
+        requires laid { IsLaidOutFor S.n machine.now.machine self.old }
+        requires working { O.has_failed sink.old ≡ false }
+        ensures ok { OnOk result (GoesOut (O.contents sink.old) (O.contents sink.new)
+            (text_of S.n S.cap machine.now.machine) self.new.text.items) }
+        ensures err { IfErr result (λ _. GoesOutInPart (O.contents sink.old) (O.contents sink.new)
+            (text_of S.n S.cap machine.now.machine)) }
+        ensures failed { O.has_failed sink.new ≡ is_dump_write result }
+        ensures memory { 80000 ≤ piece → piece + 20000 ≤ vec_capacity self.old.text
+            → ¬ IsErrOf result DumpFault.Memory }
+    {
+        sizes(machine);
+        let Ok(()) = push_front(&mut self.text, machine) else {
+            return Err(DumpFault::Memory);
+        };
+        let listed = ListedMachine {
+            machine,
+            counts: &self.counts,
+            addresses: &self.addresses,
+        };
+        listed.send_chips(&mut self.text, sink, &mut self.near, piece)
     }
 }
 
@@ -118,7 +149,7 @@ fn room_near(alloc: Global, rows: usize) -> Result<Near, NoMemory>
 /// Writes the image of a machine, its one text, piece by piece. Its logs are not in it.
 pub fn dump_into<S: Sizes, O: Sink>(
     machine: &MachineOf<S>,
-    room: DumpRoom,
+    mut room: DumpRoom,
     sink: &mut O,
 ) -> Result<(), DumpFault>
     requires room { IsRoomOf S.n machine.now.machine room }
@@ -130,39 +161,24 @@ pub fn dump_into<S: Sizes, O: Sink>(
     ensures failed { O.has_failed sink.new ≡ is_dump_write result }
     ensures memory { ¬ IsErrOf result DumpFault.Memory }
 {
-    sizes(machine);
-    let DumpRoom {
-        counts,
-        addresses,
-        mut near,
-        mut text,
-    } = room;
-    let Ok(()) = push_front(&mut text, machine) else {
-        return Err(DumpFault::Memory);
-    };
-    let listed = ListedMachine {
-        machine,
-        counts: &counts,
-        addresses: &addresses,
-    };
-    match listed.send_chips(&mut text, sink, &mut near, PIECE) {
-        Ok(()) => send_out(&mut text, sink),
+    match room.send_text(machine, sink, PIECE) {
+        Ok(()) => send_out(&mut room.text, sink),
         Err(fault) => Err(fault),
     }
 }
 
 /// A machine whose image is written: how many planes of each chip are listed, and at which addresses.
-#[derive(Clone, Copy)]
-pub(crate) struct ListedMachine<'a, S: Sizes> {
-    pub(crate) machine: &'a MachineOf<S>,
-    pub(crate) counts: &'a [u16],
-    pub(crate) addresses: &'a [u16],
+#[derive(Drop)]
+struct ListedMachine<'a, S: Sizes> {
+    machine: &'a MachineOf<S>,
+    counts: &'a [u16],
+    addresses: &'a [u16],
 }
 
 impl<'a, S: Sizes> ListedMachine<'a, S> {
     /// What an image has of each chip, by number, behind what waits, which goes out whenever so many bytes wait: some
     /// chips at a time are laid out near.
-    pub(crate) fn send_chips<O: Sink>(
+    fn send_chips<O: Sink>(
         &self,
         text: &mut Vec<u8>,
         sink: &mut O,

@@ -10,7 +10,7 @@ ghost use Rattle.cm_image_format.specs.Header.{MAGIC, is_version, is_rule, heade
 ghost use Rattle.cm_image_format.specs.Whole.{read_shape};
 ghost use Rattle.cm_image_fields.specs.Cuts.{header_of};
 
-use crate::numbers::{push_u8, push_u32, take_u8, take_u32, take_u64};
+use crate::numbers::{push, take_u8, take_u32, take_u64};
 use cm_array::Sizes;
 use cm_bits::NoMemory;
 use cm_image_format::ImageFault;
@@ -20,7 +20,7 @@ use cm_message::Rule;
 const MAGIC: u32 = 0x434d_3149;
 
 /// What the header of an image tells beside its sizes.
-#[derive(Clone, Copy, Debug, PartialEq, Eq)]
+#[derive(Clone, Copy)]
 pub struct Header {
     pub version: u8,
     pub rule: Rule,
@@ -36,7 +36,7 @@ pub fn shape(bytes: &[u8]) -> Result<(u8, u8), ImageFault>
     ensures some_room { IfOk result (λ shape. 1 ≤ shape.1) }
     ensures most_room { IfOk result (λ shape. shape.1 ≤ 15) }
 {
-    let (_, rest) = take_magic(bytes)?;
+    let rest = take_magic(bytes)?;
     let (version, rest) = take_version(rest)?;
     let (dimension, rest) = take_u8(rest)?;
     if dimension > 12 {
@@ -62,7 +62,7 @@ pub fn take_header<S: Sizes>(
     ensures sizes { IsOk result → AreSizes S.n S.cap }
     ensures early { IfOk result (λ x. x.0.clock < 2 ^ 63) }
 {
-    let (_, rest) = take_magic(bytes)?;
+    let rest = take_magic(bytes)?;
     let (version, rest) = take_version(rest)?;
     let (dimension, rest) = take_u8(rest)?;
     if dimension > 12 || usize::from(dimension) != n {
@@ -85,15 +85,16 @@ pub fn take_header<S: Sizes>(
     Ok((header, rest))
 }
 
-fn take_magic(bytes: &[u8]) -> Result<(u32, &[u8]), ImageFault>
-    ensures value { Gives (λ x. (x.0, x.1.now)) result
+/// The bytes after the four with which each image begins.
+fn take_magic(bytes: &[u8]) -> Result<&[u8], ImageFault>
+    ensures value { Gives (λ rest. (MAGIC, rest.now)) result
         (checked_number w32 (must ImageFault.Magic (λ k. k == MAGIC)) bytes.now) }
 {
     let (magic, rest) = take_u32(bytes)?;
     if magic != MAGIC {
         return Err(ImageFault::Magic);
     }
-    Ok((magic, rest))
+    Ok(rest)
 }
 
 fn take_version(bytes: &[u8]) -> Result<(u8, &[u8]), ImageFault>
@@ -127,6 +128,7 @@ fn take_rule(version: u8, bytes: &[u8]) -> Result<(Rule, &[u8]), ImageFault>
 }
 
 /// Appends the header without the counter: magic, version, dimension, room, rule.
+#[tactic(auto, unfolding(cm_message::specs::Bytes::number_bytes, cm_image_format::specs::Header::head_text))]
 pub fn push_head(
     text: &mut Vec<u8>,
     version: u8,
@@ -142,10 +144,8 @@ pub fn push_head(
     ensures grows { OnOk result (length text.new.items ≤ length text.old.items + 8) }
     ensures full { OnErr result (vec_capacity text.old < length text.old.items + 8) }
 {
-    push_u32(text, MAGIC)?;
-    push_u8(text, version)?;
-    push_u8(text, n as u8)?;
-    push_u8(text, cap as u8)?;
-    push_u8(text, rule.number())?;
-    Ok(())
+    let [first, second, third, fourth] = MAGIC.to_be_bytes();
+    let (n, cap) = (n as u8, cap as u8);
+    let rule = rule.number();
+    push(text, &[first, second, third, fourth, version, n, cap, rule])
 }

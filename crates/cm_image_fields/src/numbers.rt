@@ -106,17 +106,6 @@ pub fn push_u16(text: &mut Vec<u8>, n: u16) -> Result<(), NoMemory>
     push(text, &n.to_be_bytes())
 }
 
-/// Appends a number of four bytes.
-#[tactic(auto, unfolding(cm_message::specs::Bytes::number_bytes))]
-pub(crate) fn push_u32(text: &mut Vec<u8>, n: u32) -> Result<(), NoMemory>
-    ensures ok { OnOk result (text.new.items ≡ text.old.items ++ number_bytes w32 n) }
-    ensures capacity { vec_capacity text.old ≤ vec_capacity text.new }
-    ensures grows { OnOk result (length text.new.items ≤ length text.old.items + 4) }
-    ensures full { OnErr result (vec_capacity text.old < length text.old.items + 4) }
-{
-    push(text, &n.to_be_bytes())
-}
-
 /// Appends a number of eight bytes.
 #[tactic(auto, unfolding(cm_message::specs::Bytes::number_bytes))]
 pub fn push_u64(text: &mut Vec<u8>, n: u64) -> Result<(), NoMemory>

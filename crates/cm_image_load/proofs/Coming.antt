@@ -9,26 +9,25 @@ use Rattle.std.specs.Prelude.{is_ok}
 use Rattle.std.specs.Int.{w8}
 use Rattle.cm_model.specs.declared.message.Message.{Message}
 use Rattle.cm_model.specs.Array.{Chips}
-use Rattle.cm_model.specs.Machine.{Machine, blank_machine}
+use Rattle.cm_model.specs.Machine.{Machine}
 use Rattle.cm_image_format.specs.declared.fault.ImageFault.{ImageFault}
 use Rattle.cm_image_format.specs.declared.fault.ImageFault.TheVariants as image
 use Rattle.cm_image_format.specs.declared.fault.ImageFault.TheVariants.{Count}
-use Rattle.cm_image_format.specs.Reading.{Read, must, number_at, made, fault_in}
+use Rattle.cm_image_format.specs.Reading.{Read, must, number_at, fault_in}
 use Rattle.cm_image_format.specs.Header.{Head, header_part}
 use Rattle.cm_image_format.specs.Cuts.{routing_part}
 use Rattle.cm_image_format.specs.Image.{Listed, flags_part, memory_part, message_part, messages_part, chip_part}
-use Rattle.cm_image_fields.specs.Cuts.{with_routing}
 use Rattle.cm_image_fields.proofs.Filling.{fill, counted_all}
 use Rattle.cm_image_load.specs.declared.pieces.SourceFault.{SourceFault}
 use Rattle.cm_image_load.specs.declared.pieces.SourceFault.TheVariants as source
-use Rattle.cm_image_load.specs.Chips.{with_chip_image, IsBlankFrom, chips_onto, IsReadTo}
+use Rattle.cm_image_load.specs.Chips.{with_chip_image, IsBlankFrom, chips_onto, IsBegun, IsReadTo}
 use Rattle.cm_image_load.specs.Pieces.{GivesAtMost, GivesRest, IsStopped, between}
 use Rattle.cm_image_load.specs.Taken.{IsTakenIn, AreTakenIn}
 use Rattle.cm_image_load.specs.WaitingChips.{with_waiting}
 use Rattle.cm_image_load.proofs.Going.{goes_on-made, chip_goes_on, header_goes_on, routing_goes_on, last_bytes}
 use Rattle.cm_image_load.proofs.Waiting.{nothing_waits}
 use Rattle.cm_image_load.proofs.Standing.{same_place, no_more}
-use Rattle.cm_image_load.proofs.Loading.{made_of, blank_on, chips_on, read_to_first, routed}
+use Rattle.cm_image_load.proofs.Loading.{made_of, blank_on, chips_on, read_to_first}
 
 -- ---- what a source gives
 
@@ -216,26 +215,22 @@ between_more from to count bytes written order within =
 
 -- ---- an image whose header and cut wires stand in the first bytes
 
-pub begun_on : (n cap : ℕ) (header : Head × ℕ) (front behind chips more : List ℕ) (first machine : Machine)
-    → header_part n cap front ≡ Ok (header, behind)
-    → first ≡ record (blank_machine n) { clock = header.1 }
-    → made (with_routing first) (routing_part n header.0) behind ≡ Ok (machine, chips)
-    → IsReadTo n cap header 0 machine (chips ++ more) (front ++ more)
-begun_on n cap header front behind chips more first machine is blank routes =
-    read_to_first n cap header (front ++ more) (chips ++ more) machine
-    (routed n cap header (front ++ more) (behind ++ more) (chips ++ more) first machine
-    ((header_goes_on n cap).on front more behind header is) blank
-    ((goes_on-made (with_routing first) (routing_part n header.0) (routing_goes_on n header.0)).on behind more chips
-    machine routes))
+pub begun_on : (n cap : ℕ) (header : Head × ℕ) (front chips more : List ℕ) (machine : Machine)
+    → IsBegun n cap header front chips machine → IsReadTo n cap header 0 machine (chips ++ more) (front ++ more)
+begun_on n cap header front chips more machine begun =
+    read_to_first n cap header (front ++ more) (chips ++ more) machine (record {
+      front = begun.front ++ more;
+      header_is = (header_goes_on n cap).on front more begun.front header begun.header_is;
+      routing_is = (routing_goes_on n header.0).on begun.front more chips machine.routing begun.routing_is;
+      blank = begun.blank;
+    })
 
-pub begun_few : (n cap most : ℕ) (header : Head × ℕ) (front behind chips : List ℕ) (first machine : Machine)
-    → header_part n cap front ≡ Ok (header, behind)
-    → made (with_routing first) (routing_part n header.0) behind ≡ Ok (machine, chips) → length front ≤ most
-    → length chips ≤ most
-begun_few n cap most header front behind chips first machine is routes few =
-    let one = last_bytes (header_part n cap) front behind header (header_goes_on n cap) is in
-    let two = last_bytes (made (with_routing first) (routing_part n header.0)) behind chips machine
-    (goes_on-made (with_routing first) (routing_part n header.0) (routing_goes_on n header.0)) routes in
+pub begun_few : (n cap most : ℕ) (header : Head × ℕ) (front chips : List ℕ) (machine : Machine)
+    → IsBegun n cap header front chips machine → length front ≤ most → length chips ≤ most
+begun_few n cap most header front chips machine begun few =
+    let one = last_bytes (header_part n cap) front begun.front header (header_goes_on n cap) begun.header_is in
+    let two = last_bytes (routing_part n header.0) begun.front chips machine.routing (routing_goes_on n header.0)
+    begun.routing_is in
     omega (arith, one.0, two.0, few)
 
 -- what is left of an image once chips were taken in of bytes as they came

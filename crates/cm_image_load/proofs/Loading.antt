@@ -3,11 +3,11 @@ use Rattle.std.proofs.Common.{◌≡◌, ℕ, zero, suc, ◌+◌, ◌-◌, ◌<�
 use Rattle.std.proofs.Common.{fold, set, Option, Some, None, Result, Ok, Err, IfOk, IfErr, length, refl, sym, ap, ◌∙◌, subst, arith}
 use Rattle.std.proofs.Common.{if◌then◌else◌}
 use Rattle.std.specs.List.{flat_map}
-use Rattle.std.proofs.lemmas.List.{nil_from_length, length_push}
+use Rattle.std.proofs.lemmas.List.{length_push}
 use Rattle.cm_model.specs.declared.message.Message.{Message}
 use Rattle.cm_model.specs.Processor.{Processor}
 use Rattle.cm_model.specs.Array.{Chips, nth_or_nil}
-use Rattle.cm_model.specs.Wiring.{Routing, plain_routing}
+use Rattle.cm_model.specs.Wiring.{Routing}
 use Rattle.cm_model.specs.Machine.{Machine, blank_machine}
 use Rattle.cm_model.specs.Unlogged.{standing_messages, has_tag_twice}
 use Rattle.cm_image_format.specs.declared.fault.ImageFault.{ImageFault}
@@ -24,7 +24,8 @@ use Rattle.cm_image_fields.specs.Memory.{with_listed}
 use Rattle.cm_image_fields.specs.Cuts.{with_routing}
 use Rattle.cm_image_fields.proofs.Filling.{fill, fill_on, fill_err, fill_done, fill_is, many_err}
 use Rattle.cm_image_load.specs.Chips.{with_flags, with_message, with_chip_image, IsBlankFrom, blank_at}
-use Rattle.cm_image_load.specs.Chips.{chips_part, machine_of_chips, put_chip, chips_onto, IsReadTo}
+use Rattle.cm_image_load.specs.Chips.{chips_part, machine_of_chips, put_chip, chips_onto, IsBegun, IsReadTo}
+use Rattle.cm_image_load.specs.Chips.{load_end, ended_with}
 use Rattle.cm_image_load.specs.WaitingChips.{with_waiting}
 use Rattle.cm_image_load.proofs.Building.{chip_built, blank_from-next, blank_from-blank_at, machine_built, messages_all}
 use Rattle.cm_image_load.proofs.Waiting.{nothing_waits}
@@ -250,39 +251,27 @@ pub routing_wrong : (n cap : ℕ) (header : Head × ℕ) (bytes after : List ℕ
 unfolding read_image image_part
 routing_wrong n cap header bytes after fault is wrong = rw (is, wrong) refl
 
--- header and routing are read, and the machine that was begun routes so
-pub record IsBegun (n cap : ℕ) (header : Head × ℕ) (bytes after : List ℕ) (machine : Machine) : Type 0 where
-  pub front : List ℕ
-  pub header_is : header_part n cap bytes ≡ Ok (header, front)
-  pub routing_is : routing_part n header.0 front ≡ Ok (machine.routing, after)
-
 -- begun with the blank machine at the counter of the header
 pub begun : (n cap : ℕ) (header : Head × ℕ) (bytes front after : List ℕ) (first machine : Machine)
-    → header_part n cap bytes ≡ Ok (header, front) → first ≡ blank_at n header.1 plain_routing
+    → header_part n cap bytes ≡ Ok (header, front) → first ≡ record (blank_machine n) { clock = header.1 }
     → made (with_routing first) (routing_part n header.0) front ≡ Ok (machine, after)
-    → IsBegun n cap header bytes after machine × (machine ≡ blank_at n header.1 machine.routing)
+    → IsBegun n cap header bytes after machine
+unfolding blank_machine
 begun n cap header bytes front after first machine is blank routes =
     let routing = made_of (with_routing first) (routing_part n header.0) front after machine routes in
-    let same : routing.0 ≡ machine.routing = ap (λ (m : Machine). m.routing) routing.2 in (
-      record {
-        front = front;
-        header_is = is;
-        routing_is = routing.1 ∙ ap (λ (r : Routing). Ok (r, after)) same;
-      },
-      sym routing.2 ∙ (λ i. with_routing (blank i) (same i)),
-    )
+    let same : routing.0 ≡ machine.routing = ap (λ (m : Machine). m.routing) routing.2 in
+    record {
+      front = front;
+      header_is = is;
+      routing_is = routing.1 ∙ ap (λ (r : Routing). Ok (r, after)) same;
+      blank = sym routing.2 ∙ (λ i. with_routing (blank i) (same i));
+    }
 
 pub chips_fault : (n cap : ℕ) (header : Head × ℕ) (bytes after : List ℕ) (machine : Machine) (fault : ImageFault)
     → IsBegun n cap header bytes after machine → chips_part n cap header.1 after ≡ Err fault
     → read_image n cap bytes ≡ Err fault
 unfolding read_image image_part
 chips_fault n cap header bytes after machine fault begun is = rw (begun.header_is, begun.routing_is, is) refl
-
--- what comes after the last chip, in words of the machine
-abbrev told : Bool → Machine → List ℕ → Result Machine ImageFault
-told true machine rest = Err TagTwice
-told false machine [] = Ok machine
-told false machine (byte ∷ bytes) = Err Extra
 
 flat_map-map : {X Y A : Type 0} (g : Y → List A) (f : X → Y) (xs : List X)
     → flat_map g (map f xs) ≡ flat_map (λ x. g (f x)) xs
@@ -295,68 +284,40 @@ messages_of-machine_of_image image =
     flat_map-map (λ (buffer : List Message). buffer) (λ (chip : ChipImage). chip.messages) image.chips
 
 ended_is : (image : Image) (rest : List ℕ)
-    → ended image rest ≡ told (has_tag_twice (messages_in image.chips)) (machine_of_image image) rest
+    → ended image rest ≡ load_end (has_tag_twice (messages_in image.chips)) (machine_of_image image) rest
 ended_is image [] = elim (has_tag_twice (messages_in image.chips)) as
     (λ (b : Bool). (if b then Err TagTwice else Ok (machine_of_image image))
-    ≡ told b (machine_of_image image) []) [ true ↦ refl | false ↦ refl ]
+    ≡ load_end b (machine_of_image image) []) [ true ↦ refl | false ↦ refl ]
 ended_is image (byte ∷ bytes) =
     elim (has_tag_twice (messages_in image.chips)) as
     (λ (b : Bool). (if b then Err TagTwice else Err Extra)
-    ≡ told b (machine_of_image image) (byte ∷ bytes)) [ true ↦ refl | false ↦ refl ]
+    ≡ load_end b (machine_of_image image) (byte ∷ bytes)) [ true ↦ refl | false ↦ refl ]
 
-image_told : (n cap : ℕ) (header : Head × ℕ) (bytes after rest : List ℕ) (first machine : Machine)
+image_ended : (n cap : ℕ) (header : Head × ℕ) (bytes after rest : List ℕ) (first machine : Machine)
     → IsBegun n cap header bytes after first
     → made (machine_of_chips header.1 first.routing) (chips_part n cap header.1) after ≡ Ok (machine, rest)
-    → read_image n cap bytes ≡ told (has_tag_twice (standing_messages machine)) machine rest
+    → read_image n cap bytes ≡ ended_with machine rest
 unfolding read_image image_part
-image_told n cap header bytes after rest first machine begun chips =
+image_ended n cap header bytes after rest first machine begun chips =
     let images = made_of (machine_of_chips header.1 first.routing) (chips_part n cap header.1) after rest machine chips in
     let image : Image = record { clock = header.1; routing = first.routing; chips = images.0 } in
     let twice : has_tag_twice (messages_in images.0) ≡ has_tag_twice (standing_messages machine) =
     ap has_tag_twice (sym (messages_of-machine_of_image image) ∙ ap standing_messages images.2) in
     rw (begun.header_is, begun.routing_is, images.1)
-    (ended_is image rest ∙ (λ i. told (twice i) (images.2 i) rest))
-
-pub loaded : (n cap : ℕ) (header : Head × ℕ) (bytes after rest : List ℕ) (first machine : Machine)
-    → IsBegun n cap header bytes after first
-    → made (machine_of_chips header.1 first.routing) (chips_part n cap header.1) after ≡ Ok (machine, rest)
-    → has_tag_twice (standing_messages machine) ≡ false → length rest ≡ 0 → read_image n cap bytes ≡ Ok machine
-loaded n cap header bytes after rest first machine begun chips once none =
-    image_told n cap header bytes after rest first machine begun chips
-    ∙ (λ i. told (once i) machine (nil_from_length rest none i))
-
-pub twice : (n cap : ℕ) (header : Head × ℕ) (bytes after rest : List ℕ) (first machine : Machine)
-    → IsBegun n cap header bytes after first
-    → made (machine_of_chips header.1 first.routing) (chips_part n cap header.1) after ≡ Ok (machine, rest)
-    → has_tag_twice (standing_messages machine) ≡ true → read_image n cap bytes ≡ Err TagTwice
-twice n cap header bytes after rest first machine begun chips two =
-    image_told n cap header bytes after rest first machine begun chips ∙ (λ i. told (two i) machine rest)
-
-told_extra : (machine : Machine) (rest : List ℕ) → (length rest ≡ 0 → ⊥) → told false machine rest ≡ Err Extra
-told_extra machine [] some = absurd (some refl)
-told_extra machine (byte ∷ bytes) some = refl
-
-pub extra : (n cap : ℕ) (header : Head × ℕ) (bytes after rest : List ℕ) (first machine : Machine)
-    → IsBegun n cap header bytes after first
-    → made (machine_of_chips header.1 first.routing) (chips_part n cap header.1) after ≡ Ok (machine, rest)
-    → has_tag_twice (standing_messages machine) ≡ false → (length rest ≡ 0 → ⊥) → read_image n cap bytes ≡ Err Extra
-extra n cap header bytes after rest first machine begun chips once some =
-    image_told n cap header bytes after rest first machine begun chips
-    ∙ ((λ i. told (once i) machine rest) ∙ told_extra machine rest some)
+    (ended_is image rest ∙ (λ i. load_end (twice i) (images.2 i) rest))
 
 -- ---- what is left of a whole image
 
 -- nothing was read of the chips
 pub read_to_first : (n cap : ℕ) (header : Head × ℕ) (whole chips : List ℕ) (machine : Machine)
-    → IsBegun n cap header whole chips machine × (machine ≡ blank_at n header.1 machine.routing)
-    → IsReadTo n cap header 0 machine chips whole
+    → IsBegun n cap header whole chips machine → IsReadTo n cap header 0 machine chips whole
 read_to_first n cap header whole chips machine begun = record {
-  front = begun.0.front;
+  front = begun.front;
   chips = chips;
   routing = machine.routing;
-  header_is = begun.0.header_is;
-  routing_is = begun.0.routing_is;
-  same = ap (λ (m : Machine). chips_onto n cap header.1 0 m chips) begun.1;
+  header_is = begun.header_is;
+  routing_is = begun.routing_is;
+  same = ap (λ (m : Machine). chips_onto n cap header.1 0 m chips) begun.blank;
 }
 
 is_begun : (n cap : ℕ) (header : Head × ℕ) (c : ℕ) (m : Machine) (rest whole : List ℕ)
@@ -366,9 +327,10 @@ is_begun n cap header c m rest whole to = record {
   front = to.front;
   header_is = to.header_is;
   routing_is = to.routing_is;
+  blank = refl;
 }
 
--- a fault in the chips still to be read is the fault of the whole image (for `finish`)
+-- a fault in the chips still to be read is the fault of the whole image (for `Loading::finish`)
 pub left_wrong : (n cap : ℕ) (header : Head × ℕ) (c : ℕ) (m : Machine) (rest whole : List ℕ) (fault : ImageFault)
     → IsReadTo n cap header c m rest whole → chips_onto n cap header.1 c m rest ≡ Err fault
     → read_image n cap whole ≡ Err fault
@@ -377,38 +339,14 @@ left_wrong n cap header c m rest whole fault to is =
     (is_begun n cap header c m rest whole to)
     (all_wrong n cap header.1 (blank_at n header.1 to.routing) to.chips fault (sym to.same ∙ is))
 
-pub left_loaded : (n cap : ℕ) (header : Head × ℕ) (c k : ℕ) (m machine : Machine) (rest after whole : List ℕ)
+-- once all chips are read, tags and the end are left to be judged
+pub left_ended : (n cap : ℕ) (header : Head × ℕ) (c k : ℕ) (m machine : Machine) (rest after whole : List ℕ)
     → IsReadTo n cap header c m rest whole → chips_onto n cap header.1 c m rest ≡ Ok ((machine, k), after)
-    → has_tag_twice (standing_messages machine) ≡ false → length after ≡ 0 → read_image n cap whole ≡ Ok machine
-left_loaded n cap header c k m machine rest after whole to is once none =
-    loaded n cap header whole to.chips after (blank_at n header.1 to.routing) machine
+    → read_image n cap whole ≡ ended_with machine after
+left_ended n cap header c k m machine rest after whole to is =
+    image_ended n cap header whole to.chips after (blank_at n header.1 to.routing) machine
     (is_begun n cap header c m rest whole to)
-    (all_read n cap header.1 k to.routing machine to.chips after (sym to.same ∙ is)) once none
-
-pub left_twice : (n cap : ℕ) (header : Head × ℕ) (c k : ℕ) (m machine : Machine) (rest after whole : List ℕ)
-    → IsReadTo n cap header c m rest whole → chips_onto n cap header.1 c m rest ≡ Ok ((machine, k), after)
-    → has_tag_twice (standing_messages machine) ≡ true → read_image n cap whole ≡ Err TagTwice
-left_twice n cap header c k m machine rest after whole to is two =
-    twice n cap header whole to.chips after (blank_at n header.1 to.routing) machine
-    (is_begun n cap header c m rest whole to)
-    (all_read n cap header.1 k to.routing machine to.chips after (sym to.same ∙ is)) two
-
-pub left_extra : (n cap : ℕ) (header : Head × ℕ) (c k : ℕ) (m machine : Machine) (rest after whole : List ℕ)
-    → IsReadTo n cap header c m rest whole → chips_onto n cap header.1 c m rest ≡ Ok ((machine, k), after)
-    → has_tag_twice (standing_messages machine) ≡ false → (length after ≡ 0 → ⊥) → read_image n cap whole ≡ Err Extra
-left_extra n cap header c k m machine rest after whole to is once some =
-    extra n cap header whole to.chips after (blank_at n header.1 to.routing) machine
-    (is_begun n cap header c m rest whole to)
-    (all_read n cap header.1 k to.routing machine to.chips after (sym to.same ∙ is)) once some
-
--- the machine that was begun routes as the image tells
-pub routed : (n cap : ℕ) (header : Head × ℕ) (bytes behind chips : List ℕ) (first machine : Machine)
-    → header_part n cap bytes ≡ Ok (header, behind) → first ≡ record (blank_machine n) { clock = header.1 }
-    → made (with_routing first) (routing_part n header.0) behind ≡ Ok (machine, chips)
-    → IsBegun n cap header bytes chips machine × (machine ≡ blank_at n header.1 machine.routing)
-unfolding blank_machine
-routed n cap header bytes behind chips first machine is blank routes =
-    begun n cap header bytes behind chips first machine is blank routes
+    (all_read n cap header.1 k to.routing machine to.chips after (sym to.same ∙ is))
 
 -- nothing waits yet, and every chip is blank
 pub nothing : (n clock : ℕ) (machine : Machine) (waiting : Chips) → waiting ≡ []
@@ -419,12 +357,10 @@ nothing n clock machine waiting none blank =
     (blank_from-blank_at n clock machine.routing)
 
 -- the whole of an image, of which nothing was put in
-pub of_whole : (n cap : ℕ) (header : Head × ℕ) (bytes behind chips : List ℕ) (first machine : Machine) (waiting : Chips)
-    → header_part n cap bytes ≡ Ok (header, behind) → first ≡ record (blank_machine n) { clock = header.1 }
-    → made (with_routing first) (routing_part n header.0) behind ≡ Ok (machine, chips) → waiting ≡ []
+pub of_whole : (n cap : ℕ) (header : Head × ℕ) (bytes chips : List ℕ) (machine : Machine) (waiting : Chips)
+    → IsBegun n cap header bytes chips machine → waiting ≡ []
     → IsReadTo n cap header 0 (with_waiting 0 machine waiting) chips bytes
-of_whole n cap header bytes behind chips first machine waiting is blank routes none =
+of_whole n cap header bytes chips machine waiting begun none =
     subst (λ (m : Machine). IsReadTo n cap header 0 m chips bytes)
     (sym (nothing_waits 0 machine) ∙ ap (λ (w : Chips). with_waiting 0 machine w) (sym none))
-    (read_to_first n cap header bytes chips machine
-    (routed n cap header bytes behind chips first machine is blank routes))
+    (read_to_first n cap header bytes chips machine begun)

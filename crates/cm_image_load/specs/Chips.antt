@@ -1,12 +1,16 @@
 -- What an image has of chips, put into a machine: ours.
-use Rattle.std.specs.Prelude.{◌≡◌, ℕ, ◌+◌, ◌-◌, ◌≤◌, ◌<◌, ◌^◌, List, [], Ok, fold, length, slice_set, replicate}
+use Rattle.std.specs.Prelude.{◌≡◌, ℕ, ◌+◌, ◌-◌, ◌≤◌, ◌<◌, ◌^◌, Bool, true, false, List, [], ◌∷◌, Result, Ok, Err}
+use Rattle.std.specs.Prelude.{fold, length, slice_set, replicate}
 use Rattle.cm_model.specs.declared.message.Message.{Message}
 use Rattle.cm_model.specs.Chip.{blank_chip}
 use Rattle.cm_model.specs.Array.{chip_at, nth_or_nil}
 use Rattle.cm_model.specs.Wiring.{Routing}
 use Rattle.cm_model.specs.Machine.{Machine, blank_machine}
+use Rattle.cm_model.specs.Unlogged.{standing_messages, has_tag_twice}
 use Rattle.cm_element.specs.Planes.{chip_of}
 use Rattle.cm_array.specs.Pokes.{machine_with_message}
+use Rattle.cm_image_format.specs.declared.fault.ImageFault.{ImageFault}
+use Rattle.cm_image_format.specs.declared.fault.ImageFault.TheVariants.{TagTwice, Extra}
 use Rattle.cm_image_format.specs.Reading.{Read, made, many}
 use Rattle.cm_image_format.specs.Header.{Head, header_part}
 use Rattle.cm_image_format.specs.Cuts.{routing_part}
@@ -64,6 +68,13 @@ abbrev pub chips_onto : ℕ → ℕ → ℕ → ℕ → Machine → List ℕ →
 chips_onto n cap clock c machine = made (λ chips. fold put_chip (machine, c) chips)
     (many (λ i chip. i) (λ i. chip_part n cap clock) (2 ^ n - c) 0)
 
+-- of bytes the header and the cut wires are read, and others come after them; the machine has no more than these yet
+pub record IsBegun (n cap : ℕ) (header : Head × ℕ) (bytes after : List ℕ) (machine : Machine) : Type 0 where
+  pub front : List ℕ
+  pub header_is : header_part n cap bytes ≡ Ok (header, front)
+  pub routing_is : routing_part n header.0 front ≡ Ok (machine.routing, after)
+  pub blank : machine ≡ blank_at n header.1 machine.routing
+
 -- of a whole image with this header the rest begins with this chip, and the machine has what stands before
 pub record IsReadTo (n cap : ℕ) (header : Head × ℕ) (c : ℕ) (machine : Machine) (rest whole : List ℕ) : Type 0 where
   pub front : List ℕ
@@ -73,3 +84,13 @@ pub record IsReadTo (n cap : ℕ) (header : Head × ℕ) (c : ℕ) (machine : Ma
   pub routing_is : routing_part n header.0 front ≡ Ok (routing, chips)
   pub same : chips_onto n cap header.1 c machine rest
       ≡ chips_onto n cap header.1 0 (blank_at n header.1 routing) chips
+
+-- a machine whose messages have a tag twice or not, and these bytes are left behind the last chip of its image
+abbrev pub load_end : Bool → Machine → List ℕ → Result Machine ImageFault
+load_end true machine rest = Err TagTwice
+load_end false machine [] = Ok machine
+load_end false machine (byte ∷ bytes) = Err Extra
+
+-- what an image is read as, of whose chips this machine was built, and behind whose last chip these bytes are left
+abbrev pub ended_with : Machine → List ℕ → Result Machine ImageFault
+ended_with machine rest = load_end (has_tag_twice (standing_messages machine)) machine rest

@@ -12,14 +12,15 @@ use cm_image_fields::{take_chip_number, take_u8, take_u32, take_u64};
 use cm_image_format::ImageFault;
 use cm_message::{Message, Tag};
 
-fn take_processor(bytes: &[u8]) -> Result<(u8, &[u8]), ImageFault>
+/// The number of a processor, and the bytes after it.
+fn take_processor(bytes: &[u8]) -> Result<(Proc, &[u8]), ImageFault>
     ensures value { Gives (λ x. (x.0, x.1.now)) result (processor_part bytes.now) }
 {
-    let (proc, rest) = take_u8(bytes)?;
-    if proc >= 16 {
-        return Err(ImageFault::Value);
+    let (number, rest) = take_u8(bytes)?;
+    match Proc::new(number) {
+        Some(proc) => Ok((proc, rest)),
+        None => Err(ImageFault::Value),
     }
-    Ok((proc, rest))
 }
 
 /// A message of a cube of so many chips, born before this count of petit cycles.
@@ -35,17 +36,21 @@ fn take_message<S: Sizes>(
     ensures born { IfOk result (λ x. x.0.tag.birth < clock) }
 {
     let (rel, rest) = take_chip_number::<S>(chips, bytes)?;
-    let (proc, rest) = take_processor(rest)?;
+    // No `?`: the prover does not cover it for a value that has a number of a processor beside a reference.
+    let (proc, rest) = match take_processor(rest) {
+        Ok(read) => read,
+        Err(fault) => return Err(fault),
+    };
     let (payload, rest) = take_u32(rest)?;
     let (chip, rest) = take_chip_number::<S>(chips, rest)?;
-    let (origin, rest) = take_processor(rest)?;
+    let (origin, rest) = match take_processor(rest) {
+        Ok(read) => read,
+        Err(fault) => return Err(fault),
+    };
     let (birth, rest) = take_u64(rest)?;
     if birth >= clock {
         return Err(ImageFault::Value);
     }
-    let (Some(proc), Some(origin)) = (Proc::new(proc), Proc::new(origin)) else {
-        return Err(ImageFault::Value);
-    };
     Ok((
         Message {
             rel,

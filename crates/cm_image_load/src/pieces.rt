@@ -43,7 +43,7 @@ pub enum SourceFault {
 /// Bytes that were read of a source, and are not used up.
 ///
 /// Contracts see these bytes.
-#[derive(Debug, Drop)]
+#[derive(Drop)]
 pub(crate) struct Window {
     bytes: Vec<u8>,
     from: usize,

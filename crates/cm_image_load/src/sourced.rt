@@ -9,12 +9,11 @@ ghost use Rattle.cm_image_load.specs.Pieces.{GivesRest, IsStopped, ShapesGoOn};
 ghost use Rattle.cm_image_load.specs.WaitingChips.{with_waiting};
 
 use crate::chips::take_sound_chips;
-use crate::loads::{finish, load_of};
+use crate::loads::{Loading, load_of};
 use crate::pieces::{NARROW, SourceFault, WIDE, Window, take_rest};
-use crate::waiting_chips::{WaitingChips, lists_all, lists_some};
-use cm_array::{BuilderOf, MachineOf, Sizes};
+use crate::waiting_chips::{lists_all, lists_some};
+use cm_array::{MachineOf, Sizes};
 use cm_bits::Source;
-use cm_image_fields::{Header, take_header, take_routing};
 use cm_image_format::ImageFault;
 use std::alloc::Global;
 
@@ -39,24 +38,9 @@ pub fn load_source<S: Sizes, I: Source>(
         (λ fault more. read_image S.n S.cap (front.now ++ more) ≡ Err fault)) }
     ensures read { (I.has_failed source.new ≡ true) ↔ IsErrOf result SourceFault.Read }
 {
-    let Ok((header, behind)) = take_header::<S>(n, cap, front) else {
-        return load_held(alloc, n, cap, front, source, most);
-    };
-    let Ok(mut builder) = BuilderOf::start_of(alloc, n, cap, header.clock) else {
-        return Err(SourceFault::Image(ImageFault::Memory));
-    };
-    let Ok(waiting) = WaitingChips::new(alloc) else {
-        return Err(SourceFault::Image(ImageFault::Memory));
-    };
-    match take_routing(&mut builder, header, behind) {
-        Ok(chips) => {
-            let loading = Loading {
-                builder,
-                waiting,
-                header,
-            };
-            loading.load_chips(alloc, chips, source, most)
-        }
+    match Loading::begin(alloc, n, cap, front) {
+        Ok((loading, chips)) => loading.load_chips(alloc, chips, source, most),
+        Err(ImageFault::Memory) => Err(SourceFault::Image(ImageFault::Memory)),
         Err(_) => load_held(alloc, n, cap, front, source, most),
     }
 }
@@ -86,14 +70,6 @@ fn load_held<S: Sizes, I: Source>(
     }
 }
 
-/// A machine that is read of an image: what was put into it, the chips that wait, and how the image began.
-#[derive(Drop)]
-struct Loading<S: Sizes> {
-    builder: BuilderOf<S>,
-    waiting: WaitingChips,
-    header: Header,
-}
-
 impl<S: Sizes> Loading<S> {
     /// The machine of an image of which no chip was put in yet.
     fn load_chips<I: Source>(
@@ -120,12 +96,7 @@ impl<S: Sizes> Loading<S> {
         ensures read { (I.has_failed source.new ≡ true) ↔ IsErrOf result SourceFault.Read }
     {
         let (next, bytes) = self.take_pieces(alloc, chips, source, most)?;
-        let Loading {
-            builder,
-            waiting,
-            header,
-        } = self;
-        match finish(builder, waiting, next, header, &bytes) {
+        match self.finish(next, &bytes) {
             Ok(machine) => Ok(machine),
             Err(fault) => Err(SourceFault::Image(fault)),
         }

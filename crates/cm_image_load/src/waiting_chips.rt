@@ -27,7 +27,7 @@ pub(crate) const FULL_MEMORY_LEN: usize = 16386;
 /// Chips whose memory planes are all listed, which wait for their places in a machine.
 ///
 /// Contracts see the list of the chips.
-#[derive(Debug, Drop)]
+#[derive(Drop)]
 pub(crate) struct WaitingChips {
     memory: Vec<Plane>,
     flags: Vec<Plane>,

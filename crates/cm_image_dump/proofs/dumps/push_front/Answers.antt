@@ -1,11 +1,11 @@
 use Rattle.std.proofs.Common.{◌≡◌, ◌≤◌, ◌∙◌, ◌++◌, ℕ, List, length, ap, append_assoc, arith}
-use Rattle.std.specs.Prelude.{Result, Ok, Err, OnErr}
 use Rattle.std.specs.Int.{w64}
 use Rattle.cm_model.specs.Wiring.{Routing, rule_number}
 use Rattle.cm_message.specs.Bytes.{number_bytes}
 use Rattle.cm_image_format.specs.Header.{head_text}
 use Rattle.cm_image_format.specs.Cuts.{cuts_text, version_of, head_of, routing_text}
 use Rattle.cm_image_dump.proofs.Dumping.{grown}
+use Rattle.cm_image_dump.proofs.Leaving.{on_ok, on_error}
 use Rattle.cm_image_dump.proofs.Routed.{few_routed, few_listed, version_told}
 use Rattle.cm_image_dump.proofs.dumps.push_front.Goals as goal
 
@@ -53,12 +53,12 @@ returns-clause-ok g c =
     first
     (c.in_ok-push_u64.ensures.ok
     ∙ ap (λ (k : ℕ). c.push_head.new.text.items ++ number_bytes w64 k) c.clock-cycles.ensures.value) in
-    let third : c.push_cuts.new.text.items ≡ c.push_u64.new.text.items ++ routing_text routing =
-    c.in_ok-push_cuts.ensures.ok ∙ (λ i. c.push_u64.new.text.items ++ cuts_text (version i) (same i)) in
-    grown text (head ++ number_bytes w64 c.args.machine.now.machine.clock) (routing_text routing)
-    c.push_u64.new.text.items c.push_cuts.new.text.items second third
+    on_ok c.push_cuts.result c.push_cuts.ensures.ok
+    (λ wires. grown text (head ++ number_bytes w64 c.args.machine.now.machine.clock) (routing_text routing)
+    c.push_u64.new.text.items c.push_cuts.new.text.items second
+    (wires ∙ (λ i. c.push_u64.new.text.items ++ cuts_text (version i) (same i)))
     ∙ ap (λ (xs : List ℕ). text ++ xs)
-    (append_assoc head (number_bytes w64 c.args.machine.now.machine.clock) (routing_text routing))
+    (append_assoc head (number_bytes w64 c.args.machine.now.machine.clock) (routing_text routing)))
 
 pub returns-clause-grows : goal.returns-clause-grows
 returns-clause-grows g c =
@@ -67,33 +67,23 @@ returns-clause-grows g c =
     let few : length c.edges-cuts.result.now ≤ 24576 =
     few_listed g.S.Sizes.n c.args.machine.now.machine.routing c.edges-cuts.result.now
     c.clock-cycles.ensures.sizes.dimension c.cuts_are_few.ensures c.clock-cycles.ensures.whole.routing same in
-    omega (
-      arith,
-      few,
-      c.in_ok-push_head.ensures.grows,
-      c.in_ok-push_u64.ensures.grows,
-      c.in_ok-push_cuts.ensures.grows,
-    )
+    on_ok c.push_cuts.result c.push_cuts.ensures.grows
+    (λ grows. omega (arith, few, c.in_ok-push_head.ensures.grows, c.in_ok-push_u64.ensures.grows, grows))
 
-on_any : {T E P : Type 0} (result : Result T E) → P → OnErr result P
-on_any (Ok x) p = tt
-on_any (Err e) p = p
-
-pub returns-in_err-push_cuts-clause-full : goal.returns-in_err-push_cuts-clause-full
-returns-in_err-push_cuts-clause-full g c =
+pub returns-clause-full : goal.returns-clause-full
+returns-clause-full g c =
     let same : c.edges-cuts.result.now ≡ c.args.machine.now.machine.routing.cuts =
     c.edges-cuts.ensures.value ∙ ap (λ (r : Routing). r.cuts) c.routing-routing.ensures.value in
     let few : length c.edges-cuts.result.now ≤ 24576 =
     few_listed g.S.Sizes.n c.args.machine.now.machine.routing c.edges-cuts.result.now
     c.clock-cycles.ensures.sizes.dimension c.cuts_are_few.ensures c.clock-cycles.ensures.whole.routing same in
-    on_any c.from_residual-in_err-push_cuts.result
-    (omega (
+    on_error c.push_cuts.result c.push_cuts.ensures.full
+    (λ full. omega (
       arith,
       few,
       c.push_head.ensures.capacity,
       c.push_u64.ensures.capacity,
-      c.push_cuts.ensures.capacity,
       c.in_ok-push_head.ensures.grows,
       c.in_ok-push_u64.ensures.grows,
-      c.in_err-push_cuts.ensures.full,
+      full,
     ))

@@ -6,7 +6,7 @@ use Rattle.cm_image_fields.specs.Cuts.{header_of}
 use Rattle.cm_image_load.specs.Chips.{IsReadTo}
 use Rattle.cm_image_load.specs.WaitingChips.{with_waiting}
 use Rattle.cm_image_load.proofs.Coming.{first_blank, first_to, rest_so, rest_after, stopped_after, gives_none, wants_memory, left_of}
-use Rattle.cm_image_load.proofs.sourced.Loading.take_pieces.Goals as goal
+use Rattle.cm_image_load.proofs.loads.Loading.take_pieces.Goals as goal
 
 pub returns-in_err-all-clause-refused : goal.returns-in_err-all-clause-refused
 returns-in_err-all-clause-refused g c =

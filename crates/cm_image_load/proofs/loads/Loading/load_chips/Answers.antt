@@ -7,7 +7,7 @@ use Rattle.cm_image_fields.specs.Cuts.{header_of}
 use Rattle.cm_image_load.specs.Chips.{IsReadTo}
 use Rattle.cm_image_load.specs.WaitingChips.{with_waiting}
 use Rattle.cm_image_load.proofs.Coming.{rest_so, stopped_so, gives_at_most}
-use Rattle.cm_image_load.proofs.sourced.Loading.load_chips.Goals as goal
+use Rattle.cm_image_load.proofs.loads.Loading.load_chips.Goals as goal
 
 pub returns-in_err-next-clause-refused : goal.returns-in_err-next-clause-refused
 returns-in_err-next-clause-refused g c =
