@@ -1,5 +1,6 @@
 mod Numbered
 mod Opening
+mod Matching
 mod Fitting
 mod Rows
 mod Ending

@@ -35,10 +35,28 @@ pub record IsWorkerParts (run : Run) (b : ℕ) (one : WorkerParts) : Type 0 wher
   pub sends_are : HasEnds run own b one.sends.items
   pub gets_are : HasEnds run givers b one.gets.items
 
+-- the first b blocks of a run stand among the parts of workers; the others, and their ends by place, do not yet
+pub record AreMatched (run : Run) (b : ℕ) (blocks : List BlockView) (sends gets : List (Vec (Course Parcel) Global))
+    (worker_parts : List WorkerParts) : Type 0 where
+  pub blocks_left : AreFrom (IsRunBlock run) b (2 ^ run.k) blocks
+  pub sends_left : AreByPlace run own b (ends_each run.k) sends
+  pub gets_left : AreByPlace run givers b (ends_each run.k) gets
+  pub made : AreAll (IsWorkerParts run) b worker_parts
+
+-- so it is of some run
+pub record AreMatchedForSome (b : ℕ) (blocks : List BlockView) (sends gets : List (Vec (Course Parcel) Global))
+    (worker_parts : List WorkerParts) : Type 0 where
+  pub run : Run
+  pub of : AreMatched run b blocks sends gets worker_parts
+
 -- worker w of so many has the parts of each of its blocks
 pub record HasWorkerParts (run : Run) (count w : ℕ) (worker_parts : List WorkerParts) : Type 0 where
   pub share : (i : ℕ) → (i < length worker_parts) ↔ (block_number count w i < 2 ^ run.k)
   pub each : (i : ℕ) (d : WorkerParts) → i < length worker_parts → IsWorkerParts run (block_number count w i) (get_or worker_parts i d)
+
+-- the parts of the blocks of so many workers, those of each in a hand, from one worker on
+abbrev pub AreDealtFrom : Run → ℕ → ℕ → List (Vec WorkerParts Global) → Type 0
+AreDealtFrom run count from hands = AreFrom (λ w hand. HasWorkerParts run count w hand.items) from count hands
 
 -- all workers of a team for a run, in order of their numbers
 pub record IsTeam (run : Run) (count : ℕ) (team : List Worker) : Type 0 where

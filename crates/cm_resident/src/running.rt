@@ -278,8 +278,7 @@ fn start_and_join<'s, E, R: Threads + Wait + Sync>(
     let started = start_team(scope, rt, passage, readies, &mut starters, &mut handles);
     join_all(rt, handles, &mut left);
     started?;
-    let there = all_there(left, shares)?;
-    Ok(there)
+    all_there(left, shares)
 }
 
 /// A team works, each worker in a thread of its own; what each leaves, by its number. Fails where a thread was not

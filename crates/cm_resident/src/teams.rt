@@ -3,9 +3,9 @@
 ghost use Rattle.std.specs.Prelude.{◌≡◌, ℕ, ◌-◌, ◌/◌, ◌<◌, ◌≤◌, ◌^◌, IfOk, IsFalse, length, get_or};
 ghost use Rattle.cm_array.specs.Acts.{is_late, is_long};
 ghost use Rattle.cm_turns.specs.Lanes.{Run, rounds_in};
-ghost use Rattle.cm_resident.specs.SharedLists.{IsListFor};
+ghost use Rattle.cm_resident.specs.SharedLists.{IsListFor, IsRunOfList};
 ghost use Rattle.cm_turns.specs.Workers.{IsOfTeam};
-ghost use Rattle.cm_resident.specs.Teams.{HasWorkerParts};
+ghost use Rattle.cm_resident.specs.Teams.{AreDealtFrom, HasWorkerParts, IsTeam};
 
 use crate::shared_list::SharedList;
 use crate::worker_parts::{WorkerParts, worker_parts};
@@ -109,12 +109,25 @@ pub(crate) fn team_in<S: Sizes>(
 {
     let worker_parts = worker_parts(alloc, machine, list.acts, list.k, list.cycles, used)?;
     let mut hands = deal(alloc, worker_parts, usize::from(list.workers))?;
+    workers_of(alloc, list, &mut hands)
+}
+
+/// Takes out the hands of the workers of a list, and makes the workers.
+fn workers_of(
+    alloc: Global,
+    list: &SharedList<'_>,
+    hands: &mut Vec<Vec<WorkerParts>>,
+) -> Result<Vec<Worker>, NoMemory>
+    requires count { length hands.old.items ≡ list.now.workers }
+    ensures value { IfOk result (λ team. (run : Run) → IsRunOfList run list.now
+        → AreDealtFrom run list.now.workers 0 hands.old.items → IsTeam run list.now.workers team.items) }
+{
     let mut team = Vec::with_capacity(alloc, usize::from(list.workers))?;
     for w in 0..list.workers {
-        let own = hands.remove(0);
-        let own_acts = copied(alloc, list.acts)?;
-        let own_rounds = copied(alloc, list.rounds)?;
-        team.push_reserved(worker_of(alloc, w, list.k, own, own_acts, own_rounds)?);
+        let acts = copied(alloc, list.acts)?;
+        let rounds = copied(alloc, list.rounds)?;
+        let worker = worker_of(alloc, w, list.k, hands.remove(0), acts, rounds)?;
+        team.push_reserved(worker);
     }
     Ok(team)
 }

@@ -1,13 +1,13 @@
 //! What the workers of a team get for each block of a machine.
 
-ghost use Rattle.std.specs.Prelude.{◌≡◌, ℕ, ◌+◌, ◌-◌, ◌/◌, ◌<◌, ◌≤◌, ◌^◌, IfOk, List, length};
+ghost use Rattle.std.specs.Prelude.{◌≡◌, ℕ, ◌+◌, ◌-◌, ◌/◌, ◌<◌, ◌≤◌, ◌^◌, IfOk, List, [], length};
 ghost use Rattle.cm_model.specs.declared.act.Act.{Act};
 ghost use Rattle.cm_array.specs.Acts.{cycles_in};
 ghost use Rattle.cm_subcube.specs.Rounds.{rounds_of};
 ghost use Rattle.cm_turns.specs.Lanes.{Run};
 ghost use Rattle.cm_turns.specs.Standing.{IsRunBlock};
 ghost use Rattle.cm_resident.specs.Gathering.{AreAll, AreFrom};
-ghost use Rattle.cm_resident.specs.Teams.{IsWorkerParts};
+ghost use Rattle.cm_resident.specs.Teams.{AreMatched, AreMatchedForSome, IsWorkerParts};
 
 use crate::gathering::take_firsts;
 use crate::lanes::{Ends, open_all};
@@ -45,18 +45,30 @@ pub(crate) fn worker_parts<S: Sizes>(
         (2 ^ k) worker_parts.items) }
 {
     let mut blocks = partition(alloc, machine, k, cycles, used)?;
-    let Ends {
-        mut sends,
-        mut gets,
-    } = open_all(alloc, machine, acts, k)?;
+    let mut ends = open_all(alloc, machine, acts, k)?;
+    with_ends(alloc, &mut blocks, &mut ends)
+}
+
+/// Takes out blocks, and with each the ends of its lanes.
+fn with_ends(
+    alloc: Global,
+    blocks: &mut Vec<Block>,
+    ends: &mut Ends,
+) -> Result<Vec<WorkerParts>, NoMemory>
+    requires some { AreMatchedForSome 0 blocks.old.items ends.old.sends.items ends.old.gets.items [] }
+    ensures value { IfOk result (λ worker_parts. (run : Run)
+        → AreMatched run 0 blocks.old.items ends.old.sends.items ends.old.gets.items []
+        → AreAll (IsWorkerParts run) (2 ^ run.k) worker_parts.items) }
+{
     let count = blocks.len();
     let mut worker_parts = Vec::with_capacity(alloc, count)?;
     for _b in 0..count {
-        let block = blocks.remove(0);
+        let sends = take_firsts(alloc, &mut ends.sends)?;
+        let gets = take_firsts(alloc, &mut ends.gets)?;
         worker_parts.push_reserved(WorkerParts {
-            block,
-            sends: take_firsts(alloc, &mut sends)?,
-            gets: take_firsts(alloc, &mut gets)?,
+            block: blocks.remove(0),
+            sends,
+            gets,
         });
     }
     Ok(worker_parts)
