@@ -1,7 +1,5 @@
 -- What a line asks for, and what is wanting where it is not answered. Ours.
-use Rattle.std.specs.Prelude.{◌≡◌, ℕ, ◌<◌, Bool, true, false, Option, Some, None, Result, Ok, Err, List, length}
-use Rattle.std.specs.Prelude.{slice_index}
-use Rattle.cm_bits.specs.Text.{is_line_end}
+use Rattle.std.specs.Prelude.{Bool, true, false, Option, Some, None, Result, Ok, Err}
 use Rattle.cm_session.specs.declared.command.Command.{Command}
 use Rattle.cm_session.specs.declared.command.Command.TheVariants as command
 use Rattle.cm_session.specs.declared.command.Refusal.{Refusal}
